@@ -1,0 +1,5 @@
+pub mod Tree
+pub mod Infer
+pub mod Pairs
+pub mod Lines
+pub mod Json

@@ -1,0 +1,13 @@
+-- A text as lines.
+use Rattle.std.specs.Prelude.{ℕ, ◌==◌, List, [], ◌∷◌}
+use Rattle.std.specs.List.{slice_split}
+
+-- the parts but for an empty last one
+abbrev pub without_empty_end : List (List ℕ) → List (List ℕ)
+without_empty_end [] = []
+without_empty_end ([] ∷ []) = []
+without_empty_end (part ∷ parts) = part ∷ without_empty_end parts
+
+-- the lines of a text, each without the LF that ends it; a last line without its LF is a line
+abbrev pub lines_of : List ℕ → List (List ℕ)
+lines_of text = without_empty_end (slice_split (λ b. b == 10) text)
