@@ -15,9 +15,9 @@ module _ {V : Type 0} where
   -- the value at a key
   abbrev pub value_at : List ℕ → List (List ℕ × V) → Option V
   value_at key [] = None
-  value_at key (pair ∷ pairs) = if bytes_eq key pair.0 then Some pair.1 else value_at key pairs
+  value_at key (pair ∷ pairs) = if bytes_eq pair.0 key then Some pair.1 else value_at key pairs
 
   -- the pairs with this value at the key: in its place if it is there, else last
   abbrev pub put_at : List ℕ → V → List (List ℕ × V) → List (List ℕ × V)
   put_at key value [] = (key, value) ∷ []
-  put_at key value (pair ∷ pairs) = if bytes_eq key pair.0 then (pair.0, value) ∷ pairs else pair ∷ put_at key value pairs
+  put_at key value (pair ∷ pairs) = if bytes_eq pair.0 key then (pair.0, value) ∷ pairs else pair ∷ put_at key value pairs

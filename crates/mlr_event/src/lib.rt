@@ -1,0 +1,9 @@
+//! What flows through a run: the names of inputs and outputs, the context of a record, and the events that a
+//! reader makes, that verbs pass on and that the outlet writes.
+#![tactic(auto)]
+
+mod event;
+mod names;
+
+pub use event::{Body, Ctx, Event, Piece};
+pub use names::{FileRef, InputName, Mode, StyleId, Target};

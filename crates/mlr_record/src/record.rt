@@ -1,0 +1,105 @@
+ghost use Rattle.std.specs.Prelude.{◌≡◌, true, [], length, if◌then◌else◌, is_ok, IfOk, slice_get};
+ghost use Rattle.std.specs.Option.{option_map};
+ghost use Rattle.mlr_spec.specs.Pairs.{value_at, put_at, keys_of, are_distinct};
+ghost use Rattle.mlr_value.specs.Value.{tree_of};
+ghost use Rattle.mlr_record.specs.Fields.{IsPlaceOf};
+
+use mlr_spec::NoMemory;
+use mlr_value::{Bytes, Value};
+use std::alloc::Global;
+use std::marker::Model;
+
+/// A name and its value.
+#[derive(Drop)]
+pub struct Field {
+    name: Bytes,
+    value: Value,
+}
+
+/// A record: fields in order, no two of one name. A search goes over the fields, since records are short.
+#[derive(Drop)]
+pub struct Record {
+    alloc: Global,
+    fields: Vec<Field>,
+}
+
+impl Model for Record {
+    ghost use Rattle.std.specs.Prelude.{List, ℕ, ◌≡◌, true};
+    ghost use Rattle.mlr_spec.specs.Tree.{Tree};
+
+    ghost Value = { List (List ℕ × Tree) };
+
+    ghost use Rattle.mlr_spec.specs.Pairs.{keys_of, are_distinct};
+    ghost use Rattle.mlr_record.specs.Fields.{pairs_of};
+
+    ghost view = { λ r. pairs_of r.fields.items };
+
+    ghost invariant = { λ r. are_distinct (keys_of (pairs_of r.fields.items)) ≡ true };
+}
+
+impl Record {
+    /// A record without fields, with room for a few.
+    pub fn new(alloc: Global) -> Result<Self, NoMemory>
+        ensures { IfOk result (λ made. made ≡ []) }
+    {
+        Ok(Record {
+            alloc,
+            fields: Vec::with_capacity(alloc, FIRST_ROOM)?,
+        })
+    }
+
+    /// How many fields it has.
+    pub fn len(&self) -> usize
+        ensures length { result ≡ length self.now }
+        ensures distinct { are_distinct (keys_of self.now) ≡ true }
+    {
+        self.fields.len()
+    }
+
+    /// The value of this name. It takes no memory.
+    pub fn get(&self, key: &[u8]) -> Option<&Value>
+        ensures { option_map (λ value. tree_of value.now) result ≡ value_at key.now self.now }
+    {
+        let place = place_of(&self.fields, key)?;
+        Some(&self.fields[place].value)
+    }
+
+    /// The field at this place, which counts from 0. It takes no memory.
+    pub fn at(&self, place: usize) -> Option<(&[u8], &Value)>
+        ensures { option_map (λ field. (field.0.now, tree_of field.1.now)) result ≡ slice_get self.now place }
+    {
+        let field = self.fields.get(place)?;
+        Some((field.name.as_slice(), &field.value))
+    }
+
+    /// Gives the name this value: in its place if it is there, else last.
+    pub fn put(&mut self, key: &[u8], value: Value) -> Result<(), NoMemory>
+        ensures { self.new ≡ (if is_ok result then put_at key.now (tree_of value) self.old else self.old) }
+    {
+        match place_of(&self.fields, key) {
+            Some(place) => {
+                self.fields[place].value = value;
+                Ok(())
+            }
+            None => {
+                let name = Bytes::copy_of(self.alloc, key)?;
+                self.fields.push(Field { name, value })?;
+                Ok(())
+            }
+        }
+    }
+}
+
+const FIRST_ROOM: usize = 8;
+
+/// The place of the field with this name.
+fn place_of(fields: &[Field], key: &[u8]) -> Option<usize>
+    ensures { IsPlaceOf key.now fields.now result }
+{
+    for (place, field) in fields.iter().enumerate() {
+        if field.name.as_slice() == key {
+            return Some(place);
+        }
+    }
+    None
+}

@@ -1,0 +1,105 @@
+ghost use Rattle.std.specs.Prelude.{◌≡◌, ◌↔◌, ℕ, List, [], ◌++◌, length, if◌then◌else◌, is_ok, IfOk, IsTrue};
+
+use mlr_spec::NoMemory;
+use smallvec::SmallVec;
+use std::alloc::Global;
+use std::fmt;
+use std::marker::Model;
+
+/// A byte text, which need not be UTF-8. Up to 16 bytes lie in the value itself and take no memory.
+#[derive(Drop)]
+pub struct Bytes {
+    items: SmallVec<u8, 16>,
+}
+
+impl Model for Bytes {
+    ghost Value = { List ℕ };
+
+    ghost view = { λ b. b.items.items };
+}
+
+impl Bytes {
+    /// The empty text. It takes no memory.
+    #[inline(always)]
+    pub fn new(alloc: Global) -> Self
+        ensures { result ≡ [] }
+    {
+        Bytes {
+            items: SmallVec::new(alloc),
+        }
+    }
+
+    /// A copy. It takes memory where the text has more than 16 bytes.
+    #[inline(always)]
+    pub fn copy_of(alloc: Global, text: &[u8]) -> Result<Self, NoMemory>
+        ensures { IfOk result (λ copy. copy ≡ text.now) }
+    {
+        Ok(Bytes {
+            items: SmallVec::from_slice(alloc, text)?,
+        })
+    }
+
+    /// Puts the text last. The room at least doubles where it grows.
+    #[inline(always)]
+    pub fn append(&mut self, text: &[u8]) -> Result<(), NoMemory>
+        ensures { self.new ≡ (if is_ok result then self.old ++ text.now else self.old) }
+    {
+        self.items.extend_from_slice(text)?;
+        Ok(())
+    }
+
+    /// The text.
+    #[inline(always)]
+    pub fn as_slice(&self) -> &[u8]
+        ensures { result.now ≡ self.now }
+    {
+        self.items.as_slice()
+    }
+
+    /// How many bytes it has.
+    #[inline(always)]
+    pub fn len(&self) -> usize
+        ensures { result ≡ length self.now }
+    {
+        self.items.len()
+    }
+
+    /// Whether it has no bytes.
+    #[inline(always)]
+    pub fn is_empty(&self) -> bool
+        ensures { IsTrue result ↔ (self.now ≡ []) }
+    {
+        self.items.is_empty()
+    }
+}
+
+impl PartialEq for Bytes {
+    ghost use Rattle.std.specs.Cmp.{partial_equiv_from_equiv};
+    ghost use Rattle.std.specs.Cmp.Lexicographic.{nat_list_eq_equiv};
+    ghost use Rattle.std.specs.Str.{bytes_eq};
+
+    ghost eq = { bytes_eq };
+
+    ghost laws = { partial_equiv_from_equiv nat_list_eq_equiv };
+
+    fn eq(&self, other: &Self) -> bool {
+        self.as_slice() == other.as_slice()
+    }
+}
+
+impl Eq for Bytes {
+    ghost use Rattle.std.specs.Cmp.Lexicographic.{nat_list_eq_equiv};
+
+    ghost laws = { nat_list_eq_equiv };
+}
+
+/// As text, in quotes, where each byte is shown as a character of its own.
+impl fmt::Debug for Bytes {
+    fn fmt<W: fmt::Write>(&self, f: &mut fmt::Formatter<W>) -> fmt::Result {
+        f.write_str("\"")?;
+        for byte in self.as_slice() {
+            fmt::Write::write_char(f, char::from(*byte))?;
+        }
+        f.write_str("\"")
+    }
+}

@@ -1,0 +1,4 @@
+pub mod Counts
+pub mod Taken
+pub mod Inputs
+pub mod Outputs

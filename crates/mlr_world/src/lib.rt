@@ -1,0 +1,9 @@
+//! The world that a run reads from and writes to: the traits `Inputs` and `Outputs`, which say in contracts what
+//! was taken from each input and what stands in each output, with objects in memory and the real ones.
+#![tactic(auto)]
+
+mod inputs;
+mod outputs;
+
+pub use inputs::{Got, Inputs, Opened};
+pub use outputs::{Done, Outputs};
