@@ -1,6 +1,8 @@
 //! Records: lists of fields with distinct names, and the JSON text of their values.
 #![tactic(auto)]
 
+mod json;
 mod record;
 
+pub use json::{append_json_string, append_json_value};
 pub use record::Record;

@@ -1,4 +1,4 @@
-ghost use Rattle.std.specs.Prelude.{◌≡◌, true, [], length, if◌then◌else◌, is_ok, IfOk, slice_get};
+ghost use Rattle.std.specs.Prelude.{◌≡◌, ◌<◌, true, [], length, if◌then◌else◌, is_ok, IfOk, slice_get};
 ghost use Rattle.std.specs.Option.{option_map};
 ghost use Rattle.mlr_spec.specs.Pairs.{value_at, put_at, keys_of, are_distinct};
 ghost use Rattle.mlr_value.specs.Value.{tree_of};
@@ -70,6 +70,15 @@ impl Record {
     {
         let field = self.fields.get(place)?;
         Some((field.name.as_slice(), &field.value))
+    }
+
+    /// The field at a place that the record has.
+    pub fn entry(&self, place: usize) -> (&[u8], &Value)
+        requires { place < length self.now }
+        ensures { slice_get self.now place ≡ Some (result.0.now, tree_of result.1.now) }
+    {
+        let field = &self.fields[place];
+        (field.name.as_slice(), &field.value)
     }
 
     /// Gives the name this value: in its place if it is there, else last.

@@ -1,1 +1,3 @@
 pub mod Value
+pub mod Magnitude
+pub mod Fraction

@@ -3,7 +3,9 @@
 #![tactic(auto)]
 
 mod bytes;
+mod inference;
 mod value;
 
 pub use bytes::Bytes;
-pub use value::{IntValue, Value, append_text, text_of};
+pub use inference::infer;
+pub use value::{IntValue, Value, append_text, from_data, text_of};

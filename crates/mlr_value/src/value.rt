@@ -1,10 +1,11 @@
 ghost use Rattle.std.specs.Prelude.{◌≡◌, ◌++◌, is_ok, if◌then◌else◌, IfOk};
+ghost use Rattle.mlr_spec.specs.Infer.{tree_of_data};
 ghost use Rattle.mlr_spec.specs.Tree.{text_of};
 ghost use Rattle.mlr_value.specs.Value.{tree_of, int_text};
 
-use crate::Bytes;
+use crate::{Bytes, infer};
 use itoa::Buffer;
-use mlr_spec::NoMemory;
+use mlr_spec::{InferOpts, Kind, NoMemory};
 use std::alloc::Global;
 
 /// A whole number of 64 bits, with the spelling that it was read with. One that arithmetic made has no spelling,
@@ -28,6 +29,26 @@ pub enum Value {
     Frac(Bytes),
     /// A whole number that 64 bits don't hold, in its spelling.
     Wide(Bytes),
+}
+
+/// A text from data as a value, which keeps the text as its spelling. It takes memory where the text has more than
+/// 16 bytes.
+#[inline]
+pub fn from_data(alloc: Global, text: &[u8], opts: InferOpts) -> Result<Value, NoMemory>
+    ensures { IfOk result (λ value. tree_of value ≡ tree_of_data opts text.now) }
+{
+    let kind = infer(text, opts);
+    if kind == Kind::Empty {
+        return Ok(Value::Empty);
+    }
+    let spelling = Bytes::copy_of(alloc, text)?;
+    Ok(match kind {
+        Kind::Empty => Value::Empty,
+        Kind::Str => Value::Str(spelling),
+        Kind::Int(n) => Value::Int(IntValue { n, spelling }),
+        Kind::Frac => Value::Frac(spelling),
+        Kind::Wide => Value::Wide(spelling),
+    })
 }
 
 /// Puts what the value prints behind `into`.

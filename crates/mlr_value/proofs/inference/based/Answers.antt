@@ -1,0 +1,14 @@
+use Rattle.std.proofs.Common.{◌≡◌, arith, rules}
+use Rattle.std.proofs.lemmas.Grind.{common_steps}
+use Rattle.mlr_spec.specs.Infer.{base_of}
+use Rattle.mlr_value.proofs.Rows.{magnitude_of-no_base}
+use Rattle.mlr_value.proofs.inference.based.Goals as goal
+
+pub returns-in_default : goal.returns-in_default
+returns-in_default c = magnitude_of-no_base c.args.text.now (search rules)
+
+pub returns-in_default-2 : goal.returns-in_default-2
+returns-in_default-2 c = magnitude_of-no_base c.args.text.now (search rules)
+
+pub returns-in_default-3 : goal.returns-in_default-3
+returns-in_default-3 c = magnitude_of-no_base c.args.text.now (search rules)

@@ -1,0 +1,288 @@
+ghost use Rattle.std.specs.Prelude.{◌≡◌, ℕ, ◌+◌, ◌*◌, ◌^◌, ◌<◌, SomeIff, drop, nat_lt, if◌then◌else◌};
+ghost use Rattle.std.specs.List.{list_all};
+ghost use Rattle.mlr_spec.specs.Infer.{digit, are_digits, is_negative, unsigned, base_of, is_fraction, kind_behind_sign, kind_of};
+ghost use Rattle.mlr_value.specs.Fraction.{may_be_number};
+ghost use Rattle.mlr_value.specs.Magnitude.{magnitude_of, octal_of, whole_of, word_of};
+
+use mlr_spec::{InferOpts, Kind};
+
+/// The number that a row of digits stands for.
+#[derive(Clone, Copy)]
+enum Magnitude {
+    /// A number below 2^64.
+    Word(u64),
+    /// A number that 64 bits don't hold.
+    Large,
+}
+
+/// The magnitude of the least int, which is no int itself.
+const TWO_TO_63: u64 = 0x8000_0000_0000_0000;
+
+/// What a text from data is. It looks at the whole text, and takes no memory.
+pub fn infer(text: &[u8], opts: InferOpts) -> Kind
+    ensures { result ≡ kind_of opts text.now }
+{
+    if text.is_empty() {
+        return Kind::Empty;
+    }
+    if opts.none {
+        return Kind::Str;
+    }
+    behind_sign(opts.octal, is_negative(text), unsigned(text))
+}
+
+/// The rows in their order. Most texts that are no numbers end at the first test.
+fn behind_sign(octal: bool, negative: bool, text: &[u8]) -> Kind
+    ensures { result ≡ kind_behind_sign octal negative text.now }
+{
+    if !may_be_number(text) {
+        return Kind::Str;
+    }
+    if let Some(magnitude) = octal_of(octal, text) {
+        return whole(negative, magnitude);
+    }
+    if let Some(magnitude) = magnitude_of(10, text) {
+        return whole(negative, magnitude);
+    }
+    if let Some(magnitude) = based(text) {
+        return word(negative, magnitude);
+    }
+    if is_fraction(text) { Kind::Frac } else { Kind::Str }
+}
+
+fn is_negative(text: &[u8]) -> bool
+    ensures { result ≡ is_negative text.now }
+{
+    match text {
+        [b'-', ..] => true,
+        _ => false,
+    }
+}
+
+fn unsigned(text: &[u8]) -> &[u8]
+    ensures { result.now ≡ unsigned text.now }
+{
+    match text {
+        [b'+' | b'-', behind @ ..] => behind,
+        _ => text,
+    }
+}
+
+/// Whether the first byte is one that a number without its sign may begin with.
+fn may_be_number(text: &[u8]) -> bool
+    ensures { result ≡ may_be_number text.now }
+{
+    match text {
+        [b'0'..=b'9' | b'.', ..] => true,
+        _ => false,
+    }
+}
+
+/// The worth of a digit, and 16 for a byte that is none.
+#[inline(always)]
+fn digit_of(byte: u8) -> u64
+    ensures { result ≡ digit byte }
+{
+    match byte {
+        b'0'..=b'9' => (byte - b'0') as u64,
+        b'a'..=b'f' => (byte - b'a' + 10) as u64,
+        b'A'..=b'F' => (byte - b'A' + 10) as u64,
+        _ => 16,
+    }
+}
+
+fn all_digits(base: u64, text: &[u8]) -> bool
+    ensures { result ≡ list_all (λ b. nat_lt (digit b) base) text.now }
+{
+    text.iter().all(|byte| digit_of(*byte) < base)
+}
+
+/// The number with one more digit behind it, while 64 bits hold it.
+#[inline(always)]
+fn with_digit(number: u64, base: u64, digit: u64) -> Option<u64>
+    ensures { SomeIff result (number * base + digit < 2 ^ 64) (number * base + digit) }
+{
+    number.checked_mul(base)?.checked_add(digit)
+}
+
+/// The number of a row of digits. A caller gives the base as a constant, for which the loop is then built.
+#[inline(always)]
+fn magnitude_of(base: u64, text: &[u8]) -> Option<Magnitude>
+    requires { 0 < base }
+    ensures { result ≡ magnitude_of base text.now }
+{
+    if text.is_empty() {
+        return None;
+    }
+    let mut number = 0;
+    for (i, byte) in text.iter().enumerate() {
+        let digit = digit_of(*byte);
+        if digit >= base {
+            return None;
+        }
+        let Some(more) = with_digit(number, base, digit) else {
+            return large(base, &text[i + 1..]);
+        };
+        number = more;
+    }
+    Some(Magnitude::Word(number))
+}
+
+/// The number of digits that are known to be too many for 64 bits, by those that weren't read yet.
+#[cold]
+fn large(base: u64, rest: &[u8]) -> Option<Magnitude>
+    ensures { result ≡ (if list_all (λ b. nat_lt (digit b) base) rest.now then Some Magnitude.Large else None) }
+{
+    if all_digits(base, rest) {
+        Some(Magnitude::Large)
+    } else {
+        None
+    }
+}
+
+/// The number of a text with a leading zero, under the flag for octal.
+#[tactic(auto, unfolding(crate::specs::Magnitude::magnitude_of, crate::specs::Magnitude::octal_of))]
+fn octal_of(octal: bool, text: &[u8]) -> Option<Magnitude>
+    ensures { result ≡ octal_of octal text.now }
+{
+    if !octal {
+        return None;
+    }
+    match text {
+        [b'0', digits @ ..] => magnitude_of(8, digits),
+        _ => None,
+    }
+}
+
+/// The number of a text that names its base.
+fn based(text: &[u8]) -> Option<Magnitude>
+    ensures { result ≡ magnitude_of (base_of text.now) (drop 2 text.now) }
+{
+    match text {
+        [b'0', b'x' | b'X', digits @ ..] => magnitude_of(16, digits),
+        [b'0', b'b' | b'B', digits @ ..] => magnitude_of(2, digits),
+        [b'0', b'o' | b'O', digits @ ..] => magnitude_of(8, digits),
+        _ => None,
+    }
+}
+
+#[tactic(auto, unfolding(crate::specs::Magnitude::whole_of))]
+fn whole(negative: bool, magnitude: Magnitude) -> Kind
+    ensures { result ≡ whole_of negative magnitude }
+{
+    let Magnitude::Word(number) = magnitude else {
+        return Kind::Wide;
+    };
+    if number < TWO_TO_63 {
+        let int = number as i64;
+        return Kind::Int(if negative { -int } else { int });
+    }
+    if negative && number == TWO_TO_63 {
+        return Kind::Int(i64::MIN);
+    }
+    Kind::Wide
+}
+
+/// As `whole`, but without a `-` the upper half of the words are negative ints.
+#[tactic(auto, unfolding(crate::specs::Magnitude::whole_of, crate::specs::Magnitude::word_of))]
+fn word(negative: bool, magnitude: Magnitude) -> Kind
+    ensures { result ≡ word_of negative magnitude }
+{
+    if let Magnitude::Word(number) = magnitude
+        && number >= TWO_TO_63
+        && !negative
+    {
+        return Kind::Int(-((u64::MAX - number) as i64) - 1);
+    }
+    whole(negative, magnitude)
+}
+
+/// Reads the mantissa and the exponent in one pass.
+fn is_fraction(text: &[u8]) -> bool
+    ensures { result ≡ is_fraction text.now }
+{
+    let mut digits = false;
+    let mut point = false;
+    for (i, byte) in text.iter().enumerate() {
+        match byte {
+            b'0'..=b'9' => digits = true,
+            b'.' if !point => point = true,
+            b'e' | b'E' => return digits && is_exponent(&text[i + 1..]),
+            _ => return false,
+        }
+    }
+    digits
+}
+
+/// One or more digits behind a sign or without one.
+fn is_exponent(text: &[u8]) -> bool
+    ensures { result ≡ are_digits 10 (unsigned text.now) }
+{
+    let digits = unsigned(text);
+    !digits.is_empty() && all_digits(10, digits)
+}
+
+#[cfg(test)]
+mod tests {
+    use super::*;
+
+    #[test]
+    fn texts_and_their_kinds(rt: HostRuntime) {
+        let plain = InferOpts::plain();
+        let octal = InferOpts { none: false, octal: true };
+        let none = InferOpts { none: true, octal: true };
+        let table: [(&[u8], InferOpts, Kind); 47] = [
+            (b"", none, Kind::Empty),
+            (b"7", none, Kind::Str),
+            (b"+5", plain, Kind::Int(5)),
+            (b"-0", plain, Kind::Int(0)),
+            (b"007", plain, Kind::Int(7)),
+            (b"0", octal, Kind::Int(0)),
+            (b"-010", octal, Kind::Int(-8)),
+            (b"08", octal, Kind::Int(8)),
+            (b"010", plain, Kind::Int(10)),
+            (b"9223372036854775807", plain, Kind::Int(i64::MAX)),
+            (b"9223372036854775808", plain, Kind::Wide),
+            (b"-9223372036854775808", plain, Kind::Int(i64::MIN)),
+            (b"-9223372036854775809", plain, Kind::Wide),
+            (b"18446744073709551616", plain, Kind::Wide),
+            (b"18446744073709551616x", plain, Kind::Str),
+            (b"0x0F", plain, Kind::Int(15)),
+            (b"0XfF", plain, Kind::Int(255)),
+            (b"0b101", plain, Kind::Int(5)),
+            (b"0o17", plain, Kind::Int(15)),
+            (b"0x", plain, Kind::Str),
+            (b"0x1G", plain, Kind::Str),
+            (b"0b2", plain, Kind::Str),
+            (b"0xffffffffffffffff", plain, Kind::Int(-1)),
+            (b"0x8000000000000000", plain, Kind::Int(i64::MIN)),
+            (b"-0x8000000000000000", plain, Kind::Int(i64::MIN)),
+            (b"-0x8000000000000001", plain, Kind::Wide),
+            (b"-0xffffffffffffffff", plain, Kind::Wide),
+            (b"0x10000000000000000", plain, Kind::Wide),
+            (b"1e5", plain, Kind::Frac),
+            (b"1.e5", plain, Kind::Frac),
+            (b"-1.", plain, Kind::Frac),
+            (b"+.5E-3", plain, Kind::Frac),
+            (b"0.25", octal, Kind::Frac),
+            (b"010.5", octal, Kind::Frac),
+            (b".", plain, Kind::Str),
+            (b".e5", plain, Kind::Str),
+            (b"1e", plain, Kind::Str),
+            (b"1e+", plain, Kind::Str),
+            (b"1.2.3", plain, Kind::Str),
+            (b"1e5.5", plain, Kind::Str),
+            (b"1_000", plain, Kind::Str),
+            (b"2023-01-01", plain, Kind::Str),
+            (b"Inf", plain, Kind::Str),
+            (b"-", plain, Kind::Str),
+            (b"--1", plain, Kind::Str),
+            (b"1 ", plain, Kind::Str),
+            (b"e5", plain, Kind::Str),
+        ];
+        for (i, row) in table.iter().enumerate() {
+            let (text, opts, want) = *row;
+            assert_eq!(rt; infer(text, opts), want, "at {i}");
+        }
+    }
+}
