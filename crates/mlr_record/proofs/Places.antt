@@ -1,8 +1,8 @@
 -- What is found and put at the place of a name.
-use Rattle.std.proofs.Common.{◌≡◌, ℕ, zero, suc, ◌+◌, ◌<◌, Bool, true, false, cond, not, ◌||◌, ◌&&◌, List, [], ◌∷◌, ◌++◌, length, take, get_or, set, map, Some, None, refl, ap, sym, ◌∙◌, arith, rules}
+use Rattle.std.proofs.Common.{◌≡◌, ℕ, zero, suc, ◌+◌, ◌<◌, Bool, true, false, cond, not, ◌||◌, ◌&&◌, List, [], ◌∷◌, ◌++◌, length, take, get_or, set, map, Some, None, refl, ap, sym, subst, inl, inr, ◌∙◌, arith}
 use Rattle.std.specs.List.{list_any}
 use Rattle.std.specs.Str.{bytes_eq}
-use Rattle.std.proofs.lemmas.Bool.{or_parts, and_parts, and_from, cond_both, not-true, not_from_false}
+use Rattle.std.proofs.lemmas.Bool.{or_parts, and_parts, and_from, cond_both, cases_Bool, not-true, not_from_false}
 use Rattle.std.proofs.lemmas.Grind.{common_steps}
 use Rattle.mlr_spec.specs.Tree.{Tree}
 use Rattle.mlr_spec.specs.Pairs.{value_at, put_at, keys_of, are_distinct}
@@ -41,22 +41,6 @@ put_at-place key value (f ∷ fields) zero d below absent here = rw here
 put_at-place key value (f ∷ fields) (suc i) d below absent here =
     let parts = or_parts (has_name key f) (list_any (has_name key) (take i fields)) absent in
     rw parts.0 (ap (λ x. pair_of f ∷ x) (put_at-place key value fields i d (omega arith) parts.1 here))
-
--- names stay distinct
-any_key-put : (test : List ℕ → Bool) (key : List ℕ) (value : Tree) (pairs : List (List ℕ × Tree)) → test key ≡ false → list_any test (keys_of pairs) ≡ false → list_any test (keys_of (put_at key value pairs)) ≡ false
-any_key-put test key value [] at_key absent = rw at_key refl
-any_key-put test key value (p ∷ pairs) at_key absent =
-    let parts = or_parts (test p.0) (list_any test (keys_of pairs)) absent in
-    cond_both (bytes_eq p.0 key) ((p.0, value) ∷ pairs) (p ∷ put_at key value pairs) (λ x. list_any test (keys_of x) ≡ false)
-      (λ _. absent) (λ _. rw parts.0 (any_key-put test key value pairs at_key parts.1))
-
-pub are_distinct-put : (key : List ℕ) (value : Tree) (pairs : List (List ℕ × Tree)) → are_distinct (keys_of pairs) ≡ true → are_distinct (keys_of (put_at key value pairs)) ≡ true
-are_distinct-put key value [] h = refl
-are_distinct-put key value (p ∷ pairs) h =
-    let parts = and_parts (not (list_any (bytes_eq p.0) (keys_of pairs))) (are_distinct (keys_of pairs)) h in
-    cond_both (bytes_eq p.0 key) ((p.0, value) ∷ pairs) (p ∷ put_at key value pairs) (λ x. are_distinct (keys_of x) ≡ true)
-      (λ _. h)
-      (λ other. and_from _ _ (not_from_false _ (any_key-put (bytes_eq p.0) key value pairs other (not-true _ parts.0))) (are_distinct-put key value pairs parts.1))
 
 module _ (key : List ℕ) (value : Value) (fields : List Field) where
   -- a field that was pushed for a new name

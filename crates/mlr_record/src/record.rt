@@ -1,4 +1,4 @@
-ghost use Rattle.std.specs.Prelude.{◌≡◌, ◌<◌, true, [], length, if◌then◌else◌, is_ok, IfOk, slice_get};
+ghost use Rattle.std.specs.Prelude.{◌≡◌, ◌<◌, ◌++◌, ◌∷◌, true, [], length, if◌then◌else◌, is_ok, IfOk, slice_get};
 ghost use Rattle.std.specs.Option.{option_map};
 ghost use Rattle.mlr_spec.specs.Pairs.{value_at, put_at, keys_of, are_distinct};
 ghost use Rattle.mlr_value.specs.Value.{tree_of};
@@ -96,6 +96,17 @@ impl Record {
                 Ok(())
             }
         }
+    }
+
+    /// Puts a field last whose name the record doesn't have. It makes no search.
+    #[inline]
+    pub fn push(&mut self, key: &[u8], value: Value) -> Result<(), NoMemory>
+        requires { value_at key.now self.old ≡ None }
+        ensures { self.new ≡ (if is_ok result then self.old ++ (key.now, tree_of value) ∷ [] else self.old) }
+    {
+        let name = Bytes::copy_of(self.alloc, key)?;
+        self.fields.push(Field { name, value })?;
+        Ok(())
     }
 }
 

@@ -2,7 +2,8 @@ use Rattle.std.proofs.Common.{◌≡◌, true, sym, ap, ◌∙◌, subst, set, S
 use Rattle.mlr_spec.specs.Pairs.{put_at, keys_of, are_distinct}
 use Rattle.mlr_value.specs.Value.{tree_of}
 use Rattle.mlr_record.specs.Fields.{pairs_of, IsPlaceOf}
-use Rattle.mlr_record.proofs.Places.{pairs_of-push, pairs_of-set, are_distinct-put}
+use Rattle.mlr_record.proofs.Places.{pairs_of-push, pairs_of-set}
+use Rattle.mlr_spec.proofs.Pairs.{are_distinct-put}
 use Rattle.mlr_record.proofs.record.Record.put.Goals as goal
 use Rattle.mlr_record.proofs.record.Record.put.Goals.{Joined-index_mut-value, In_ok-push-in-None}
 

@@ -1,0 +1,74 @@
+ghost use Rattle.std.specs.Prelude.{◌≡◌};
+ghost use Rattle.cli_run.specs.Answer.{status_of, refused_word};
+
+use mlr_event::{InputName, Target};
+use mlr_value::Bytes;
+
+/// How a run ended.
+#[derive(Debug, PartialEq, Eq, Drop)]
+pub enum Ended {
+    /// All was read and written.
+    Done,
+    /// The command line isn't accepted. Nothing was read.
+    Refused(Refusal),
+    /// The input is whole, and this line, counted from 1, is the first that isn't plain. Nothing was written.
+    NotBuilt { line: u64 },
+    /// This input can't be opened or read.
+    Read(InputName),
+    /// This output can't be written.
+    Written(Target),
+    /// 2^60 bytes of input were taken.
+    TooLong,
+    /// There was no memory.
+    NoMemory,
+}
+
+/// Why a command line isn't accepted: the word, counted from 1 after the program's name, and what is wrong with it.
+#[derive(Clone, Copy, Debug, PartialEq, Eq)]
+pub struct Refusal {
+    pub word: u64,
+    pub why: Why,
+}
+
+/// What is wrong with a word.
+#[derive(Clone, Copy, Debug, PartialEq, Eq)]
+pub enum Why {
+    /// No command that is built goes on with it.
+    NotBuilt,
+}
+
+impl Ended {
+    /// The exit status of the program.
+    pub fn status(&self) -> u8
+        ensures { result ≡ status_of self.now }
+    {
+        match self {
+            Ended::Done => 0,
+            Ended::Refused(_)
+            | Ended::NotBuilt { .. }
+            | Ended::Read(_)
+            | Ended::Written(_)
+            | Ended::TooLong => 1,
+            Ended::NoMemory => 3,
+        }
+    }
+}
+
+/// The first word, counted from 1, that differs from `--ojson cat`.
+pub(crate) fn refused_word(words: &[Bytes]) -> Option<u64>
+    ensures { result ≡ refused_word words.now }
+{
+    let [first, behind @ ..] = words else {
+        return Some(1);
+    };
+    if first.as_slice() != b"--ojson".as_slice() {
+        return Some(1);
+    }
+    let [second, behind @ ..] = behind else {
+        return Some(2);
+    };
+    if second.as_slice() != b"cat".as_slice() {
+        return Some(2);
+    }
+    if behind.is_empty() { None } else { Some(3) }
+}
