@@ -1,16 +1,14 @@
 -- The rows of the definition, in the words of the functions that read them.
-use Rattle.std.proofs.Common.{◌≡◌, ℕ, ◌^◌, ◌<◌, ◌≤◌, Bool, true, false, cond, not, ◌&&◌, ◌||◌, ◌==◌, nat_lt, nat_le, List, [], ◌∷◌, drop, Option, Some, None, refl, ap, sym, ◌∙◌, arith, pos, neg_ℤ, ◌-ℤ◌}
-use Rattle.std.proofs.lemmas.Bool.{le-ltb, lt-leb, ltb-false, cases_Bool, or_parts, eqb-true, and_left, and_right, false_from_ne_true, true≢false}
-use Rattle.std.proofs.lemmas.Bool.Decides.{nat_tests}
+use Rattle.std.proofs.Common.{◌≡◌, ℕ, ◌^◌, ◌<◌, ◌≤◌, Bool, true, false, cond, not, ◌&&◌, ◌==◌, nat_lt, nat_le, List, [], ◌∷◌, length, drop, Option, Some, None, refl, ap, sym, ◌∙◌, arith, pos, neg_ℤ, ◌-ℤ◌}
+use Rattle.std.proofs.lemmas.Bool.{le-ltb, lt-leb, ltb-false, or_parts, eqb-true, and_left, and_right, false_from_ne_true, true≢false}
 use Rattle.std.specs.List.{list_all}
 use Rattle.mlr_spec.specs.declared.infer.Kind.{Kind}
 use Rattle.mlr_spec.specs.declared.infer.Kind.TheVariants.{Str, Int, Frac, Wide}
 use Rattle.mlr_spec.specs.Infer.{digit, are_digits, number, base_of, base_of_letter, is_octal, is_fraction, is_e, whole, word, kind_behind_sign}
 use Rattle.mlr_value.specs.declared.inference.Magnitude.{Magnitude}
 use Rattle.mlr_value.specs.declared.inference.Magnitude.TheVariants.{Word, Large}
-use Rattle.mlr_value.specs.Magnitude.{bounded, magnitude_of, octal_of, whole_of, word_of}
+use Rattle.mlr_value.specs.Magnitude.{bounded, magnitude_of, octal_of, whole_of, word_of, behind_digits}
 use Rattle.mlr_value.specs.Fraction.{may_be_number, fraction_from}
-use Rattle.mlr_value.proofs.Magnitudes.{bounded_word, bounded_large}
 use Rattle.mlr_value.proofs.Fractions.{fraction_from-whole}
 
 whole-large : (negative : Bool) (n : ℕ) → 2 ^ 64 ≤ n → Wide ≡ whole negative n
@@ -69,6 +67,23 @@ kind_from_rows octal negative text in_octal in_decimal in_base fraction o d b f 
     ∙ ap (λ (r : Bool). first_row negative (octal_of octal text) (magnitude_of 10 text) (magnitude_of (base_of text) (drop 2 text)) r) f
     ∙ sym (kind_by_rows octal negative text)
 
+-- the rows behind that of the decimal digits
+pub first_row-behind_digits : (negative : Bool) (text : List ℕ) → behind_digits negative text ≡ first_row negative None None (magnitude_of (base_of text) (drop 2 text)) (is_fraction text)
+unfolding behind_digits magnitude_of
+first_row-behind_digits negative text =
+    rows_at negative false false (are_digits (base_of text) (drop 2 text)) (is_fraction text) 0 0 (number (base_of text) (drop 2 text))
+
+pub behind_digits-from : (negative : Bool) (text : List ℕ) (in_base : Option Magnitude) (fraction : Bool)
+    → in_base ≡ magnitude_of (base_of text) (drop 2 text) → fraction ≡ is_fraction text → first_row negative None None in_base fraction ≡ behind_digits negative text
+behind_digits-from negative text in_base fraction b f =
+    ap (λ (r : Option Magnitude). first_row negative None None r fraction) b
+    ∙ ap (λ (r : Bool). first_row negative None None (magnitude_of (base_of text) (drop 2 text)) r) f
+    ∙ sym (first_row-behind_digits negative text)
+
+pub has_first : (text : List ℕ) → may_be_number text ≡ true → 0 < length text
+has_first [] e = absurd (true≢false (sym e))
+has_first (b ∷ text) e = omega arith
+
 -- no digits of base 0
 pub magnitude_of-zero : (text : List ℕ) → magnitude_of 0 text ≡ None
 unfolding magnitude_of
@@ -114,8 +129,8 @@ no_number octal negative (b ∷ text) e =
     let first = or_parts (nat_lt (digit b) 10) (b == 46) e in
     let zero : (b == 48) ≡ false = no_zero b first.0 in
     rows_that_fail negative (octal && is_octal (b ∷ text)) (are_digits 10 (b ∷ text)) (are_digits (base_of (b ∷ text)) (drop 2 (b ∷ text))) (is_fraction (b ∷ text))
-        (number 8 (b ∷ text)) (number 10 (b ∷ text)) (number (base_of (b ∷ text)) (drop 2 (b ∷ text)))
-        (and_right octal _ (and_left (b == 48) _ zero))
-        (and_left (nat_lt (digit b) 10) _ first.0)
-        (ap (λ base. are_digits base (drop 2 (b ∷ text))) (base_of-no_zero b text zero) ∙ are_digits-zero (drop 2 (b ∷ text)))
-        (no_fraction b text first.0 first.1)
+    (number 8 (b ∷ text)) (number 10 (b ∷ text)) (number (base_of (b ∷ text)) (drop 2 (b ∷ text)))
+    (and_right octal _ (and_left (b == 48) _ zero))
+    (and_left (nat_lt (digit b) 10) _ first.0)
+    (ap (λ base. are_digits base (drop 2 (b ∷ text))) (base_of-no_zero b text zero) ∙ are_digits-zero (drop 2 (b ∷ text)))
+    (no_fraction b text first.0 first.1)

@@ -1,8 +1,11 @@
 -- The number of a row of digits as far as 64 bits hold it, and the kinds that it gives.
-use Rattle.std.specs.Prelude.{ℕ, ◌+◌, ◌*◌, ◌^◌, Bool, ◌&&◌, ◌==◌, nat_lt, if◌then◌else◌, List, [], ◌∷◌, Option, Some, None}
+use Rattle.std.specs.Prelude.{ℕ, ◌+◌, ◌*◌, ◌^◌, Bool, ◌&&◌, nat_lt, if◌then◌else◌, List, [], ◌∷◌, drop, Option, Some, None}
+use Rattle.std.specs.List.{list_all, prefix_len}
 use Rattle.mlr_spec.specs.declared.infer.Kind.{Kind}
-use Rattle.mlr_spec.specs.declared.infer.Kind.TheVariants.{Wide}
-use Rattle.mlr_spec.specs.Infer.{digit, are_digits, number, is_octal, whole, word}
+use Rattle.mlr_spec.specs.declared.infer.Kind.TheVariants.{Str, Frac, Wide}
+use Rattle.mlr_spec.specs.Infer.{digit, are_digits, number, base_of, is_based, is_octal, is_fraction, whole, word}
+use Rattle.mlr_value.specs.declared.inference.Digits.{Digits}
+use Rattle.mlr_value.specs.declared.inference.Digits.TheVariants.{Whole, Until}
 use Rattle.mlr_value.specs.declared.inference.Magnitude.{Magnitude}
 use Rattle.mlr_value.specs.declared.inference.Magnitude.TheVariants.{Word, Large}
 
@@ -18,11 +21,22 @@ magnitude_of base text = if are_digits base text then Some (bounded (number base
 unfoldable pub octal_of : Bool → List ℕ → Option Magnitude
 octal_of octal text = if octal && is_octal text then Some (bounded (number 8 text)) else None
 
--- the number of the digits before a text and those of the text; None if it has another byte
-abbrev pub magnitude_from : ℕ → ℕ → List ℕ → Option Magnitude
-magnitude_from base before [] = Some (bounded before)
-magnitude_from base before (b ∷ text) =
-    if nat_lt (digit b) base then magnitude_from base (before * base + digit b) text else None
+-- how far a text goes in digits of this base: all of it, with their number, or until its first other byte
+unfoldable pub digits_of : ℕ → List ℕ → Digits
+digits_of base text =
+    if list_all (λ b. nat_lt (digit b) base) text then Whole (bounded (number base text))
+    else Until (prefix_len (λ b. nat_lt (digit b) base) text)
+
+-- the same from a place in a text on, with the number of the digits before it
+abbrev pub digits_from : ℕ → ℕ → ℕ → List ℕ → Digits
+digits_from base before place [] = Whole (bounded before)
+digits_from base before place (b ∷ text) =
+    if nat_lt (digit b) base then digits_from base (before * base + digit b) (place + 1) text else Until place
+
+-- the same where the digits before are too many for 64 bits
+abbrev pub large_from : ℕ → ℕ → List ℕ → Digits
+large_from base place [] = Whole Large
+large_from base place (b ∷ text) = if nat_lt (digit b) base then large_from base (place + 1) text else Until place
 
 -- `whole` and `word` of a magnitude
 unfoldable pub whole_of : Bool → Magnitude → Kind
@@ -32,3 +46,9 @@ whole_of negative Large = Wide
 unfoldable pub word_of : Bool → Magnitude → Kind
 word_of negative (Word n) = word negative n
 word_of negative Large = Wide
+
+-- the rows for a text that isn't all digits
+unfoldable pub behind_digits : Bool → List ℕ → Kind
+behind_digits negative text =
+    if is_based text then word negative (number (base_of text) (drop 2 text)) else (
+    if is_fraction text then Frac else Str)

@@ -1,8 +1,8 @@
-ghost use Rattle.std.specs.Prelude.{◌≡◌, ℕ, ◌+◌, ◌*◌, ◌^◌, ◌<◌, SomeIff, drop, nat_lt, if◌then◌else◌};
-ghost use Rattle.std.specs.List.{list_all};
-ghost use Rattle.mlr_spec.specs.Infer.{digit, are_digits, is_negative, unsigned, base_of, is_fraction, kind_behind_sign, kind_of};
-ghost use Rattle.mlr_value.specs.Fraction.{may_be_number};
-ghost use Rattle.mlr_value.specs.Magnitude.{magnitude_of, octal_of, whole_of, word_of};
+ghost use Rattle.std.specs.Prelude.{◌≡◌, ℕ, ◌+◌, ◌*◌, ◌^◌, ◌<◌, ◌≤◌, SomeIff, false, length, drop, nat_lt};
+ghost use Rattle.std.specs.List.{list_all, prefix_len};
+ghost use Rattle.mlr_spec.specs.Infer.{digit, are_digits, is_negative, unsigned, base_of, kind_behind_sign, kind_of};
+ghost use Rattle.mlr_value.specs.Fraction.{fraction_from, may_be_number};
+ghost use Rattle.mlr_value.specs.Magnitude.{behind_digits, digits_of, large_from, magnitude_of, octal_of, whole_of, word_of};
 
 use mlr_spec::{InferOpts, Kind};
 
@@ -15,7 +15,16 @@ enum Magnitude {
     Large,
 }
 
-/// The magnitude of the least int, which is no int itself.
+/// How far a text goes in digits of a base.
+#[derive(Clone, Copy)]
+enum Digits {
+    /// All of it.
+    Whole(Magnitude),
+    /// Up to this place, where another byte stands.
+    Until(usize),
+}
+
+/// The magnitude of the least int. Without its sign it is no int.
 const TWO_TO_63: u64 = 0x8000_0000_0000_0000;
 
 /// What a text from data is. It looks at the whole text, and takes no memory.
@@ -41,22 +50,32 @@ fn behind_sign(octal: bool, negative: bool, text: &[u8]) -> Kind
     if let Some(magnitude) = octal_of(octal, text) {
         return whole(negative, magnitude);
     }
-    if let Some(magnitude) = magnitude_of(10, text) {
-        return whole(negative, magnitude);
+    match digits_of(10, text) {
+        Digits::Whole(magnitude) => whole(negative, magnitude),
+        Digits::Until(place) => behind_digits(negative, text, place),
     }
+}
+
+/// The rows for a text whose decimal digits end at `place`. A fraction is read on from there.
+fn behind_digits(negative: bool, text: &[u8], place: usize) -> Kind
+    requires place { place ≡ prefix_len (λ b. nat_lt (digit b) 10) text.now }
+    requires within { place ≤ length text.now }
+    ensures { result ≡ behind_digits negative text.now }
+{
     if let Some(magnitude) = based(text) {
         return word(negative, magnitude);
     }
-    if is_fraction(text) { Kind::Frac } else { Kind::Str }
+    if is_fraction(place > 0, &text[place..]) {
+        Kind::Frac
+    } else {
+        Kind::Str
+    }
 }
 
 fn is_negative(text: &[u8]) -> bool
     ensures { result ≡ is_negative text.now }
 {
-    match text {
-        [b'-', ..] => true,
-        _ => false,
-    }
+    matches!(text, [b'-', ..])
 }
 
 fn unsigned(text: &[u8]) -> &[u8]
@@ -72,22 +91,22 @@ fn unsigned(text: &[u8]) -> &[u8]
 fn may_be_number(text: &[u8]) -> bool
     ensures { result ≡ may_be_number text.now }
 {
-    match text {
-        [b'0'..=b'9' | b'.', ..] => true,
-        _ => false,
-    }
+    matches!(text, [b'0'..=b'9' | b'.', ..])
 }
 
-/// The worth of a digit, and 16 for a byte that is none.
+/// The worth of a digit, and 16 for a byte that is none. Decimal digits come first, since most are.
 #[inline(always)]
 fn digit_of(byte: u8) -> u64
     ensures { result ≡ digit byte }
 {
-    match byte {
-        b'0'..=b'9' => (byte - b'0') as u64,
-        b'a'..=b'f' => (byte - b'a' + 10) as u64,
-        b'A'..=b'F' => (byte - b'A' + 10) as u64,
-        _ => 16,
+    if matches!(byte, b'0'..=b'9') {
+        u64::from(byte - b'0')
+    } else if matches!(byte, b'a'..=b'f') {
+        u64::from(byte - b'a' + 10)
+    } else if matches!(byte, b'A'..=b'F') {
+        u64::from(byte - b'A' + 10)
+    } else {
+        16
     }
 }
 
@@ -97,15 +116,53 @@ fn all_digits(base: u64, text: &[u8]) -> bool
     text.iter().all(|byte| digit_of(*byte) < base)
 }
 
-/// The number with one more digit behind it, while 64 bits hold it.
+/// The number with one more digit behind it, while 64 bits hold it. The first test spares most digits the others.
 #[inline(always)]
 fn with_digit(number: u64, base: u64, digit: u64) -> Option<u64>
+    requires { digit < base }
     ensures { SomeIff result (number * base + digit < 2 ^ 64) (number * base + digit) }
 {
+    if number < u64::MAX / base {
+        return Some(number * base + digit);
+    }
     number.checked_mul(base)?.checked_add(digit)
 }
 
-/// The number of a row of digits. A caller gives the base as a constant, for which the loop is then built.
+/// Reads a text's digits in one pass. Each caller gives the base as a constant, and gets a loop for that base.
+#[inline(always)]
+fn digits_of(base: u64, text: &[u8]) -> Digits
+    requires { 0 < base }
+    ensures { result ≡ digits_of base text.now }
+{
+    let mut number = 0;
+    for (i, byte) in text.iter().enumerate() {
+        let digit = digit_of(*byte);
+        if digit >= base {
+            return Digits::Until(i);
+        }
+        let Some(more) = with_digit(number, base, digit) else {
+            return large(base, text, i + 1);
+        };
+        number = more;
+    }
+    Digits::Whole(Magnitude::Word(number))
+}
+
+/// Goes on where the digits before `start` are too many for 64 bits.
+#[cold]
+fn large(base: u64, text: &[u8], start: usize) -> Digits
+    requires { start ≤ length text.now }
+    ensures { result ≡ large_from base start (drop start text.now) }
+{
+    for i in start..text.len() {
+        if digit_of(text[i]) >= base {
+            return Digits::Until(i);
+        }
+    }
+    Digits::Whole(Magnitude::Large)
+}
+
+/// The number of a text that is all digits.
 #[inline(always)]
 fn magnitude_of(base: u64, text: &[u8]) -> Option<Magnitude>
     requires { 0 < base }
@@ -114,29 +171,9 @@ fn magnitude_of(base: u64, text: &[u8]) -> Option<Magnitude>
     if text.is_empty() {
         return None;
     }
-    let mut number = 0;
-    for (i, byte) in text.iter().enumerate() {
-        let digit = digit_of(*byte);
-        if digit >= base {
-            return None;
-        }
-        let Some(more) = with_digit(number, base, digit) else {
-            return large(base, &text[i + 1..]);
-        };
-        number = more;
-    }
-    Some(Magnitude::Word(number))
-}
-
-/// The number of digits that are known to be too many for 64 bits, by those that weren't read yet.
-#[cold]
-fn large(base: u64, rest: &[u8]) -> Option<Magnitude>
-    ensures { result ≡ (if list_all (λ b. nat_lt (digit b) base) rest.now then Some Magnitude.Large else None) }
-{
-    if all_digits(base, rest) {
-        Some(Magnitude::Large)
-    } else {
-        None
+    match digits_of(base, text) {
+        Digits::Whole(magnitude) => Some(magnitude),
+        Digits::Until(_) => None,
     }
 }
 
@@ -197,18 +234,21 @@ fn word(negative: bool, magnitude: Magnitude) -> Kind
     whole(negative, magnitude)
 }
 
-/// Reads the mantissa and the exponent in one pass.
-fn is_fraction(text: &[u8]) -> bool
-    ensures { result ≡ is_fraction text.now }
+/// Reads on behind the first digits of a mantissa, where there are any: the rest of it, and an exponent.
+fn is_fraction(begun: bool, text: &[u8]) -> bool
+    ensures { result ≡ fraction_from begun false text.now }
 {
-    let mut digits = false;
+    let mut digits = begun;
     let mut point = false;
     for (i, byte) in text.iter().enumerate() {
-        match byte {
-            b'0'..=b'9' => digits = true,
-            b'.' if !point => point = true,
-            b'e' | b'E' => return digits && is_exponent(&text[i + 1..]),
-            _ => return false,
+        if matches!(byte, b'0'..=b'9') {
+            digits = true;
+        } else if *byte == b'.' && !point {
+            point = true;
+        } else if *byte == b'e' || *byte == b'E' {
+            return digits && is_exponent(&text[i + 1..]);
+        } else {
+            return false;
         }
     }
     digits
@@ -229,8 +269,14 @@ mod tests {
     #[test]
     fn texts_and_their_kinds(rt: HostRuntime) {
         let plain = InferOpts::plain();
-        let octal = InferOpts { none: false, octal: true };
-        let none = InferOpts { none: true, octal: true };
+        let octal = InferOpts {
+            none: false,
+            octal: true,
+        };
+        let none = InferOpts {
+            none: true,
+            octal: true,
+        };
         let table: [(&[u8], InferOpts, Kind); 47] = [
             (b"", none, Kind::Empty),
             (b"7", none, Kind::Str),

@@ -1,6 +1,4 @@
-use Rattle.std.proofs.Common.{◌≡◌, arith, rules}
-use Rattle.std.proofs.lemmas.Grind.{common_steps}
-use Rattle.mlr_spec.specs.Infer.{base_of}
+use Rattle.std.proofs.Common.{rules}
 use Rattle.mlr_value.proofs.Rows.{magnitude_of-no_base}
 use Rattle.mlr_value.proofs.inference.based.Goals as goal
 

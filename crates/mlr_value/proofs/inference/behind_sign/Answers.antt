@@ -1,5 +1,8 @@
-use Rattle.std.proofs.Common.{◌≡◌, ◌∙◌, sym, refl, true, false, Some, None}
-use Rattle.mlr_value.proofs.Rows.{no_number, kind_from_rows}
+use Rattle.std.proofs.Common.{◌∙◌, ap, sym, refl, Some, None, arith}
+use Rattle.std.proofs.lemmas.List.Sums.{prefix_len-le-length}
+use Rattle.mlr_value.proofs.Fractions.{is_decimal}
+use Rattle.mlr_value.proofs.Magnitudes.{of_whole, of_whole-digits, place_of_until}
+use Rattle.mlr_value.proofs.Rows.{no_number, kind_from_rows, first_row-behind_digits, has_first}
 use Rattle.mlr_value.proofs.inference.behind_sign.Goals as goal
 
 pub returns-then-not-may_be_number : goal.returns-then-not-may_be_number
@@ -9,26 +12,25 @@ pub returns-in-Some : goal.returns-in-Some
 returns-in-Some c =
     c.whole.ensures
     ∙ kind_from_rows c.args.octal c.args.negative c.args.text.now (Some c.in-Some.magnitude) _ _ _
-        c.in-Some.ensures refl refl refl
+    c.in-Some.ensures refl refl refl
 
-pub returns-in-Some-magnitude_of : goal.returns-in-Some-magnitude_of
-returns-in-Some-magnitude_of c =
-    c.whole-in-Some-magnitude_of.ensures
-    ∙ kind_from_rows c.args.octal c.args.negative c.args.text.now None (Some c.in-Some-magnitude_of.magnitude) _ _
-        c.in_default.ensures c.in-Some-magnitude_of.ensures refl refl
+pub behind_digits-requires : goal.behind_digits-requires
+behind_digits-requires c =
+    let text = c.args.text.now in
+    let at_place = place_of_until 10 c.in-Until.place text c.in-Until.ensures in
+    record { place = at_place; within = omega (arith, at_place, prefix_len-le-length is_decimal text) }
 
-pub returns-in-Some-based : goal.returns-in-Some-based
-returns-in-Some-based c =
-    c.word.ensures
-    ∙ kind_from_rows c.args.octal c.args.negative c.args.text.now None None (Some c.in-Some-based.magnitude) _
-        c.in_default.ensures c.in_default-magnitude_of.ensures c.in-Some-based.ensures refl
+pub returns-in-Whole : goal.returns-in-Whole
+returns-in-Whole c =
+    let text = c.args.text.now in
+    c.whole-in-Whole.ensures
+    ∙ kind_from_rows c.args.octal c.args.negative text None (Some c.in-Whole.magnitude) _ _
+    c.in_default.ensures (ap of_whole c.in-Whole.ensures ∙ of_whole-digits 10 text (has_first text (cc))) refl refl
 
-pub returns-then-is_fraction : goal.returns-then-is_fraction
-returns-then-is_fraction c =
-    kind_from_rows c.args.octal c.args.negative c.args.text.now None None None true
-        c.in_default.ensures c.in_default-magnitude_of.ensures c.in_default-based.ensures c.if-is_fraction.ensures
-
-pub returns-else-is_fraction : goal.returns-else-is_fraction
-returns-else-is_fraction c =
-    kind_from_rows c.args.octal c.args.negative c.args.text.now None None None false
-        c.in_default.ensures c.in_default-magnitude_of.ensures c.in_default-based.ensures c.if-is_fraction.ensures
+pub returns-in-Until : goal.returns-in-Until
+returns-in-Until c =
+    let text = c.args.text.now in
+    c.behind_digits.ensures
+    ∙ first_row-behind_digits c.args.negative text
+    ∙ kind_from_rows c.args.octal c.args.negative text None None _ _
+    c.in_default.ensures (ap of_whole c.in-Until.ensures ∙ of_whole-digits 10 text (has_first text (cc))) refl refl
