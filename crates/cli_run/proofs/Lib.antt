@@ -2,3 +2,5 @@ pub mod Splits
 pub mod Pieces
 pub mod Joined
 pub mod LinesOf
+pub mod Takes
+pub mod Messages

@@ -3,3 +3,5 @@ pub mod Answer
 pub mod Pieces
 pub mod Written
 pub mod Conversion
+pub mod Reading
+pub mod Message

@@ -3,8 +3,10 @@
 #![tactic(auto)]
 
 mod answer;
+mod input;
 mod json;
 mod line;
+mod message;
 mod text;
 
 pub use answer::{Ended, Refusal, Why};
