@@ -1,0 +1,3 @@
+pub mod MemoryTexts
+pub mod MemoryInputs
+pub mod MemoryOutputs
