@@ -1,18 +1,17 @@
 -- What a reading that goes on does to the takes.
-use Rattle.std.proofs.Common.{◌≡◌, ℕ, zero, suc, ◌+◌, ◌-◌, ◌<◌, ◌≤◌, Bool, true, false, List, [], ◌∷◌, ◌++◌, length, take, drop, get_or, set, map, Option, Some, None, IsSome, All, refl, ap, subst, sym, ◌∙◌, arith}
+use Rattle.std.proofs.Common.{◌≡◌, ℕ, zero, suc, ◌+◌, true, false, List, [], ◌∷◌, ◌++◌, length, take, drop, get_or, set, map, Some, IsSome, All, refl, ap, subst, sym, ◌∙◌, arith}
 use Rattle.std.specs.Option.{option_map}
 use Rattle.std.proofs.lemmas.List.{append_assoc, map-append, get_or_default, length-take, length-drop, take-append-drop, take_all}
 use Rattle.std.proofs.lemmas.List.Elements.{All-push}
 use Rattle.std.proofs.Math.Seq.{take-add}
 use Rattle.mlr_event.specs.declared.names.InputName.{InputName}
 use Rattle.mlr_event.specs.declared.names.InputName.TheVariants as input
-use Rattle.mlr_world.specs.declared.inputs.Got.{Got}
 use Rattle.mlr_world.specs.declared.inputs.Got.TheVariants as got
 use Rattle.mlr_world.specs.declared.memory_inputs.Reading.{Reading}
-use Rattle.mlr_world.specs.Inputs.{ReadTakes, TakesPiece, MeetsEnd, TakesNothing}
+use Rattle.mlr_world.specs.Inputs.{ReadTakes}
 use Rattle.mlr_world.specs.MemoryTexts.{same_input, IsFirstPlace}
 use Rattle.mlr_world.specs.MemorySource.{contents_at}
-use Rattle.mlr_world.specs.MemoryInputs.{name_at, text_at, take_of, takes_of, last_name, open_of, IsReading, TakesFrom}
+use Rattle.mlr_world.specs.MemoryInputs.{name_at, text_at, take_of, takes_of, last_name, IsReading, TakesFrom}
 use Rattle.mlr_world.specs.Taken.{Take, begun, grown, ended, with_last, last_take}
 use Rattle.mlr_world.proofs.MemoryTexts.{first_at-place, same_input-true}
 

@@ -1,5 +1,5 @@
 -- What a write or an open does to the bytes of each target.
-use Rattle.std.proofs.Common.{◌≡◌, ℕ, ◌<◌, Bool, true, false, List, [], ◌∷◌, ◌++◌, length, take, drop, get_or, set, Option, Some, None, refl, ap, subst, sym, ◌∙◌, arith}
+use Rattle.std.proofs.Common.{◌≡◌, ℕ, ◌<◌, Bool, true, false, List, [], ◌∷◌, ◌++◌, length, take, drop, get_or, set, Option, Some, None, refl, ap, sym, ◌∙◌}
 use Rattle.std.specs.List.{list_any}
 use Rattle.std.proofs.lemmas.List.{length-set, take-set, get_or-set_same, take-append-drop}
 use Rattle.mlr_event.specs.declared.names.Target.{Target}
@@ -7,7 +7,7 @@ use Rattle.mlr_event.specs.declared.names.Mode.{Mode}
 use Rattle.mlr_event.specs.declared.names.Mode.TheVariants.{Fresh, Append}
 use Rattle.mlr_world.specs.declared.memory_outputs.HeldText.{HeldText}
 use Rattle.mlr_world.specs.declared.outputs.Done.TheVariants as done
-use Rattle.mlr_world.specs.Outputs.{ChangesOnly, OpenLeaves, WriteLeaves, IsFrontOf}
+use Rattle.mlr_world.specs.Outputs.{ChangesOnly, OpenLeaves, WriteLeaves}
 use Rattle.mlr_world.specs.MemoryTexts.{same_target, first_at, IsFirstPlace}
 use Rattle.mlr_world.specs.MemorySink.{held_at}
 use Rattle.mlr_world.specs.MemoryOutputs.{pair_of, pairs_of, is_of}

@@ -1,5 +1,5 @@
 -- The inputs in memory: what each name holds, and what was taken.
-use Rattle.std.specs.Prelude.{◌≡◌, ◌≤◌, ◌<◌, ◌+◌, ◌++◌, ℕ, Bool, true, false, List, [], ◌∷◌, length, take, drop, map, Option, Some, None, All, slice_index_or}
+use Rattle.std.specs.Prelude.{◌≡◌, ◌≤◌, ◌<◌, ◌+◌, ◌++◌, ℕ, Bool, true, false, List, [], length, take, drop, map, Option, Some, None, slice_index_or}
 use Rattle.std.specs.Option.{option_map}
 use Rattle.mlr_event.specs.declared.names.InputName.{InputName}
 use Rattle.mlr_event.specs.declared.names.InputName.TheVariants as input

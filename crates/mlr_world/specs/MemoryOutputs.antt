@@ -1,5 +1,5 @@
 -- The outputs in memory as pairs of a target and its bytes.
-use Rattle.std.specs.Prelude.{ℕ, Bool, List, map, Option}
+use Rattle.std.specs.Prelude.{ℕ, Bool, List, map}
 use Rattle.mlr_event.specs.declared.names.Target.{Target}
 use Rattle.mlr_world.specs.declared.memory_outputs.HeldText.{HeldText}
 use Rattle.mlr_world.specs.MemoryTexts.{same_target}

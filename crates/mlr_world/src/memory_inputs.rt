@@ -300,7 +300,11 @@ mod tests {
             let mut all = Bytes::new(rt.alloc());
             let got = five_reads(&mut inputs, max.max(1), &mut all);
             assert_eq!(rt; got, Ok(want), "in pieces of {pieces:?}");
-            assert_eq!(rt; all.as_slice(), b"abc".as_slice(), "in pieces of {pieces:?}");
+            assert_eq!(rt;
+                all.as_slice(),
+                b"abc".as_slice(),
+                "in pieces of {pieces:?}"
+            );
         }
         Ok(())
     }

@@ -73,8 +73,10 @@ impl MemOutputs {
     pub fn bytes_of(&self, target: &Target) -> Option<&[u8]>
         ensures { option_map (λ bytes. bytes.now) result ≡ held_at self.now.held target.now }
     {
-        let place = place_of(&self.held, target)?;
-        Some(self.held[place].text.as_slice())
+        match place_of(&self.held, target) {
+            Some(place) => Some(self.held[place].text.as_slice()),
+            None => None,
+        }
     }
 }
 

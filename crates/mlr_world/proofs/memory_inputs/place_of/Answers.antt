@@ -1,7 +1,3 @@
-use Rattle.std.proofs.Common.{◌≡◌, ◌||◌, ◌+◌, Bool, true, false, List, get_or, take, sym, ap, ◌∙◌}
-use Rattle.std.specs.List.{list_any}
-use Rattle.std.proofs.lemmas.List.{get_or_read}
-use Rattle.std.proofs.lemmas.List.Folds.{list_any_more}
 use Rattle.mlr_world.specs.MemoryTexts.{same_input}
 use Rattle.mlr_world.proofs.MemoryTexts.{same_input-from, same_input-false, is_first_place, list_any-goes_on, false_test}
 use Rattle.mlr_world.proofs.memory_inputs.place_of.Goals as goal

@@ -1,4 +1,4 @@
-use Rattle.std.proofs.Common.{◌≡◌, ◌+◌, ◌-◌, length, sym, subst, arith}
+use Rattle.std.proofs.Common.{◌≡◌, ◌+◌, ◌-◌, length, subst, arith}
 use Rattle.mlr_world.specs.declared.inputs.Got.TheVariants as got
 use Rattle.mlr_world.specs.MemoryInputs.{TakesFrom}
 use Rattle.mlr_world.proofs.MemoryInputs.{text-read, took, ended_at, name-grew, name-ended}

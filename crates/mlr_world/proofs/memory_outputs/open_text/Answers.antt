@@ -1,4 +1,4 @@
-use Rattle.std.proofs.Common.{Some, None, refl, sym, ap, ◌∙◌, subst}
+use Rattle.std.proofs.Common.{Some, None, refl, subst}
 use Rattle.mlr_world.specs.MemoryTexts.{IsFirstPlace}
 use Rattle.mlr_world.specs.Outputs.{OpenLeaves}
 use Rattle.mlr_world.specs.MemoryOutputs.{is_of}

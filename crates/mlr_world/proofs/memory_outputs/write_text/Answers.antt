@@ -1,4 +1,4 @@
-use Rattle.std.proofs.Common.{Some, None, refl, sym, ap, ◌∙◌, subst}
+use Rattle.std.proofs.Common.{Some, refl, subst}
 use Rattle.mlr_world.specs.MemoryTexts.{IsFirstPlace}
 use Rattle.mlr_world.specs.Outputs.{WriteLeaves}
 use Rattle.mlr_world.specs.MemoryOutputs.{is_of}

@@ -5,17 +5,17 @@ use Rattle.mlr_world.specs.MemoryOutputs.{is_of}
 use Rattle.mlr_world.proofs.MemoryOutputs.{held-absent, held-place}
 use Rattle.mlr_world.proofs.memory_outputs.MemOutputs.bytes_of.Goals as goal
 
-pub returns-in_err-place : goal.returns-in_err-place
-returns-in_err-place c =
+pub returns-in-Some : goal.returns-in-Some
+returns-in-Some c =
     let target = c.args.target.now in
     let entries = c.self.inside.held.items in
-    let absent = subst (λ entries. IsFirstPlace (is_of target) entries None) c.deref.ensures.value c.in_err-place.ensures in
-    rw c.from_residual.ensures (sym (ap (λ sink. held_at sink.held target) (sym c.self.view_is) ∙ held-absent entries target absent))
-
-pub returns : goal.returns
-returns c =
-    let target = c.args.target.now in
-    let entries = c.self.inside.held.items in
-    let found = subst (λ entries. IsFirstPlace (is_of target) entries (Some c.in_ok-place.place)) c.deref.ensures.value c.in_ok-place.ensures in
+    let found = subst (λ entries. IsFirstPlace (is_of target) entries (Some c.in-Some.place)) c.deref.ensures.value c.in-Some.ensures in
     ap Some c.as_slice.ensures.value
-    ∙ sym (ap (λ sink. held_at sink.held target) (sym c.self.view_is) ∙ held-place entries target c.in_ok-place.place c.index.result.now found c.index.ensures)
+    ∙ sym (ap (λ sink. held_at sink.held target) (sym c.self.view_is) ∙ held-place entries target c.in-Some.place c.index.result.now found c.index.ensures)
+
+pub returns-in-None : goal.returns-in-None
+returns-in-None c =
+    let target = c.args.target.now in
+    let entries = c.self.inside.held.items in
+    let absent = subst (λ entries. IsFirstPlace (is_of target) entries None) c.deref.ensures.value c.in-None.ensures in
+    sym (ap (λ sink. held_at sink.held target) (sym c.self.view_is) ∙ held-absent entries target absent)
