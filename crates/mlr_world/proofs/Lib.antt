@@ -1,1 +1,4 @@
 pub mod Changes
+mod MemoryTexts
+mod MemoryInputs
+mod MemoryOutputs

@@ -2,3 +2,8 @@ pub mod Counts
 pub mod Taken
 pub mod Inputs
 pub mod Outputs
+pub mod MemoryTexts
+pub mod MemorySource
+pub mod MemoryInputs
+pub mod MemorySink
+pub mod MemoryOutputs

@@ -3,7 +3,11 @@
 #![tactic(auto)]
 
 mod inputs;
+mod memory_inputs;
+mod memory_outputs;
 mod outputs;
 
 pub use inputs::{Got, Inputs, Opened};
+pub use memory_inputs::MemInputs;
+pub use memory_outputs::MemOutputs;
 pub use outputs::{Done, Outputs};

@@ -1,0 +1,55 @@
+-- The inputs in memory: what each name holds, and what was taken.
+use Rattle.std.specs.Prelude.{◌≡◌, ◌≤◌, ◌<◌, ◌+◌, ◌++◌, ℕ, Bool, true, false, List, [], length, take, drop, map, Option, Some, None, slice_index_or}
+use Rattle.std.specs.Option.{option_map}
+use Rattle.mlr_event.specs.declared.names.InputName.{InputName}
+use Rattle.mlr_event.specs.declared.names.InputName.TheVariants as input
+use Rattle.mlr_world.specs.declared.inputs.Got.{Got}
+use Rattle.mlr_world.specs.declared.inputs.Got.TheVariants as got
+use Rattle.mlr_world.specs.declared.memory_inputs.Reading.{Reading}
+use Rattle.mlr_world.specs.MemorySource.{contents_at}
+use Rattle.mlr_world.specs.Taken.{Take, last_take}
+
+-- the entry at a place
+abbrev pub entry_at : List (InputName × List ℕ) → ℕ → InputName × List ℕ
+entry_at contents place = slice_index_or contents place (input.Stdin, [])
+
+abbrev pub name_at : List (InputName × List ℕ) → ℕ → InputName
+name_at contents place = (entry_at contents place).0
+
+abbrev pub text_at : List (InputName × List ℕ) → ℕ → List ℕ
+text_at contents place = (entry_at contents place).1
+
+-- what a reading has taken: the first bytes of its entry
+abbrev pub take_of : List (InputName × List ℕ) → Reading → Take
+take_of contents reading =
+    record {
+      name = name_at contents reading.place;
+      bytes = take reading.count (text_at contents reading.place);
+      ended = reading.ended;
+    }
+
+abbrev pub takes_of : List (InputName × List ℕ) → List Reading → List Take
+takes_of contents readings = map (take_of contents) readings
+
+-- the name of the last take
+abbrev pub last_name : List Take → Option InputName
+last_name taken = option_map (λ take. take.name) (last_take taken)
+
+-- the same, if it is open
+abbrev pub open_of : Bool → List Take → Option InputName
+open_of true taken = last_name taken
+open_of false taken = None
+
+-- a reading stands within the first entry of its name
+pub record IsReading (contents : List (InputName × List ℕ)) (reading : Reading) : Type 0 where
+  pub there : reading.place < length contents
+  pub within : reading.count ≤ length (text_at contents reading.place)
+  pub first : contents_at contents (name_at contents reading.place) ≡ Some (text_at contents reading.place)
+
+-- what a read of at most so many bytes, from this place of a text on, puts behind the others
+abbrev pub TakesFrom : ℕ → List ℕ → ℕ → Got → List ℕ → List ℕ → Type 0
+TakesFrom max text place (got.Some n) into into' =
+    (0 < n) × (n ≤ max) × (place + n ≤ length text) × (into' ≡ into ++ take n (drop place text))
+TakesFrom max text place got.End into into' = (length text ≤ place) × (into' ≡ into)
+TakesFrom max text place got.Failed into into' = ⊥
+TakesFrom max text place got.NoMemory into into' = into' ≡ into

@@ -1,0 +1,321 @@
+ghost use Rattle.std.specs.Prelude.{◌≡◌, ◌<◌, ◌≤◌, false, Some, IfOk, IfSome, IsSome, All, length};
+ghost use Rattle.mlr_event.specs.declared.names.InputName.{InputName};
+ghost use Rattle.mlr_world.specs.Counts.{Counted};
+ghost use Rattle.mlr_world.specs.Taken.{Take};
+ghost use Rattle.mlr_world.specs.Inputs.{OpenTakes, OpenFinds, opens, open_failed, ReadTakes, read_failed};
+ghost use Rattle.mlr_world.specs.MemoryTexts.{same_input, IsFirstPlace};
+ghost use Rattle.mlr_world.specs.MemorySource.{Source, source_of, contents_at};
+ghost use Rattle.mlr_world.specs.MemoryInputs.{takes_of, last_name, IsReading, TakesFrom};
+
+use crate::{Got, Inputs, Opened};
+use mlr_event::InputName;
+use mlr_spec::NoMemory;
+use mlr_value::Bytes;
+use std::alloc::Global;
+use std::marker::Model;
+
+/// The calls that are to fail, by their numbers from 1, and how many calls there were.
+#[derive(Drop)]
+pub(crate) struct Failing {
+    numbers: Vec<u64>,
+    calls: u64,
+}
+
+impl Failing {
+    pub(crate) fn new(numbers: Vec<u64>) -> Failing {
+        Failing { numbers, calls: 0 }
+    }
+
+    /// Counts a call, and says whether it is to fail.
+    pub(crate) fn next(&mut self) -> bool {
+        self.calls = self.calls.saturating_add(1);
+        self.numbers.contains(&self.calls)
+    }
+}
+
+/// What was taken from one input: of the entry at this place, so many of its first bytes.
+#[derive(Clone, Copy)]
+struct Reading {
+    place: usize,
+    count: usize,
+    ended: bool,
+}
+
+/// Inputs in memory, for tests: they give what they are told to hold, in pieces of the sizes that they are told,
+/// and fail at the calls that they are told.
+#[derive(Drop)]
+pub struct MemInputs {
+    contents: Vec<(InputName, Bytes)>,
+    pieces: Vec<usize>,
+    given: usize,
+    failing: Failing,
+    readings: Vec<Reading>,
+    is_open: bool,
+    faults: u64,
+}
+
+impl Model for MemInputs {
+    ghost use Rattle.std.specs.Prelude.{All};
+    ghost use Rattle.mlr_world.specs.MemorySource.{Source};
+
+    ghost Value = { Source };
+
+    ghost use Rattle.mlr_world.specs.MemoryInputs.{takes_of, open_of, IsReading};
+
+    ghost view = { λ s. record { contents = s.contents.items; taken = takes_of s.contents.items s.readings.items; open_name = open_of s.is_open (takes_of s.contents.items s.readings.items); faults = s.faults } };
+
+    ghost invariant = { λ s. All (IsReading s.contents.items) s.readings.items };
+}
+
+impl MemInputs {
+    /// Inputs with these contents, where the first entry of a name counts and opening any other name is a fault.
+    ///
+    /// The successful read number i, where it gives bytes, gives at most `pieces[i]` of them, at least one; past
+    /// the list a read gives all that it may. `failing` has the numbers, from 1 over all calls of `open` and
+    /// `read`, of those that fail.
+    pub fn new(
+        alloc: Global,
+        contents: Vec<(InputName, Bytes)>,
+        pieces: Vec<usize>,
+        failing: Vec<u64>,
+    ) -> Result<MemInputs, NoMemory>
+        ensures { IfOk result (λ made. made ≡ source_of contents.items) }
+    {
+        Ok(MemInputs {
+            readings: Vec::with_capacity(alloc, contents.len())?,
+            contents,
+            pieces,
+            given: 0,
+            failing: Failing::new(failing),
+            is_open: false,
+            faults: 0,
+        })
+    }
+}
+
+impl Inputs for MemInputs {
+    ghost contents = { λ s. Some (contents_at s.contents) };
+
+    ghost taken = { λ s. Some s.taken };
+
+    ghost open_name = { λ s. s.open_name };
+
+    ghost faults = { λ s _. s.faults };
+
+    fn open(&mut self, name: &InputName) -> Opened {
+        self.is_open = false;
+        if self.failing.next() {
+            self.faults = self.faults.saturating_add(1);
+            return Opened::Failed;
+        }
+        let Some(place) = place_of(&self.contents, name) else {
+            self.faults = self.faults.saturating_add(1);
+            return Opened::Failed;
+        };
+        let reading = Reading {
+            place,
+            count: 0,
+            ended: false,
+        };
+        match self.readings.push(reading) {
+            Ok(()) => {
+                self.is_open = true;
+                Opened::Ok
+            }
+            Err(_) => Opened::NoMemory,
+        }
+    }
+
+    fn read(&mut self, max: usize, into: &mut Bytes) -> Got {
+        if self.failing.next() {
+            self.faults = self.faults.saturating_add(1);
+            return Got::Failed;
+        }
+        let size = size_at(&self.pieces, self.given);
+        let got = take_on(&self.contents, &mut self.readings, max, size, into);
+        if let Got::Some(_) = got {
+            self.given = self.given.saturating_add(1);
+        }
+        got
+    }
+}
+
+/// The place of the first entry with this name.
+fn place_of(contents: &[(InputName, Bytes)], name: &InputName) -> Option<usize>
+    ensures { IsFirstPlace (λ entry. same_input entry.0 name.now) contents.now result }
+{
+    for (place, entry) in contents.iter().enumerate() {
+        if entry.0.is(name) {
+            return Some(place);
+        }
+    }
+    None
+}
+
+/// The size of the piece with this number, at least 1.
+fn size_at(pieces: &[usize], number: usize) -> usize
+    ensures { 0 < result }
+{
+    match pieces.get(number) {
+        Some(size) => (*size).max(1),
+        None => usize::MAX,
+    }
+}
+
+/// Goes on with the last reading.
+fn take_on(
+    contents: &[(InputName, Bytes)],
+    readings: &mut Vec<Reading>,
+    max: usize,
+    size: usize,
+    into: &mut Bytes,
+) -> Got
+    requires some { 0 < max }
+    requires piece { 0 < size }
+    requires last { 0 < length readings.old.items }
+    requires fine { All (IsReading contents.now) readings.old.items }
+    ensures taken { ReadTakes max result (Some (contents_at contents.now))
+        (Some (takes_of contents.now readings.old.items))
+        (Some (takes_of contents.now readings.new.items)) into.old into.new }
+    ensures no_fault { read_failed result ≡ false }
+    ensures fine { All (IsReading contents.now) readings.new.items }
+    ensures name { last_name (takes_of contents.now readings.new.items)
+        ≡ last_name (takes_of contents.now readings.old.items) }
+{
+    let last = readings.len() - 1;
+    let reading = readings[last];
+    let text = contents[reading.place].1.as_slice();
+    let got = take_from(text, reading.count, max, size, into);
+    match got {
+        Got::Some(count) => {
+            readings[last] = Reading {
+                count: reading.count + count,
+                ..reading
+            };
+        }
+        Got::End => {
+            readings[last] = Reading {
+                ended: true,
+                ..reading
+            };
+        }
+        Got::Failed | Got::NoMemory => {}
+    }
+    got
+}
+
+/// Takes of the text from this place on, at most `max` bytes and at most `size`.
+fn take_from(text: &[u8], place: usize, max: usize, size: usize, into: &mut Bytes) -> Got
+    requires some { 0 < max }
+    requires piece { 0 < size }
+    requires within { place ≤ length text.now }
+    ensures { TakesFrom max text.now place result into.old into.new }
+{
+    let left = &text[place..];
+    if left.is_empty() {
+        return Got::End;
+    }
+    let count = left.len().min(max).min(size);
+    match into.append(&left[..count]) {
+        Ok(()) => Got::Some(count),
+        Err(NoMemory) => Got::NoMemory,
+    }
+}
+
+#[cfg(test)]
+mod tests {
+    use super::*;
+
+    fn abc(alloc: Global, pieces: &[usize], failing: &[u64]) -> Result<MemInputs, NoMemory> {
+        let mut contents = Vec::new(alloc);
+        contents.push((InputName::Stdin, Bytes::copy_of(alloc, b"abc")?))?;
+        MemInputs::new(
+            alloc,
+            contents,
+            Vec::from_slice(alloc, pieces)?,
+            Vec::from_slice(alloc, failing)?,
+        )
+    }
+
+    /// Opens the input and reads five times.
+    fn five_reads(inputs: &mut MemInputs, max: usize, all: &mut Bytes) -> Result<[Got; 5], Opened>
+        requires { 0 < max }
+    {
+        match inputs.open(&InputName::Stdin) {
+            Opened::Ok => {}
+            other => return Err(other),
+        }
+        let first = inputs.read(max, all);
+        let second = inputs.read(max, all);
+        let third = inputs.read(max, all);
+        let fourth = inputs.read(max, all);
+        let fifth = inputs.read(max, all);
+        Ok([first, second, third, fourth, fifth])
+    }
+
+    #[test]
+    fn reads_pieces(rt: HostRuntime) -> Result<(), NoMemory> {
+        let none: &[u64] = &[];
+        let whole: &[usize] = &[];
+        let table: [(&[usize], usize, &[u64], [Got; 5]); 6] = [
+            (
+                whole,
+                9,
+                none,
+                [Got::Some(3), Got::End, Got::End, Got::End, Got::End],
+            ),
+            (
+                whole,
+                2,
+                none,
+                [Got::Some(2), Got::Some(1), Got::End, Got::End, Got::End],
+            ),
+            (
+                &[1, 1, 1],
+                9,
+                none,
+                [Got::Some(1), Got::Some(1), Got::Some(1), Got::End, Got::End],
+            ),
+            (
+                &[2],
+                9,
+                none,
+                [Got::Some(2), Got::Some(1), Got::End, Got::End, Got::End],
+            ),
+            (
+                &[0, 9],
+                9,
+                none,
+                [Got::Some(1), Got::Some(2), Got::End, Got::End, Got::End],
+            ),
+            (
+                &[1],
+                9,
+                &[3],
+                [Got::Some(1), Got::Failed, Got::Some(2), Got::End, Got::End],
+            ),
+        ];
+        for (pieces, max, failing, want) in table {
+            let mut inputs = abc(rt.alloc(), pieces, failing)?;
+            let mut all = Bytes::new(rt.alloc());
+            let got = five_reads(&mut inputs, max.max(1), &mut all);
+            assert_eq!(rt; got, Ok(want), "in pieces of {pieces:?}");
+            assert_eq!(rt;
+                all.as_slice(),
+                b"abc".as_slice(),
+                "in pieces of {pieces:?}"
+            );
+        }
+        Ok(())
+    }
+
+    #[test]
+    fn opens_only_what_is_listed(rt: HostRuntime) -> Result<(), NoMemory> {
+        let mut inputs = abc(rt.alloc(), &[], &[2])?;
+        let file = InputName::File(Bytes::copy_of(rt.alloc(), b"abc")?);
+        assert_eq!(rt; inputs.open(&file), Opened::Failed);
+        assert_eq!(rt; inputs.open(&InputName::Stdin), Opened::Failed);
+        assert_eq!(rt; inputs.open(&InputName::Stdin), Opened::Ok);
+        Ok(())
+    }
+}
