@@ -5,3 +5,5 @@ pub mod Written
 pub mod Conversion
 pub mod Reading
 pub mod Message
+pub mod Run
+pub mod Cat

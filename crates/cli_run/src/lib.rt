@@ -7,6 +7,8 @@ mod input;
 mod json;
 mod line;
 mod message;
+mod run;
 mod text;
 
 pub use answer::{Ended, Refusal, Why};
+pub use run::run_mlr;

@@ -12,5 +12,5 @@ Counted {N} false before now name = (other : N) → now other ≡ before other
 
 -- the same of one count
 abbrev pub Tallied : Bool → ℕ → ℕ → Type 0
-Tallied true before now = Rose before now
+Tallied true before now = (before ≤ now) × Rose before now
 Tallied false before now = now ≡ before
