@@ -4,6 +4,10 @@
 
 mod inputs;
 mod outputs;
+mod real_inputs;
+mod real_outputs;
 
 pub use inputs::{Got, Inputs, Opened};
 pub use outputs::{Done, Outputs};
+pub use real_inputs::RealInputs;
+pub use real_outputs::{ErrorStream, RealOutputs};
