@@ -1,5 +1,5 @@
-ghost use Rattle.std.specs.Prelude.{◌≡◌, ◌↔◌, ℕ, ◌≤◌, [], ◌++◌, length, take, drop, min, None, IsTrue, IfOk, OnOk, OnErr};
-ghost use Rattle.std.specs.Io.{ReadsAtMost};
+ghost use Rattle.std.specs.Prelude.{◌≡◌, ◌↔◌, ◌≤◌, [], ◌++◌, length, take, drop, min, None, IsTrue, IfOk, OnOk, OnErr};
+ghost use Rattle.mlr_event.specs.declared.names.InputName.{InputName};
 ghost use Rattle.std.specs.Io.KnownBytes.{Consumes, IsAtEnd, Keeps};
 
 use crate::{Got, Inputs, Opened};
@@ -36,7 +36,10 @@ pub struct RealInputs<R: Files + Input> {
 
 impl<R: Files + Input + Drop> RealInputs<R> {
     /// None is open yet. It takes memory for one buffer, and later only for names and for what a read hands out.
-    pub fn new(alloc: Global, rt: R) -> Result<Self, NoMemory> {
+    pub fn new(alloc: Global, rt: R) -> Result<Self, NoMemory>
+        ensures closed { IfOk result (λ made. ⟦<RealInputs<R> as Inputs>⟧.open_name made ≡ None) }
+        ensures faults { IfOk result (λ made. (name : InputName) → ⟦<RealInputs<R> as Inputs>⟧.faults made name ≡ 0) }
+    {
         let unread = Unread::new(alloc)?;
         let stdin = rt.reader();
         Ok(RealInputs {
@@ -155,13 +158,13 @@ struct Unread {
 }
 
 impl Model for Unread {
-    ghost use Rattle.std.specs.Prelude.{◌≡◌, ℕ, ◌≤◌, ◌-◌, List, length, take, drop};
+    ghost use Rattle.std.specs.Prelude.{ℕ, ◌≤◌, List, length, take, drop};
 
     ghost Value = { List ℕ };
 
     ghost view = { λ u. drop u.start (take u.end u.buffer.items) };
 
-    ghost invariant = { λ u. (u.start ≤ u.end) × (u.end ≤ length u.buffer.items) × (length u.buffer.items ≡ 65536) };
+    ghost invariant = { λ u. (u.start ≤ u.end) × (u.end ≤ length u.buffer.items) × (1 ≤ length u.buffer.items) };
 }
 
 impl Unread {
@@ -279,6 +282,7 @@ mod tests {
             text.as_slice(),
             b"one\ntwo\r\n\xffone\ntwo\r\n\xff".as_slice()
         );
+        fs::remove_file(&rt, "pieces.txt")?;
         Ok(())
     }
 

@@ -1,4 +1,6 @@
-ghost use Rattle.std.specs.Prelude.{◌≡◌, ◌+◌, ◌<◌, ◌≤◌, None, OnOk, vec_len, vec_capacity};
+ghost use Rattle.std.specs.Prelude.{◌≡◌, ◌≢◌, ◌↔◌, ◌<◌, ◌≤◌, None, All, IsOk, IsErr, IsErrAnd, IfSome, IfNone, length, slice_get, vec_len, vec_capacity};
+ghost use Rattle.std.specs.IoError.{error_kind};
+ghost use Rattle.mlr_event.specs.declared.names.Target.{Target};
 ghost use Rattle.mlr_world.specs.Counts.{Tallied};
 ghost use Rattle.mlr_world.specs.Outputs.{call_failed, lacked_memory};
 
@@ -31,8 +33,6 @@ struct FileOutput<F> {
 }
 
 /// The files of the system by name, standard output and standard error. Nothing is buffered here.
-///
-/// A write that finds no memory in the system has failed, since bytes before may have gone out.
 #[derive(Drop)]
 pub struct RealOutputs<R: Files + Print + ErrorStream> {
     alloc: Global,
@@ -43,7 +43,10 @@ pub struct RealOutputs<R: Files + Print + ErrorStream> {
 
 impl<R: Files + Print + ErrorStream> RealOutputs<R> {
     /// No file is open yet. It takes no memory.
-    pub fn new(alloc: Global, rt: R) -> Self {
+    pub fn new(alloc: Global, rt: R) -> Self
+        ensures faults { (target : Target) → ⟦<RealOutputs<R> as Outputs>⟧.faults result target ≡ 0 }
+        ensures shortages { ⟦<RealOutputs<R> as Outputs>⟧.shortages result ≡ 0 }
+    {
         RealOutputs {
             alloc,
             rt,
@@ -67,7 +70,7 @@ impl<R: Files + Print + ErrorStream> Outputs for RealOutputs<R> {
         let done = match target {
             Target::Stdout | Target::Stderr => Done::Ok,
             Target::File(name) => {
-                done_of(open_file(&self.rt, self.alloc, &mut self.files, target, name, mode))
+                done_of_open(open_file(&self.rt, self.alloc, &mut self.files, target, name, mode))
             }
         };
         self.counts.add(done);
@@ -80,10 +83,7 @@ impl<R: Files + Print + ErrorStream> Outputs for RealOutputs<R> {
             Target::Stderr => self.rt.write_error(bytes),
             Target::File(_) => write_file(&mut self.files, target, bytes),
         };
-        let done = match answer {
-            Ok(()) => Done::Ok,
-            Err(_) => Done::Failed,
-        };
+        let done = done_of_write(answer);
         self.counts.add(done);
         done
     }
@@ -104,8 +104,22 @@ impl<R: Files + Print + ErrorStream> Outputs for RealOutputs<R> {
     }
 }
 
-/// How a call ended that changes nothing where it finds no memory.
-fn done_of(answer: io::Result<()>) -> Done {
+/// How a write ended. It has failed also where the system had no memory, since bytes before may have gone out.
+fn done_of_write(answer: io::Result<()>) -> Done
+    ensures ok { (result ≡ Done.Ok) ↔ IsOk answer }
+    ensures failed { (result ≡ Done.Failed) ↔ IsErr answer }
+{
+    match answer {
+        Ok(()) => Done::Ok,
+        Err(_) => Done::Failed,
+    }
+}
+
+/// How an open ended, which changes nothing where it finds no memory.
+fn done_of_open(answer: io::Result<()>) -> Done
+    ensures ok { (result ≡ Done.Ok) ↔ IsOk answer }
+    ensures memory { (result ≡ Done.NoMemory) ↔ IsErrAnd answer (λ e. error_kind e ≡ ErrorKind.OutOfMemory) }
+{
     match answer {
         Ok(()) => Done::Ok,
         Err(e) => {
@@ -151,12 +165,10 @@ fn write_file<F: Write>(
     target: &Target,
     bytes: &[u8],
 ) -> io::Result<()> {
-    for output in files {
-        if output.target.is(target) {
-            return output.file.write_all(bytes);
-        }
+    match place_of(files, target) {
+        Some(place) => files[place].file.write_all(bytes),
+        None => Err(Error::from(ErrorKind::NotFound)),
     }
-    Err(Error::from(ErrorKind::NotFound))
 }
 
 /// Closes the file of a target, and says whether it was open.
@@ -164,13 +176,27 @@ fn close_file<F: Drop>(files: &mut Vec<FileOutput<F>>, target: &Target) -> bool
     ensures len { vec_len files.new ≤ vec_len files.old }
     ensures capacity { vec_capacity files.new ≡ vec_capacity files.old }
 {
-    match files.iter().position(|output| output.target.is(target)) {
+    match place_of(files, target) {
         Some(place) => {
             files.swap_remove(place);
             true
         }
         None => false,
     }
+}
+
+/// The place of the file that is open for a target.
+fn place_of<F>(files: &[FileOutput<F>], target: &Target) -> Option<usize>
+    ensures bound { IfSome result (λ place. place < length files.now) }
+    ensures here { IfSome result (λ place. IfSome (slice_get files.now place) (λ output. output.target ≡ target.now)) }
+    ensures absent { IfNone result (All (λ output. output.target ≢ target.now) files.now) }
+{
+    for (place, output) in files.iter().enumerate() {
+        if output.target.is(target) {
+            return Some(place);
+        }
+    }
+    None
 }
 
 /// How often calls ended badly. Neither count falls, and each stands still at its last value.
@@ -231,6 +257,8 @@ mod tests {
         assert_eq!(rt; outputs.write(&one, b"again\n"), Done::Ok);
         assert_eq!(rt; outputs.close(&one), Done::Ok);
         assert_eq!(rt; fs::read_to_string(&rt, "one.txt")?.as_str(), "again\n");
+        fs::remove_file(&rt, "one.txt")?;
+        fs::remove_file(&rt, "two.txt")?;
         assert_eq!(rt; outputs.counts.faults, 0);
         Ok(())
     }
