@@ -6,8 +6,12 @@ mod inputs;
 mod memory_inputs;
 mod memory_outputs;
 mod outputs;
+mod real_inputs;
+mod real_outputs;
 
 pub use inputs::{Got, Inputs, Opened};
 pub use memory_inputs::MemInputs;
 pub use memory_outputs::MemOutputs;
 pub use outputs::{Done, Outputs};
+pub use real_inputs::RealInputs;
+pub use real_outputs::{ErrorStream, RealOutputs};

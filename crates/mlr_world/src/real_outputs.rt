@@ -1,0 +1,296 @@
+ghost use Rattle.std.specs.Prelude.{◌≡◌, ◌≢◌, ◌↔◌, ◌<◌, ◌≤◌, None, All, IsOk, IsErr, IsErrAnd, IfSome, IfNone, length, slice_get, vec_len, vec_capacity};
+ghost use Rattle.std.specs.IoError.{error_kind};
+ghost use Rattle.mlr_event.specs.declared.names.Target.{Target};
+ghost use Rattle.mlr_world.specs.Counts.{Tallied};
+ghost use Rattle.mlr_world.specs.Outputs.{call_failed, lacked_memory};
+
+use crate::{Done, Outputs};
+use mlr_event::{Mode, Target};
+use mlr_value::Bytes;
+use std::alloc::Global;
+use std::fs::OpenOptions;
+use std::io::{Error, ErrorKind, Write};
+use std::rt::Files;
+use std::{io, str};
+
+/// A runtime with a standard error that takes bytes. `Eprint` of std takes texts alone.
+pub trait ErrorStream {
+    /// Writes all the bytes, or fails.
+    fn write_error(&self, bytes: &[u8]) -> io::Result<()>;
+}
+
+impl ErrorStream for HostRuntime {
+    fn write_error(&self, bytes: &[u8]) -> io::Result<()> {
+        self.stderr().write_all(bytes)
+    }
+}
+
+/// A file that is open, with the target that it stands for.
+#[derive(Drop)]
+struct FileOutput<F> {
+    target: Target,
+    file: F,
+}
+
+/// The files of the system by name, standard output and standard error. Nothing is buffered here.
+#[derive(Drop)]
+pub struct RealOutputs<R: Files + Print + ErrorStream> {
+    alloc: Global,
+    rt: R,
+    files: Vec<FileOutput<R::File>>,
+    counts: Counts,
+}
+
+impl<R: Files + Print + ErrorStream> RealOutputs<R> {
+    /// No file is open yet. It takes no memory.
+    pub fn new(alloc: Global, rt: R) -> Self
+        ensures faults { (target : Target) → ⟦<RealOutputs<R> as Outputs>⟧.faults result target ≡ 0 }
+        ensures shortages { ⟦<RealOutputs<R> as Outputs>⟧.shortages result ≡ 0 }
+    {
+        RealOutputs {
+            alloc,
+            rt,
+            files: Vec::new(alloc),
+            counts: Counts {
+                faults: 0,
+                shortages: 0,
+            },
+        }
+    }
+}
+
+impl<R: Files + Print + ErrorStream> Outputs for RealOutputs<R> {
+    ghost held = { λ _. None };
+
+    ghost faults = { λ s _. s.counts.faults };
+
+    ghost shortages = { λ s. s.counts.shortages };
+
+    fn open(&mut self, target: &Target, mode: Mode) -> Done {
+        let done = match target {
+            Target::Stdout | Target::Stderr => Done::Ok,
+            Target::File(name) => {
+                done_of_open(open_file(&self.rt, self.alloc, &mut self.files, target, name, mode))
+            }
+        };
+        self.counts.add(done);
+        done
+    }
+
+    fn write(&mut self, target: &Target, bytes: &[u8]) -> Done {
+        let answer = match target {
+            Target::Stdout => self.rt.write_all(bytes),
+            Target::Stderr => self.rt.write_error(bytes),
+            Target::File(_) => write_file(&mut self.files, target, bytes),
+        };
+        let done = done_of_write(answer);
+        self.counts.add(done);
+        done
+    }
+
+    fn close(&mut self, target: &Target) -> Done {
+        let done = match target {
+            Target::Stdout | Target::Stderr => Done::Ok,
+            Target::File(_) => {
+                if close_file(&mut self.files, target) {
+                    Done::Ok
+                } else {
+                    Done::Failed
+                }
+            }
+        };
+        self.counts.add(done);
+        done
+    }
+}
+
+/// How a write ended. It has failed also where the system had no memory, since bytes before may have gone out.
+fn done_of_write(answer: io::Result<()>) -> Done
+    ensures ok { (result ≡ Done.Ok) ↔ IsOk answer }
+    ensures failed { (result ≡ Done.Failed) ↔ IsErr answer }
+{
+    match answer {
+        Ok(()) => Done::Ok,
+        Err(_) => Done::Failed,
+    }
+}
+
+/// How an open ended, which changes nothing where it finds no memory.
+fn done_of_open(answer: io::Result<()>) -> Done
+    ensures ok { (result ≡ Done.Ok) ↔ IsOk answer }
+    ensures memory { (result ≡ Done.NoMemory) ↔ IsErrAnd answer (λ e. error_kind e ≡ ErrorKind.OutOfMemory) }
+{
+    match answer {
+        Ok(()) => Done::Ok,
+        Err(e) => {
+            if e.kind() == ErrorKind::OutOfMemory {
+                Done::NoMemory
+            } else {
+                Done::Failed
+            }
+        }
+    }
+}
+
+/// Opens the file of a target, and closes the one that was open for it. The memory is taken first.
+fn open_file<R: Files>(
+    rt: &R,
+    alloc: Global,
+    files: &mut Vec<FileOutput<R::File>>,
+    target: &Target,
+    name: &Bytes,
+    mode: Mode,
+) -> io::Result<()> {
+    let Ok(path) = str::from_utf8(name.as_slice()) else {
+        return Err(Error::from(ErrorKind::InvalidInput));
+    };
+    let Ok(target) = target.copy(alloc) else {
+        return Err(Error::from(ErrorKind::OutOfMemory));
+    };
+    files.reserve(1)?;
+    close_file(files, &target);
+    let mut how = OpenOptions::new();
+    match mode {
+        Mode::Fresh => how.write(true).create(true).truncate(true),
+        Mode::Append => how.append(true).create(true),
+    };
+    let file = how.open(rt, path)?;
+    files.push(FileOutput { target, file }).unwrap();
+    Ok(())
+}
+
+/// Writes all the bytes to the file of a target. It fails where none is open.
+fn write_file<F: Write>(
+    files: &mut [FileOutput<F>],
+    target: &Target,
+    bytes: &[u8],
+) -> io::Result<()> {
+    match place_of(files, target) {
+        Some(place) => files[place].file.write_all(bytes),
+        None => Err(Error::from(ErrorKind::NotFound)),
+    }
+}
+
+/// Closes the file of a target, and says whether it was open.
+fn close_file<F: Drop>(files: &mut Vec<FileOutput<F>>, target: &Target) -> bool
+    ensures len { vec_len files.new ≤ vec_len files.old }
+    ensures capacity { vec_capacity files.new ≡ vec_capacity files.old }
+{
+    match place_of(files, target) {
+        Some(place) => {
+            files.swap_remove(place);
+            true
+        }
+        None => false,
+    }
+}
+
+/// The place of the file that is open for a target.
+fn place_of<F>(files: &[FileOutput<F>], target: &Target) -> Option<usize>
+    ensures bound { IfSome result (λ place. place < length files.now) }
+    ensures here { IfSome result (λ place. IfSome (slice_get files.now place) (λ output. output.target ≡ target.now)) }
+    ensures absent { IfNone result (All (λ output. output.target ≢ target.now) files.now) }
+{
+    for (place, output) in files.iter().enumerate() {
+        if output.target.is(target) {
+            return Some(place);
+        }
+    }
+    None
+}
+
+/// How often calls ended badly. Neither count falls, and each stands still at its last value.
+#[derive(Drop)]
+struct Counts {
+    faults: u64,
+    shortages: u64,
+}
+
+impl Counts {
+    /// Counts how a call ended.
+    fn add(&mut self, done: Done)
+        ensures faults { Tallied (call_failed done) self.old.faults self.new.faults }
+        ensures faults_stay { self.old.faults ≤ self.new.faults }
+        ensures shortages { Tallied (lacked_memory done) self.old.shortages self.new.shortages }
+    {
+        match done {
+            Done::Ok => {}
+            Done::Failed => self.faults = self.faults.saturating_add(1),
+            Done::NoMemory => self.shortages = self.shortages.saturating_add(1),
+        }
+    }
+}
+
+#[cfg(test)]
+mod tests {
+    use super::*;
+    use std::fs;
+    use std::test::Fail;
+
+    /// What a program asks of its outputs, which it hands to a thread.
+    fn ready<O: Outputs + Drop + Send + 'static>(outputs: O) -> O
+        ensures { result ≡ outputs }
+    {
+        outputs
+    }
+
+    #[test]
+    fn writes_files(rt: HostRuntime) -> Result<(), Fail> {
+        let alloc = rt.alloc();
+        let mut outputs = ready(RealOutputs::new(alloc, rt));
+        let one = Target::File(Bytes::copy_of(alloc, b"one.txt")?);
+        let two = Target::File(Bytes::copy_of(alloc, b"two.txt")?);
+        assert_eq!(rt; outputs.open(&one, Mode::Fresh), Done::Ok);
+        assert_eq!(rt; outputs.open(&two, Mode::Append), Done::Ok);
+        assert_eq!(rt; outputs.write(&one, b"first\n"), Done::Ok);
+        assert_eq!(rt; outputs.write(&two, b"other\n"), Done::Ok);
+        assert_eq!(rt; outputs.write(&one, b"second\n"), Done::Ok);
+        assert_eq!(rt; outputs.close(&one), Done::Ok);
+        assert_eq!(rt; outputs.open(&one, Mode::Append), Done::Ok);
+        assert_eq!(rt; outputs.write(&one, b"third\n"), Done::Ok);
+        assert_eq!(rt;
+            fs::read_to_string(&rt, "one.txt")?.as_str(),
+            "first\nsecond\nthird\n"
+        );
+        assert_eq!(rt; fs::read_to_string(&rt, "two.txt")?.as_str(), "other\n");
+        assert_eq!(rt; outputs.open(&one, Mode::Fresh), Done::Ok);
+        assert_eq!(rt; outputs.write(&one, b"again\n"), Done::Ok);
+        assert_eq!(rt; outputs.close(&one), Done::Ok);
+        assert_eq!(rt; fs::read_to_string(&rt, "one.txt")?.as_str(), "again\n");
+        fs::remove_file(&rt, "one.txt")?;
+        fs::remove_file(&rt, "two.txt")?;
+        assert_eq!(rt; outputs.counts.faults, 0);
+        Ok(())
+    }
+
+    #[test]
+    fn counts_what_fails(rt: HostRuntime) -> Result<(), Fail> {
+        let alloc = rt.alloc();
+        let mut outputs = RealOutputs::new(alloc, rt);
+        let target = Target::File(Bytes::copy_of(alloc, b"/dev/full")?);
+        assert_eq!(rt; outputs.write(&target, b"a"), Done::Failed);
+        assert_eq!(rt; outputs.close(&target), Done::Failed);
+        assert_eq!(rt; outputs.open(&target, Mode::Append), Done::Ok);
+        assert_eq!(rt; outputs.write(&target, b"a"), Done::Failed);
+        assert_eq!(rt; outputs.close(&target), Done::Ok);
+        let not_text = Target::File(Bytes::copy_of(alloc, b"\xff")?);
+        assert_eq!(rt; outputs.open(&not_text, Mode::Fresh), Done::Failed);
+        let in_no_folder = Target::File(Bytes::copy_of(alloc, b"none/such.txt")?);
+        assert_eq!(rt; outputs.open(&in_no_folder, Mode::Fresh), Done::Failed);
+        assert_eq!(rt; outputs.counts.faults, 5);
+        assert_eq!(rt; outputs.counts.shortages, 0);
+        Ok(())
+    }
+
+    #[test]
+    fn writes_streams(rt: HostRuntime) -> Result<(), Fail> {
+        let mut outputs = RealOutputs::new(rt.alloc(), rt);
+        for target in [Target::Stdout, Target::Stderr] {
+            assert_eq!(rt; outputs.open(&target, Mode::Fresh), Done::Ok);
+            assert_eq!(rt; outputs.write(&target, b"to a stream \xff\n"), Done::Ok);
+            assert_eq!(rt; outputs.close(&target), Done::Ok);
+        }
+        assert_eq!(rt; outputs.counts.faults, 0);
+        Ok(())
+    }
+}
