@@ -4,3 +4,6 @@ pub mod Joined
 pub mod LinesOf
 pub mod Takes
 pub mod Messages
+pub mod Runs
+pub mod Opened
+pub mod Top

@@ -19,6 +19,7 @@ pub(crate) fn write_message<O: Outputs>(
     digits: &mut Buffer,
     outputs: &mut O,
 ) -> Done
+    ensures none { ended.now ≡ Ended.Done → result ≡ Done.Ok }
     ensures bytes { ChangesAt Stderr (Puts (message_of words.now ended.now) result) (O.held outputs.old) (O.held outputs.new) }
     ensures counts { Counted (call_failed result) (O.faults outputs.old) (O.faults outputs.new) Stderr }
     ensures memory { Tallied (lacked_memory result) (O.shortages outputs.old) (O.shortages outputs.new) }

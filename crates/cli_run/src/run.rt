@@ -55,15 +55,33 @@ pub fn run_mlr<R: Threads + Wait + Copy + Send + 'static, I: Inputs + Drop + Sen
     let _ = env;
     let mut digits = Buffer::new();
     let mut inputs = inputs;
-    let ended = match refused_word(words) {
+    let ended = run_command(alloc, words, &mut inputs, outputs);
+    let _ = write_message(words, &ended, &mut digits, outputs);
+    (ended, inputs)
+}
+
+/// Runs a command line without its message.
+fn run_command<I: Inputs, O: Outputs>(
+    alloc: Global,
+    words: &[Bytes],
+    inputs: &mut I,
+    outputs: &mut O,
+) -> Ended
+    ensures refused { IsRefusedWhere (refused_word words.now) result }
+    ensures untouched { is_refused result ≡ true → inputs.new ≡ inputs.old }
+    ensures run { CatRun result (I.contents inputs.old) (I.taken inputs.old) (I.taken inputs.new) (O.held outputs.old) (O.held outputs.new) }
+    ensures contents { I.contents inputs.new ≡ I.contents inputs.old }
+    ensures input_counts { Counted (input_failed result) (I.faults inputs.old) (I.faults inputs.new) Stdin }
+    ensures output_counts { Counted (output_failed result) (O.faults outputs.old) (O.faults outputs.new) Stdout }
+    ensures shortages { O.shortages outputs.old ≤ O.shortages outputs.new }
+{
+    match refused_word(words) {
         Some(word) => Ended::Refused(Refusal {
             word,
             why: Why::NotBuilt,
         }),
-        None => run_ojson_cat(alloc, &mut inputs, outputs),
-    };
-    let _ = write_message(words, &ended, &mut digits, outputs);
-    (ended, inputs)
+        None => run_ojson_cat(alloc, inputs, outputs),
+    }
 }
 
 /// Reads standard input to its end, and writes its records as JSON.

@@ -31,3 +31,11 @@ with_bytes-none (Some held) = ap Some (sym (append-nil held))
 pub with_bytes-twice : (first second : List ℕ) (before : Option (List ℕ)) → with_bytes second (with_bytes first before) ≡ with_bytes (first ++ second) before
 with_bytes-twice first second None = refl
 with_bytes-twice first second (Some held) = ap Some (append_assoc held first second)
+
+-- a step that implies another
+pub ChangesAt-map : (target : Target) (first second : Option (List ℕ) → Option (List ℕ) → Type 0) → ((before now : Option (List ℕ)) → first before now → second before now)
+    → (before now : Option Held) → ChangesAt target first before now → ChangesAt target second before now
+ChangesAt-map target first second weaken None None a = tt
+ChangesAt-map target first second weaken None (Some now) a = a
+ChangesAt-map target first second weaken (Some before) None a = a
+ChangesAt-map target first second weaken (Some before) (Some now) a = record { here = weaken (before target) (now target) a.here; elsewhere = a.elsewhere }
