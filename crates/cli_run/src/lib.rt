@@ -10,5 +10,8 @@ mod message;
 mod run;
 mod text;
 
+#[cfg(test)]
+mod tests;
+
 pub use answer::{Ended, Refusal, Why};
 pub use run::run_mlr;

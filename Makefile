@@ -1,0 +1,20 @@
+# For people: build, test, install. The gate is .ci/run.
+PREFIX ?= /usr/local
+SOURCES := crates.txt $(shell find crates \( -name out -prune \) -o \( -name '*.rt' -o -name '*.antt' \) -print)
+
+bin/mlr: $(SOURCES)
+	cd crates/mlr && rt run -- --ojson cat < /dev/null > /dev/null
+	mkdir -p bin
+	cp crates/mlr/out/mlr bin/mlr
+
+.PHONY: test install help
+
+test:  ## prove everything from nothing, and run all tests (rt ci)
+	rt ci
+
+install: bin/mlr  ## copy the program to PREFIX/bin
+	install -D -m 755 bin/mlr $(DESTDIR)$(PREFIX)/bin/mlr
+
+help:  ## list the targets
+	@echo 'make: prove and build bin/mlr, if a source has changed'
+	@sed -n 's/^\([a-z]*\):.*## \(.*\)/make \1: \2/p' Makefile
