@@ -1,9 +1,8 @@
 -- Steps of one target, one after the other.
 use Rattle.std.proofs.Common.{◌≡◌, ℕ, List, [], ◌++◌, Option, Some, None, refl, ap, sym, ◌∙◌, append_assoc}
-use Rattle.std.specs.Option.{option_map}
 use Rattle.std.proofs.lemmas.List.{append-nil}
 use Rattle.mlr_event.specs.declared.names.Target.{Target}
-use Rattle.mlr_world.specs.Outputs.{Held, ChangesOnly, ChangesAt, with_bytes}
+use Rattle.mlr_world.specs.Outputs.{Held, ChangesAt, with_bytes}
 
 -- a step that leaves what is there
 pub ChangesAt-none : (target : Target) (step : Option (List ℕ) → Option (List ℕ) → Type 0) → ((before : Option (List ℕ)) → step before before) → (held : Option Held) → ChangesAt target step held held
@@ -21,7 +20,7 @@ ChangesAt-then target first second both join (Some before) None later a b = absu
 ChangesAt-then target first second both join (Some before) (Some now) None a b = b
 ChangesAt-then target first second both join (Some before) (Some now) (Some later) a b = record {
   here = join (before target) (now target) (later target) a.here b.here;
-  elsewhere = λ other apart. b.elsewhere other apart ∙ a.elsewhere other apart
+  elsewhere = λ other apart. b.elsewhere other apart ∙ a.elsewhere other apart;
 }
 
 pub with_bytes-none : (before : Option (List ℕ)) → before ≡ with_bytes [] before

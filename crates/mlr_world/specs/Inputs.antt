@@ -44,7 +44,7 @@ OpenFinds name opened.NoMemory contents = Unit {0}
 abbrev pub Continues : Option Contents → Option (List Take) → List ℕ → Type 0
 Continues contents taken piece =
     IfSome contents (λ told. IfSome taken (λ takes. IfSome (last_take takes) (λ take.
-      (rest : List ℕ) × (told take.name ≡ Some (take.bytes ++ piece ++ rest)))))
+    (rest : List ℕ) × (told take.name ≡ Some (take.bytes ++ piece ++ rest)))))
 
 -- where they are told, all that the open input holds was taken
 abbrev pub IsAllTaken : Option Contents → Option (List Take) → Type 0
