@@ -93,3 +93,56 @@ pub enum Mode {
 /// A row of the plan's writer options. Equal options have one row, and row 0 is the main output's.
 #[derive(Clone, Copy, Debug, PartialEq, Eq)]
 pub struct StyleId(pub u32);
+
+#[cfg(test)]
+mod tests {
+    use super::*;
+
+    /// Two names of files, and whether they are one.
+    const NAMES: [(&[u8], &[u8], bool); 5] = [
+        (b"a", b"a", true),
+        (b"a", b"./a", false),
+        (b"a", b"A", false),
+        (b"data/2024-01/input.dkvp", b"data/2024-01/input.dkvp", true),
+        (
+            b"data/2024-01/input.dkvp",
+            b"data/2024-01/input.json",
+            false,
+        ),
+    ];
+
+    #[test]
+    fn inputs_copied_and_compared(rt: HostRuntime) -> Result<(), NoMemory> {
+        let alloc = rt.alloc();
+        let stdin = InputName::Stdin.copy(alloc)?;
+        assert!(rt; stdin.is(&InputName::Stdin));
+        for (i, row) in NAMES.iter().enumerate() {
+            let (left, right, same) = *row;
+            let left = InputName::File(Bytes::copy_of(alloc, left)?);
+            let right = InputName::File(Bytes::copy_of(alloc, right)?).copy(alloc)?;
+            assert_eq!(rt; left.is(&right), same, "at {i}");
+            assert!(rt; !left.is(&stdin), "at {i}");
+            assert!(rt; !stdin.is(&right), "at {i}");
+        }
+        Ok(())
+    }
+
+    #[test]
+    fn targets_copied_and_compared(rt: HostRuntime) -> Result<(), NoMemory> {
+        let alloc = rt.alloc();
+        let stdout = Target::Stdout.copy(alloc)?;
+        let stderr = Target::Stderr.copy(alloc)?;
+        assert!(rt; stdout.is(&Target::Stdout));
+        assert!(rt; stderr.is(&Target::Stderr));
+        assert!(rt; !stdout.is(&stderr));
+        for (i, row) in NAMES.iter().enumerate() {
+            let (left, right, same) = *row;
+            let left = Target::File(Bytes::copy_of(alloc, left)?);
+            let right = Target::File(Bytes::copy_of(alloc, right)?).copy(alloc)?;
+            assert_eq!(rt; left.is(&right), same, "at {i}");
+            assert!(rt; !left.is(&stdout), "at {i}");
+            assert!(rt; !stderr.is(&right), "at {i}");
+        }
+        Ok(())
+    }
+}

@@ -95,7 +95,14 @@ fn append_escape(byte: u8, into: &mut Bytes) -> Result<(), NoMemory>
     if letter != 0 {
         into.append(&[b'\\', letter])
     } else {
-        into.append(&[b'\\', b'u', b'0', b'0', digit_of(byte / 16), digit_of(byte % 16)])
+        into.append(&[
+            b'\\',
+            b'u',
+            b'0',
+            b'0',
+            digit_of(byte / 16),
+            digit_of(byte % 16),
+        ])
     }
 }
 
@@ -124,5 +131,68 @@ fn digit_of(number: u8) -> u8
         b'0' + number
     } else {
         b'a' + (number - 10)
+    }
+}
+
+#[cfg(test)]
+mod tests {
+    use super::*;
+    use mlr_spec::InferOpts;
+    use mlr_value::{IntValue, from_data};
+
+    #[test]
+    fn strings_with_escapes(rt: HostRuntime) -> Result<(), NoMemory> {
+        let table: [(&[u8], &[u8]); 11] = [
+            (b"", br#""""#),
+            (b"a/b", br#""a/b""#),
+            (b"\"", br#""\"""#),
+            (b"\\", br#""\\""#),
+            (b"a\tb\nc\rd", br#""a\tb\nc\rd""#),
+            (&[8, 12], br#""\b\f""#),
+            (&[0, 1], br#""\u0000\u0001""#),
+            (&[27, 31], br#""\u001b\u001f""#),
+            (b" \x7f", b"\" \x7f\""),
+            (&[195, 169], b"\"\xc3\xa9\""),
+            (&[255, b'"', 255], b"\"\xff\\\"\xff\""),
+        ];
+        for (i, row) in table.iter().enumerate() {
+            let (text, want) = *row;
+            let mut json = Bytes::copy_of(rt.alloc(), b"[")?;
+            append_json_string(text, &mut json)?;
+            assert_eq!(rt; &json.as_slice()[1..], want, "at {i}");
+        }
+        Ok(())
+    }
+
+    #[test]
+    fn values_bare_and_in_quotes(rt: HostRuntime) -> Result<(), NoMemory> {
+        let table: [(&[u8], &[u8]); 6] = [
+            (b"", br#""""#),
+            (b"abc", br#""abc""#),
+            (br#"say "hi""#, br#""say \"hi\"""#),
+            (b"0x0F", b"0x0F"),
+            (b"0.50", b"0.50"),
+            (b"9223372036854775808", b"9223372036854775808"),
+        ];
+        for (i, row) in table.iter().enumerate() {
+            let (text, want) = *row;
+            let value = from_data(rt.alloc(), text, InferOpts::plain())?;
+            let mut json = Bytes::copy_of(rt.alloc(), b"[")?;
+            append_json_value(&value, &mut json)?;
+            assert_eq!(rt; &json.as_slice()[1..], want, "at {i}");
+        }
+        Ok(())
+    }
+
+    #[test]
+    fn ints_without_a_spelling(rt: HostRuntime) -> Result<(), NoMemory> {
+        let value = Value::Int(IntValue {
+            n: -7,
+            spelling: Bytes::new(rt.alloc()),
+        });
+        let mut json = Bytes::new(rt.alloc());
+        append_json_value(&value, &mut json)?;
+        assert_eq!(rt; json.as_slice(), b"-7".as_slice());
+        Ok(())
     }
 }

@@ -123,3 +123,53 @@ fn place_of(fields: &[Field], key: &[u8]) -> Option<usize>
     }
     None
 }
+
+#[cfg(test)]
+mod tests {
+    use super::*;
+
+    fn string(alloc: Global, text: &[u8]) -> Result<Value, NoMemory> {
+        Ok(Value::Str(Bytes::copy_of(alloc, text)?))
+    }
+
+    #[test]
+    fn fields_put_and_found(rt: HostRuntime) -> Result<(), NoMemory> {
+        let alloc = rt.alloc();
+        let mut record = Record::new(alloc)?;
+        let puts: [(&[u8], &[u8]); 4] = [(b"a", b"1"), (b"b", b"2"), (b"", b"3"), (b"a", b"4")];
+        for row in &puts {
+            let (name, text) = *row;
+            record.put(name, string(alloc, text)?)?;
+        }
+        assert_eq!(rt; record.len(), 3);
+        let fields: [(&[u8], &[u8]); 3] = [(b"a", b"4"), (b"b", b"2"), (b"", b"3")];
+        for (place, row) in fields.iter().enumerate() {
+            let (name, text) = *row;
+            let value = string(alloc, text)?;
+            assert_eq!(rt; record.get(name), Some(&value), "at {place}");
+            assert_eq!(rt; record.at(place), Some((name, &value)), "at {place}");
+        }
+        assert_eq!(rt; record.get(b"ab"), None);
+        assert_eq!(rt; record.at(3), None);
+        Ok(())
+    }
+
+    #[test]
+    fn fields_past_the_first_room(rt: HostRuntime) -> Result<(), NoMemory> {
+        let alloc = rt.alloc();
+        let mut record = Record::new(alloc)?;
+        record.push(b"first", string(alloc, b"1")?)?;
+        for name in b"abcdefghij" {
+            let name = [*name];
+            if record.get(&name).is_none() {
+                record.push(&name, Value::Empty)?;
+            }
+        }
+        assert_eq!(rt; record.len(), 11);
+        assert_eq!(rt; record.entry(0).0, b"first".as_slice());
+        assert_eq!(rt; record.entry(0).1, &string(alloc, b"1")?);
+        assert_eq!(rt; record.entry(10).0, b"j".as_slice());
+        assert_eq!(rt; record.entry(10).1, &Value::Empty);
+        Ok(())
+    }
+}

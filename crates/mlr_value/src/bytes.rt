@@ -103,3 +103,69 @@ impl fmt::Debug for Bytes {
         f.write_str("\"")
     }
 }
+
+#[cfg(test)]
+mod tests {
+    use super::*;
+    use std::test::Fail;
+
+    /// More than the 16 bytes that take no memory.
+    const LONG: &[u8] = b"0123456789abcdefghijklmnopqrstuvwxyz+-*/";
+
+    #[test]
+    fn texts_put_behind_one_another(rt: HostRuntime) -> Result<(), NoMemory> {
+        let table: [(&[u8], &[u8], &[u8]); 6] = [
+            (b"", b"", b""),
+            (b"", b"ab", b"ab"),
+            (b"a", b"b", b"ab"),
+            (b"ab", b"", b"ab"),
+            (b"0123456789abcdef", b"g", b"0123456789abcdefg"),
+            (
+                LONG,
+                LONG,
+                b"0123456789abcdefghijklmnopqrstuvwxyz+-*/0123456789abcdefghijklmnopqrstuvwxyz+-*/",
+            ),
+        ];
+        for (i, row) in table.iter().enumerate() {
+            let (front, behind, want) = *row;
+            let mut text = Bytes::new(rt.alloc());
+            assert!(rt; text.is_empty(), "at {i}");
+            text.append(front)?;
+            assert_eq!(rt; text, Bytes::copy_of(rt.alloc(), front)?, "at {i}");
+            text.append(behind)?;
+            assert_eq!(rt; text.as_slice(), want, "at {i}");
+            assert_eq!(rt; text.len(), want.len(), "at {i}");
+            assert_eq!(rt; text.is_empty(), want.is_empty(), "at {i}");
+        }
+        Ok(())
+    }
+
+    #[test]
+    fn equal_texts(rt: HostRuntime) -> Result<(), NoMemory> {
+        let table: [(&[u8], &[u8], bool); 6] = [
+            (b"", b"", true),
+            (b"ab", b"ab", true),
+            (b"ab", b"Ab", false),
+            (b"ab", b"abc", false),
+            (LONG, LONG, true),
+            (LONG, b"0123456789abcdefghijklmnopqrstuvwxyz+-*+", false),
+        ];
+        for (i, row) in table.iter().enumerate() {
+            let (left, right, want) = *row;
+            let left = Bytes::copy_of(rt.alloc(), left)?;
+            let right = Bytes::copy_of(rt.alloc(), right)?;
+            assert_eq!(rt; left == right, want, "at {i}");
+        }
+        Ok(())
+    }
+
+    #[test]
+    fn bytes_shown_as_characters(rt: HostRuntime) -> Result<(), Fail> {
+        let text = Bytes::copy_of(rt.alloc(), &[b'a', 195, 169])?;
+        assert_eq!(rt;
+            format!(in rt.alloc(); "{text:?}")?.as_str(),
+            "\"a\u{c3}\u{a9}\""
+        );
+        Ok(())
+    }
+}

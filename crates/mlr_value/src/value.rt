@@ -83,3 +83,59 @@ pub fn text_of(alloc: Global, value: &Value) -> Result<Bytes, NoMemory>
     append_text(value, &mut text)?;
     Ok(text)
 }
+
+#[cfg(test)]
+mod tests {
+    use super::*;
+
+    fn kind(value: &Value) -> Kind {
+        match value {
+            Value::Empty => Kind::Empty,
+            Value::Str(_) => Kind::Str,
+            Value::Int(int) => Kind::Int(int.n),
+            Value::Frac(_) => Kind::Frac,
+            Value::Wide(_) => Kind::Wide,
+        }
+    }
+
+    #[test]
+    fn texts_from_data_and_back(rt: HostRuntime) -> Result<(), NoMemory> {
+        let table: [(&[u8], Kind); 6] = [
+            (b"", Kind::Empty),
+            (b"abc", Kind::Str),
+            (b"0x0F", Kind::Int(15)),
+            (b"-007", Kind::Int(-7)),
+            (b"0.50", Kind::Frac),
+            (b"9223372036854775808", Kind::Wide),
+        ];
+        for (i, row) in table.iter().enumerate() {
+            let (text, want) = *row;
+            let value = from_data(rt.alloc(), text, InferOpts::plain())?;
+            assert_eq!(rt; kind(&value), want, "at {i}");
+            assert_eq!(rt; text_of(rt.alloc(), &value)?.as_slice(), text, "at {i}");
+        }
+        Ok(())
+    }
+
+    #[test]
+    fn ints_without_a_spelling(rt: HostRuntime) -> Result<(), NoMemory> {
+        let table: [(i64, &[u8]); 4] = [
+            (0, b"0"),
+            (-7, b"-7"),
+            (i64::MAX, b"9223372036854775807"),
+            (i64::MIN, b"-9223372036854775808"),
+        ];
+        for (i, row) in table.iter().enumerate() {
+            let (n, want) = *row;
+            let value = Value::Int(IntValue {
+                n,
+                spelling: Bytes::new(rt.alloc()),
+            });
+            let mut text = text_of(rt.alloc(), &value)?;
+            assert_eq!(rt; text.as_slice(), want, "at {i}");
+            append_text(&value, &mut text)?;
+            assert_eq!(rt; &text.as_slice()[want.len()..], want, "at {i}");
+        }
+        Ok(())
+    }
+}
