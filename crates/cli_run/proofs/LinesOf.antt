@@ -29,19 +29,19 @@ without_empty_end-one (b ∷ part) some = refl
 pub lines_of-first : (text : List ℕ) (end : ℕ) → end ≡ position_or_len is_line_end text → end ≤ length text → 0 < length text → lines_of text ≡ take end text ∷ lines_of (drop (end + 1) text)
 lines_of-first text end place within some =
     ⊎_elim
-      (λ below.
-        let behind = drop (end + 1) text in
-        let split : slice_split is_line_end text ≡ take end text ∷ slice_split is_line_end behind =
-          slice_split_first is_line_end text 0 (omega (arith, place)) ∙ ap (λ n. take n text ∷ slice_split is_line_end (drop (n + 1) text)) (sym place) in
-        ap without_empty_end split
-        ∙ without_empty_end-cons (take end text) (slice_split is_line_end behind) (omega (arith, length-slice_split is_line_end behind)))
-      (λ past.
-        let whole : end ≡ length text = omega arith in
-        let all : take end text ≡ text = ap (λ n. take n text) whole ∙ take-length text in
-        let none : drop (end + 1) text ≡ [] = drop_of_length-le text (omega arith) in
-        ap without_empty_end (split-whole is_line_end text (sym place ∙ whole)) ∙ without_empty_end-one text some
-        ∙ ap (λ t. t ∷ []) (sym all) ∙ ap (λ t. take end text ∷ lines_of t) (sym none))
-      (cases_lt end (length text))
+    (λ below.
+    let behind = drop (end + 1) text in
+    let split : slice_split is_line_end text ≡ take end text ∷ slice_split is_line_end behind =
+    slice_split_first is_line_end text 0 (omega (arith, place)) ∙ ap (λ n. take n text ∷ slice_split is_line_end (drop (n + 1) text)) (sym place) in
+    ap without_empty_end split
+    ∙ without_empty_end-cons (take end text) (slice_split is_line_end behind) (omega (arith, length-slice_split is_line_end behind)))
+    (λ past.
+    let whole : end ≡ length text = omega arith in
+    let all : take end text ≡ text = ap (λ n. take n text) whole ∙ take-length text in
+    let none : drop (end + 1) text ≡ [] = drop_of_length-le text (omega arith) in
+    ap without_empty_end (split-whole is_line_end text (sym place ∙ whole)) ∙ without_empty_end-one text some
+    ∙ ap (λ t. t ∷ []) (sym all) ∙ ap (λ t. take end text ∷ lines_of t) (sym none))
+    (cases_lt end (length text))
 
 -- what follows a line
 abbrev after : ℕ → List (List ℕ) → Option (List Pairs) → Converted
@@ -70,9 +70,9 @@ went-is n records [] = ap (λ r. Text (json_list r)) (sym (append-nil records))
 went-is n records ([] ∷ lines) = went-is (n + 1) records lines
 went-is n records ((b ∷ line) ∷ lines) =
     elim (cases_Bool (is_plain (b ∷ line))) as (λ _. went n records ((b ∷ line) ∷ lines) ≡ converted_from (first_odd n ((b ∷ line) ∷ lines)) (records ++ records_in ((b ∷ line) ∷ lines))) [
-      inl y ↦ rw y (went-is (n + 1) (records ++ record_of (b ∷ line) ∷ []) lines
-        ∙ ap (converted_from (first_odd (n + 1) lines)) (append_assoc records (record_of (b ∷ line) ∷ []) (records_in lines)))
-    | inr o ↦ rw o refl
+      | inl y ↦ rw y (went-is (n + 1) (records ++ record_of (b ∷ line) ∷ []) lines
+          ∙ ap (converted_from (first_odd (n + 1) lines)) (append_assoc records (record_of (b ∷ line) ∷ []) (records_in lines)))
+      | inr o ↦ rw o refl
     ]
 
 at_text : (first : Option ℕ) (text : List ℕ) → converted_at first text ≡ converted_from first (records_of text)

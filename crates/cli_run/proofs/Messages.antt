@@ -27,10 +27,13 @@ stopped f pieces i d below target before now later done step =
     let piece = f (get_or pieces i d) in
     let rest = flat_map f (drop (suc i) pieces) in
     ChangesAt-then target (λ b n. n ≡ with_bytes whole b) (Fronts piece) (Fronts (flat_map f pieces))
-      (λ a b c first second.
-        (whole ++ second.0,
-          (second.1.0 ++ rest,
-            flat_map-at f pieces i d below ∙ ap (λ p. whole ++ (p ++ rest)) second.1.1
-            ∙ ap (λ t. whole ++ t) (append_assoc second.0 second.1.0 rest) ∙ sym (append_assoc whole second.0 (second.1.0 ++ rest))),
-          second.2 ∙ ap (with_bytes second.0) first ∙ with_bytes-twice whole second.0 a))
-      before now later done step
+    (λ a b c first second. (
+      whole ++ second.0,
+      (
+        second.1.0 ++ rest,
+        flat_map-at f pieces i d below ∙ ap (λ p. whole ++ (p ++ rest)) second.1.1
+            ∙ ap (λ t. whole ++ t) (append_assoc second.0 second.1.0 rest) ∙ sym (append_assoc whole second.0 (second.1.0 ++ rest)),
+      ),
+      second.2 ∙ ap (with_bytes second.0) first ∙ with_bytes-twice whole second.0 a,
+    ))
+    before now later done step

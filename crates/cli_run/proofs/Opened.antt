@@ -73,13 +73,13 @@ module _ (contents0 contents1 : Option Contents) (same : contents1 ≡ contents0
   pub takes_part : (bytes : List ℕ) (taken2 : Option (List Take)) → taken2 ≡ option_map (with_last (grown bytes)) taken1 → Continues contents1 taken1 bytes → Takes (stdin_read false bytes) contents0 taken0 taken2
   takes_part bytes taken2 entry front = record {
     entries = entry ∙ ap (option_map (with_last (grown bytes))) opened ∙ with_last-push_told (grown bytes) (begun Stdin) taken0;
-    fronts = part_front contents0 taken0 bytes (subst (λ t. Continues contents0 t bytes) opened (subst (λ c. Continues c taken1 bytes) same front))
+    fronts = part_front contents0 taken0 bytes (subst (λ t. Continues contents0 t bytes) opened (subst (λ c. Continues c taken1 bytes) same front));
   }
 
   pub takes_whole : (bytes : List ℕ) (taken2 : Option (List Take)) → taken2 ≡ option_map (with_last (λ t. ended (grown bytes t))) taken1 → IsAllTaken contents1 (option_map (with_last (grown bytes)) taken1) → Takes (stdin_read true bytes) contents0 taken0 taken2
   takes_whole bytes taken2 entry all = record {
     entries = entry ∙ ap (option_map (with_last (λ t. ended (grown bytes t)))) opened ∙ with_last-push_told (λ t. ended (grown bytes t)) (begun Stdin) taken0;
-    fronts = whole_front contents0 taken0 bytes (subst (λ t. IsAllTaken contents0 (option_map (with_last (grown bytes)) t)) opened (subst (λ c. IsAllTaken c (option_map (with_last (grown bytes)) taken1)) same all))
+    fronts = whole_front contents0 taken0 bytes (subst (λ t. IsAllTaken contents0 (option_map (with_last (grown bytes)) t)) opened (subst (λ c. IsAllTaken c (option_map (with_last (grown bytes)) taken1)) same all));
   }
 
 -- what an answer to a whole input says

@@ -72,8 +72,8 @@ module _ (pairs : Pairs) (rest : List ℕ) (end : ℕ) (place : end ≡ position
   pub pieces-stop : end ≤ length rest → with_piece pairs (take end rest) ≡ None → with_pieces pairs (slice_split is_comma rest) ≡ None
   pieces-stop within stops =
       ⊎_elim (λ below. ap (with_pieces pairs) (split-more below) ∙ ap (option_and_then (λ more. with_pieces more (slice_split is_comma (drop (end + 1) rest)))) stops)
-        (λ past. pieces-last (omega arith) ∙ stops)
-        (cases_lt end (length rest))
+      (λ past. pieces-last (omega arith) ∙ stops)
+      (cases_lt end (length rest))
 
   -- one that was put, and more behind it
   pub pieces-more : (new : Pairs) → end < length rest → with_piece pairs (take end rest) ≡ Some new → with_pieces new (slice_split is_comma (drop (end + 1) rest)) ≡ with_pieces pairs (slice_split is_comma rest)
@@ -94,21 +94,21 @@ with_pieces-is pairs (piece ∷ pieces) distinct =
     let result : Bool → Option Pairs = λ all. if all then Some (pairs ++ field_of piece ∷ map field_of pieces) else None in
     let keys = keys_of pairs ++ key_of piece ∷ map key_of pieces in
     elim (cases_Bool (is_plain_piece piece)) as (λ _. with_pieces pairs (piece ∷ pieces) ≡ result (list_all is_plain_piece (piece ∷ pieces) && are_distinct keys)) [
-      inr n ↦ rw n refl
-    | inl y ↦ elim (cases_Bool (is_none (value_at (key_of piece) pairs))) as (λ _. with_pieces pairs (piece ∷ pieces) ≡ result (list_all is_plain_piece (piece ∷ pieces) && are_distinct keys)) [
-        inr present ↦
-          let twice = are_distinct-twice (key_of piece) (keys_of pairs) (map key_of pieces) (any_key-found (key_of piece) pairs present) in
-          let stops : with_pieces pairs (piece ∷ pieces) ≡ None = rw (y, present) refl in
-          stops ∙ ap result (sym (and_right (list_all is_plain_piece (piece ∷ pieces)) (are_distinct keys) twice))
-      | inl absent ↦
-          let new = pairs ++ field_of piece ∷ [] in
-          let goes_on : with_pieces pairs (piece ∷ pieces) ≡ with_pieces new pieces = rw (y, absent) refl in
-          let later = with_pieces-is new pieces (are_distinct-push (key_of piece) (field_of piece).1 pairs (is_none-true _ absent) distinct) in
-          let keys_are : keys_of new ++ map key_of pieces ≡ keys = ap (λ k. k ++ map key_of pieces) (map-append (λ pair. pair.0) pairs (field_of piece ∷ [])) ∙ append_assoc (keys_of pairs) (key_of piece ∷ []) (map key_of pieces) in
-          let fields_are : new ++ map field_of pieces ≡ pairs ++ field_of piece ∷ map field_of pieces = append_assoc pairs (field_of piece ∷ []) (map field_of pieces) in
-          let both : (list_all is_plain_piece (piece ∷ pieces) && are_distinct keys) ≡ (list_all is_plain_piece pieces && are_distinct keys) = rw y refl in
-          goes_on ∙ later ∙ ap (λ k. if list_all is_plain_piece pieces && are_distinct k then Some (new ++ map field_of pieces) else None) keys_are
-          ∙ ap (λ f. if list_all is_plain_piece pieces && are_distinct keys then Some f else None) fields_are ∙ ap result (sym both)
+      | inr n ↦ rw n refl
+      | inl y ↦ elim (cases_Bool (is_none (value_at (key_of piece) pairs))) as (λ _. with_pieces pairs (piece ∷ pieces) ≡ result (list_all is_plain_piece (piece ∷ pieces) && are_distinct keys)) [
+        | inr present ↦
+            let twice = are_distinct-twice (key_of piece) (keys_of pairs) (map key_of pieces) (any_key-found (key_of piece) pairs present) in
+            let stops : with_pieces pairs (piece ∷ pieces) ≡ None = rw (y, present) refl in
+            stops ∙ ap result (sym (and_right (list_all is_plain_piece (piece ∷ pieces)) (are_distinct keys) twice))
+        | inl absent ↦
+            let new = pairs ++ field_of piece ∷ [] in
+            let goes_on : with_pieces pairs (piece ∷ pieces) ≡ with_pieces new pieces = rw (y, absent) refl in
+            let later = with_pieces-is new pieces (are_distinct-push (key_of piece) (field_of piece).1 pairs (is_none-true _ absent) distinct) in
+            let keys_are : keys_of new ++ map key_of pieces ≡ keys = ap (λ k. k ++ map key_of pieces) (map-append (λ pair. pair.0) pairs (field_of piece ∷ [])) ∙ append_assoc (keys_of pairs) (key_of piece ∷ []) (map key_of pieces) in
+            let fields_are : new ++ map field_of pieces ≡ pairs ++ field_of piece ∷ map field_of pieces = append_assoc pairs (field_of piece ∷ []) (map field_of pieces) in
+            let both : (list_all is_plain_piece (piece ∷ pieces) && are_distinct keys) ≡ (list_all is_plain_piece pieces && are_distinct keys) = rw y refl in
+            goes_on ∙ later ∙ ap (λ k. if list_all is_plain_piece pieces && are_distinct k then Some (new ++ map field_of pieces) else None) keys_are
+            ∙ ap (λ f. if list_all is_plain_piece pieces && are_distinct keys then Some f else None) fields_are ∙ ap result (sym both)
       ]
     ]
 

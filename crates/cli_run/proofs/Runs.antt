@@ -26,7 +26,7 @@ module _ (input text : List ℕ) (is : Text text ≡ converted input) (before no
   pub all_written : ChangesAt Stdout (λ b n. (n ≡ with_bytes text b) × IsSome b) before now → ChangesAt Stdout (λ b n. n ≡ with_bytes (output_of input) b) before now
   all_written changes =
       ChangesAt-map Stdout (λ b n. (n ≡ with_bytes text b) × IsSome b) (λ b n. n ≡ with_bytes (output_of input) b)
-        (λ b n h. h.0 ∙ ap (λ t. with_bytes t b) (text_of_converted input text is)) before now changes
+      (λ b n h. h.0 ∙ ap (λ t. with_bytes t b) (text_of_converted input text is)) before now changes
 
 pub none_written : (text : List ℕ) (before now : Option Held) → ChangesAt Stdout (λ b n. n ≡ b) before now → ChangesAt Stdout (PutsFront text) before now
 none_written text before now changes = ChangesAt-map Stdout (λ b n. n ≡ b) (PutsFront text) (λ b n h. nothing_put text b n h) before now changes

@@ -13,20 +13,20 @@ module _ (test : ℕ → Bool) where
   any-none [] h = refl
   any-none (b ∷ text) h =
       elim (cases_Bool (test b)) as (λ _. list_any test (b ∷ text) ≡ false) [
-        inl y ↦ absurd (let first : position_or_len test (b ∷ text) ≡ 0 = rw y refl in omega arith)
-      | inr n ↦
-          let first : position_or_len test (b ∷ text) ≡ 1 + position_or_len test text = rw n refl in
-          rw n (any-none text (omega arith))
+        | inl y ↦ absurd (let first : position_or_len test (b ∷ text) ≡ 0 = rw y refl in omega arith)
+        | inr n ↦
+            let first : position_or_len test (b ∷ text) ≡ 1 + position_or_len test text = rw n refl in
+            rw n (any-none text (omega arith))
       ]
 
   pub split-whole : (text : List ℕ) → position_or_len test text ≡ length text → slice_split test text ≡ text ∷ []
   split-whole [] h = refl
   split-whole (b ∷ text) h =
       elim (cases_Bool (test b)) as (λ _. slice_split test (b ∷ text) ≡ (b ∷ text) ∷ []) [
-        inl y ↦ absurd (let first : position_or_len test (b ∷ text) ≡ 0 = rw y refl in omega arith)
-      | inr n ↦
-          let first : position_or_len test (b ∷ text) ≡ 1 + position_or_len test text = rw n refl in
-          rw n (ap (onto_first b) (split-whole text (omega arith)))
+        | inl y ↦ absurd (let first : position_or_len test (b ∷ text) ≡ 0 = rw y refl in omega arith)
+        | inr n ↦
+            let first : position_or_len test (b ∷ text) ≡ 1 + position_or_len test text = rw n refl in
+            rw n (ap (onto_first b) (split-whole text (omega arith)))
       ]
 
   -- where one passes before the end, one does
@@ -34,10 +34,10 @@ module _ (test : ℕ → Bool) where
   any-some [] h = absurd (omega arith)
   any-some (b ∷ text) h =
       elim (cases_Bool (test b)) as (λ _. list_any test (b ∷ text) ≡ true) [
-        inl y ↦ rw y refl
-      | inr n ↦
-          let first : position_or_len test (b ∷ text) ≡ 1 + position_or_len test text = rw n refl in
-          rw n (any-some text (omega arith))
+        | inl y ↦ rw y refl
+        | inr n ↦
+            let first : position_or_len test (b ∷ text) ≡ 1 + position_or_len test text = rw n refl in
+            rw n (any-some text (omega arith))
       ]
 
 -- The first byte of a text that passes, as `memchr` finds it.

@@ -69,9 +69,9 @@ module _ (contents contents' : Option Contents) (taken taken' : Option (List Tak
   pub continued : (piece into' : List ℕ) → into' ≡ into ++ piece → Continues contents' taken' piece → Continues contents taken into'
   continued piece into' appended holds =
       subst (Continues contents taken) (sym appended)
-        (Continues-more contents taken into piece (subst (λ t. Continues contents t piece) taken_is (subst (λ c. Continues c taken' piece) contents_same holds)))
+      (Continues-more contents taken into piece (subst (λ t. Continues contents t piece) taken_is (subst (λ c. Continues c taken' piece) contents_same holds)))
 
   pub all_taken : (into' : List ℕ) → into' ≡ into → IsAllTaken contents' taken' → IsAllTaken contents (option_map (with_last (grown into')) taken)
   all_taken into' same holds =
       subst (λ b. IsAllTaken contents (option_map (with_last (grown b)) taken)) (sym same)
-        (subst (IsAllTaken contents) taken_is (subst (λ c. IsAllTaken c taken') contents_same holds))
+      (subst (IsAllTaken contents) taken_is (subst (λ c. IsAllTaken c taken') contents_same holds))

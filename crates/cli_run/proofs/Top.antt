@@ -58,8 +58,8 @@ leaves_all words ended bytes result (Some a) (Some b) None f0 f1 f2 s0 s1 s2 ff 
 leaves_all words ended bytes result (Some a) (Some b) (Some c) f0 f1 f2 s0 s1 s2 ff ss counted tallied out err = record {
   out = subst (LeavesOut ended bytes (a Stdout)) (sym (err.elsewhere Stdout apart)) out.here;
   err = subst (λ before. LeavesMessage (message_of words ended) (Rose (f0 Stderr) (f2 Stderr) ⊎ Rose s0 s2) before (c Stderr)) (out.elsewhere Stderr apart')
-    (message_left (message_of words ended) result (b Stderr) (c Stderr) f0 f1 f2 s0 s1 s2 ff ss counted tallied err.here);
-  others = λ target not_out not_err. err.elsewhere target not_err ∙ out.elsewhere target not_out
+      (message_left (message_of words ended) result (b Stderr) (c Stderr) f0 f1 f2 s0 s1 s2 ff ss counted tallied err.here);
+  others = λ target not_out not_err. err.elsewhere target not_err ∙ out.elsewhere target not_out;
 }
 
 -- why the answer is what it is, by the counts of the outputs

@@ -41,7 +41,11 @@ impl JsonList {
         ensures { (records : List Pairs) → HasRecords self records → IfOk result (λ text. text ≡ json_list records) }
     {
         let JsonList { mut text, any } = self;
-        text.append(if any { b"\n]\n".as_slice() } else { b"]\n".as_slice() })?;
+        text.append(if any {
+            b"\n]\n".as_slice()
+        } else {
+            b"]\n".as_slice()
+        })?;
         Ok(text)
     }
 }

@@ -8,10 +8,9 @@ mod json;
 mod line;
 mod message;
 mod run;
-mod text;
-
 #[cfg(test)]
 mod tests;
+mod text;
 
 pub use answer::{Ended, Refusal, Why};
 pub use run::run_mlr;

@@ -58,7 +58,11 @@ fn put_piece(alloc: Global, piece: &[u8], record: &mut Record) -> Result<bool, N
     }
     let key = &piece[..equals];
     let value = behind(piece, equals);
-    if has_dot(key) || value == b"{}".as_slice() || value == b"[]".as_slice() || record.get(key).is_some() {
+    if has_dot(key)
+        || value == b"{}".as_slice()
+        || value == b"[]".as_slice()
+        || record.get(key).is_some()
+    {
         return Ok(false);
     }
     let value = from_data(alloc, value, InferOpts::plain())?;

@@ -29,14 +29,35 @@ pub(crate) fn write_message<O: Outputs>(
         Ended::Refused(refusal) => {
             let number = digits.format(refusal.word).as_bytes();
             let word = word_at(words, refusal.word);
-            say(outputs, b"mlr: word ", number, b": not built: ", word, b"\n")
+            say(
+                outputs,
+                b"mlr: word ",
+                number,
+                b": not built: ",
+                word,
+                b"\n",
+            )
         }
         Ended::NotBuilt { line } => {
             let number = digits.format(*line).as_bytes();
             say(outputs, b"mlr: not built: line ", number, b"\n", b"", b"")
         }
-        Ended::Read(name) => say(outputs, b"mlr: cannot read ", input_text(name), b"\n", b"", b""),
-        Ended::Written(target) => say(outputs, b"mlr: cannot write ", target_text(target), b"\n", b"", b""),
+        Ended::Read(name) => say(
+            outputs,
+            b"mlr: cannot read ",
+            input_text(name),
+            b"\n",
+            b"",
+            b"",
+        ),
+        Ended::Written(target) => say(
+            outputs,
+            b"mlr: cannot write ",
+            target_text(target),
+            b"\n",
+            b"",
+            b"",
+        ),
         Ended::TooLong => say(outputs, b"mlr: input too long\n", b"", b"", b"", b""),
         Ended::NoMemory => say(outputs, b"mlr: out of memory\n", b"", b"", b"", b""),
     }

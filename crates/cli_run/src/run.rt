@@ -8,11 +8,11 @@ ghost use Rattle.cli_run.specs.Answer.{IsRefusedWhere, is_refused, refused_word}
 ghost use Rattle.cli_run.specs.Run.{Run, LeavesOut, HoldsPlain, OutputCause, input_failed};
 ghost use Rattle.cli_run.specs.Cat.{CatRun, Converts, output_failed};
 
+use crate::answer::refused_word;
 use crate::input::{Reading, read_all};
 use crate::message::write_message;
 use crate::text::{Converted, convert};
 use crate::{Ended, Refusal, Why};
-use crate::answer::refused_word;
 use itoa::Buffer;
 use mlr_event::{InputName, Target};
 use mlr_value::Bytes;
@@ -23,7 +23,11 @@ use std::thread::Threads;
 
 /// The top call: runs a command line, and writes the message of its answer to standard error. It answers how the run
 /// ended, and hands the inputs back.
-pub fn run_mlr<R: Threads + Wait + Copy + Send + 'static, I: Inputs + Drop + Send + 'static, O: Outputs>(
+pub fn run_mlr<
+    R: Threads + Wait + Copy + Send + 'static,
+    I: Inputs + Drop + Send + 'static,
+    O: Outputs,
+>(
     rt: &R,
     alloc: Global,
     words: &[Bytes],

@@ -45,7 +45,12 @@ fn run<R: Threads + Wait + Copy + Send + 'static>(
 
 /// Outputs that hold nothing, with room for so many bytes, that fail at these calls.
 fn outputs(alloc: Global, room: usize, failing: &[u64]) -> Result<MemOutputs, NoMemory> {
-    MemOutputs::new(alloc, Vec::new(alloc), room, Vec::from_slice(alloc, failing)?)
+    MemOutputs::new(
+        alloc,
+        Vec::new(alloc),
+        room,
+        Vec::from_slice(alloc, failing)?,
+    )
 }
 
 /// The bytes of a target; none if it isn't held.
@@ -60,20 +65,74 @@ fn bytes_of<'a>(outputs: &'a MemOutputs, target: &Target) -> &'a [u8] {
 type Row = (&'static str, &'static str, &'static str, &'static str, u8);
 
 const ROWS: [Row; 14] = [
-    ("--ojson cat", "a=1,b=xyz\n", "[\n{\n  \"a\": 1,\n  \"b\": \"xyz\"\n}\n]\n", "", 0),
+    (
+        "--ojson cat",
+        "a=1,b=xyz\n",
+        "[\n{\n  \"a\": 1,\n  \"b\": \"xyz\"\n}\n]\n",
+        "",
+        0,
+    ),
     ("--ojson cat", "a=1\nb\n", "", "mlr: not built: line 2\n", 1),
     ("--ojson cat", "", "[\n]\n", "", 0),
-    ("--ojson cat", "x=007,y=0x1G\n", "[\n{\n  \"x\": 007,\n  \"y\": \"0x1G\"\n}\n]\n", "", 0),
-    ("--ojson cat", "a=\n\n\nb=-0.5", "[\n{\n  \"a\": \"\"\n},\n{\n  \"b\": -0.5\n}\n]\n", "", 0),
-    ("--ojson cat", "=5,k=v=w\n", "[\n{\n  \"\": 5,\n  \"k\": \"v=w\"\n}\n]\n", "", 0),
-    ("--ojson cat", "q=a\"b\\c\td\n", "[\n{\n  \"q\": \"a\\\"b\\\\c\\td\"\n}\n]\n", "", 0),
+    (
+        "--ojson cat",
+        "x=007,y=0x1G\n",
+        "[\n{\n  \"x\": 007,\n  \"y\": \"0x1G\"\n}\n]\n",
+        "",
+        0,
+    ),
+    (
+        "--ojson cat",
+        "a=\n\n\nb=-0.5",
+        "[\n{\n  \"a\": \"\"\n},\n{\n  \"b\": -0.5\n}\n]\n",
+        "",
+        0,
+    ),
+    (
+        "--ojson cat",
+        "=5,k=v=w\n",
+        "[\n{\n  \"\": 5,\n  \"k\": \"v=w\"\n}\n]\n",
+        "",
+        0,
+    ),
+    (
+        "--ojson cat",
+        "q=a\"b\\c\td\n",
+        "[\n{\n  \"q\": \"a\\\"b\\\\c\\td\"\n}\n]\n",
+        "",
+        0,
+    ),
     ("--ojson cat", "\n\n", "[\n]\n", "", 0),
-    ("--ojson cat", "a=1,a=2\n", "", "mlr: not built: line 1\n", 1),
-    ("--ojson cat", "a=1\n\nx.y=2\n", "", "mlr: not built: line 3\n", 1),
+    (
+        "--ojson cat",
+        "a=1,a=2\n",
+        "",
+        "mlr: not built: line 1\n",
+        1,
+    ),
+    (
+        "--ojson cat",
+        "a=1\n\nx.y=2\n",
+        "",
+        "mlr: not built: line 3\n",
+        1,
+    ),
     ("--ojson cat", "a={}\n", "", "mlr: not built: line 1\n", 1),
-    ("--icsv --ojson cat", "a\n1\n", "", "mlr: word 1: not built: --icsv\n", 1),
+    (
+        "--icsv --ojson cat",
+        "a\n1\n",
+        "",
+        "mlr: word 1: not built: --icsv\n",
+        1,
+    ),
     ("--ojson", "a=1\n", "", "mlr: word 2: not built: \n", 1),
-    ("--ojson cat f", "a=1\n", "", "mlr: word 3: not built: f\n", 1),
+    (
+        "--ojson cat f",
+        "a=1\n",
+        "",
+        "mlr: word 3: not built: f\n",
+        1,
+    ),
 ];
 
 #[test]
@@ -82,9 +141,25 @@ fn rows_with_the_input_cut_at_every_byte(rt: HostRuntime) -> Result<(), Fail> {
     for (i, row) in ROWS.iter().enumerate() {
         let (words, input, out, message, status) = *row;
         for cut in 0..input.len() + 1 {
-            let left = run(&rt, alloc, words, input.as_bytes(), &[cut, 1], &[], outputs(alloc, 1000, &[])?)?;
-            assert_eq!(rt; bytes_of(&left.outputs, &Target::Stdout), out.as_bytes(), "row {i}, cut {cut}");
-            assert_eq!(rt; bytes_of(&left.outputs, &Target::Stderr), message.as_bytes(), "row {i}, cut {cut}");
+            let left = run(
+                &rt,
+                alloc,
+                words,
+                input.as_bytes(),
+                &[cut, 1],
+                &[],
+                outputs(alloc, 1000, &[])?,
+            )?;
+            assert_eq!(rt;
+                bytes_of(&left.outputs, &Target::Stdout),
+                out.as_bytes(),
+                "row {i}, cut {cut}"
+            );
+            assert_eq!(rt;
+                bytes_of(&left.outputs, &Target::Stderr),
+                message.as_bytes(),
+                "row {i}, cut {cut}"
+            );
             assert_eq!(rt; left.ended.status(), status, "row {i}, cut {cut}");
         }
     }
@@ -94,13 +169,48 @@ fn rows_with_the_input_cut_at_every_byte(rt: HostRuntime) -> Result<(), Fail> {
 #[test]
 fn bytes_that_are_no_plain_text(rt: HostRuntime) -> Result<(), Fail> {
     let alloc = rt.alloc();
-    let left = run(&rt, alloc, "--ojson cat", b"\xef\xbb\xbfa=1\n", &[], &[], outputs(alloc, 1000, &[])?)?;
-    assert_eq!(rt; left.ended, Ended::NotBuilt { line: 1 }, "a byte order mark");
-    let left = run(&rt, alloc, "--ojson cat", b"a=1\nb=2\r\n", &[], &[], outputs(alloc, 1000, &[])?)?;
-    assert_eq!(rt; left.ended, Ended::NotBuilt { line: 2 }, "a carriage return");
-    let left = run(&rt, alloc, "--ojson cat", b"a=\xff\x01\n", &[], &[], outputs(alloc, 1000, &[])?)?;
+    let left = run(
+        &rt,
+        alloc,
+        "--ojson cat",
+        b"\xef\xbb\xbfa=1\n",
+        &[],
+        &[],
+        outputs(alloc, 1000, &[])?,
+    )?;
+    assert_eq!(rt;
+        left.ended,
+        Ended::NotBuilt { line: 1 },
+        "a byte order mark"
+    );
+    let left = run(
+        &rt,
+        alloc,
+        "--ojson cat",
+        b"a=1\nb=2\r\n",
+        &[],
+        &[],
+        outputs(alloc, 1000, &[])?,
+    )?;
+    assert_eq!(rt;
+        left.ended,
+        Ended::NotBuilt { line: 2 },
+        "a carriage return"
+    );
+    let left = run(
+        &rt,
+        alloc,
+        "--ojson cat",
+        b"a=\xff\x01\n",
+        &[],
+        &[],
+        outputs(alloc, 1000, &[])?,
+    )?;
     assert_eq!(rt; left.ended, Ended::Done, "no UTF-8");
-    assert_eq!(rt; bytes_of(&left.outputs, &Target::Stdout), b"[\n{\n  \"a\": \"\xff\\u0001\"\n}\n]\n".as_slice());
+    assert_eq!(rt;
+        bytes_of(&left.outputs, &Target::Stdout),
+        b"[\n{\n  \"a\": \"\xff\\u0001\"\n}\n]\n".as_slice()
+    );
     Ok(())
 }
 
@@ -109,11 +219,22 @@ fn a_read_that_fails(rt: HostRuntime) -> Result<(), Fail> {
     let alloc = rt.alloc();
     // The first call is the open, the third the second read.
     for failing in [1u64, 3] {
-        let left = run(&rt, alloc, "--ojson cat", b"a=1\nb=2\n", &[3, 1], &[failing], outputs(alloc, 1000, &[])?)?;
+        let left = run(
+            &rt,
+            alloc,
+            "--ojson cat",
+            b"a=1\nb=2\n",
+            &[3, 1],
+            &[failing],
+            outputs(alloc, 1000, &[])?,
+        )?;
         assert_eq!(rt; left.ended, Ended::Read(InputName::Stdin), "call {failing}");
         assert_eq!(rt; left.ended.status(), 1);
         assert_eq!(rt; bytes_of(&left.outputs, &Target::Stdout), b"".as_slice());
-        assert_eq!(rt; bytes_of(&left.outputs, &Target::Stderr), b"mlr: cannot read (stdin)\n".as_slice());
+        assert_eq!(rt;
+            bytes_of(&left.outputs, &Target::Stderr),
+            b"mlr: cannot read (stdin)\n".as_slice()
+        );
     }
     Ok(())
 }
@@ -122,23 +243,58 @@ fn a_read_that_fails(rt: HostRuntime) -> Result<(), Fail> {
 fn a_write_that_fails(rt: HostRuntime) -> Result<(), Fail> {
     let alloc = rt.alloc();
     let text = b"[\n{\n  \"a\": 1\n}\n]\n";
-    let left = run(&rt, alloc, "--ojson cat", b"a=1\n", &[], &[], outputs(alloc, 1000, &[1])?)?;
+    let left = run(
+        &rt,
+        alloc,
+        "--ojson cat",
+        b"a=1\n",
+        &[],
+        &[],
+        outputs(alloc, 1000, &[1])?,
+    )?;
     assert_eq!(rt; left.ended, Ended::Written(Target::Stdout));
     assert_eq!(rt; left.ended.status(), 1);
     assert!(rt; text.starts_with(bytes_of(&left.outputs, &Target::Stdout)));
-    assert_eq!(rt; bytes_of(&left.outputs, &Target::Stderr), b"mlr: cannot write (stdout)\n".as_slice());
+    assert_eq!(rt;
+        bytes_of(&left.outputs, &Target::Stderr),
+        b"mlr: cannot write (stdout)\n".as_slice()
+    );
 
     // No room for all of the text, and none for the message.
-    let left = run(&rt, alloc, "--ojson cat", b"a=1\n", &[], &[], outputs(alloc, 7, &[])?)?;
+    let left = run(
+        &rt,
+        alloc,
+        "--ojson cat",
+        b"a=1\n",
+        &[],
+        &[],
+        outputs(alloc, 7, &[])?,
+    )?;
     assert_eq!(rt; left.ended, Ended::Written(Target::Stdout));
-    assert_eq!(rt; bytes_of(&left.outputs, &Target::Stdout), b"[\n{\n  \"".as_slice());
+    assert_eq!(rt;
+        bytes_of(&left.outputs, &Target::Stdout),
+        b"[\n{\n  \"".as_slice()
+    );
     assert_eq!(rt; bytes_of(&left.outputs, &Target::Stderr), b"".as_slice());
 
     // A message that can't be written changes no answer.
-    let left = run(&rt, alloc, "sort", b"", &[], &[], outputs(alloc, 1000, &[1])?)?;
-    let refusal = Refusal { word: 1, why: Why::NotBuilt };
+    let left = run(
+        &rt,
+        alloc,
+        "sort",
+        b"",
+        &[],
+        &[],
+        outputs(alloc, 1000, &[1])?,
+    )?;
+    let refusal = Refusal {
+        word: 1,
+        why: Why::NotBuilt,
+    };
     assert_eq!(rt; left.ended, Ended::Refused(refusal));
-    assert!(rt; b"mlr: word 1: not built: sort\n".starts_with(bytes_of(&left.outputs, &Target::Stderr)));
+    assert!(rt;
+        b"mlr: word 1: not built: sort\n".starts_with(bytes_of(&left.outputs, &Target::Stderr))
+    );
     Ok(())
 }
 
@@ -149,6 +305,9 @@ fn what_standard_output_held_stays(rt: HostRuntime) -> Result<(), Fail> {
     held.push((Target::Stdout, Bytes::copy_of(alloc, b"before\n")?))?;
     let into = MemOutputs::new(alloc, held, 1000, Vec::new(alloc))?;
     let left = run(&rt, alloc, "--ojson cat", b"", &[], &[], into)?;
-    assert_eq!(rt; bytes_of(&left.outputs, &Target::Stdout), b"before\n[\n]\n".as_slice());
+    assert_eq!(rt;
+        bytes_of(&left.outputs, &Target::Stdout),
+        b"before\n[\n]\n".as_slice()
+    );
     Ok(())
 }

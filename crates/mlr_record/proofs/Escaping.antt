@@ -28,8 +28,8 @@ pub flat_map_escaped-split : (text : List ℕ) → flat_map escaped text ≡ tak
 flat_map_escaped-split [] = refl
 flat_map_escaped-split (b ∷ text) =
     elim (cases_Bool (is_escaped b)) as (λ _. flat_map escaped (b ∷ text) ≡ take (position_or_len is_escaped (b ∷ text)) (b ∷ text) ++ flat_map escaped (drop (position_or_len is_escaped (b ∷ text)) (b ∷ text))) [
-      inl y ↦ rw y refl
-    | inr n ↦ rw (n, escaped-plain b n, one-add) (ap (λ x. b ∷ x) (flat_map_escaped-split text))
+      | inl y ↦ rw y refl
+      | inr n ↦ rw (n, escaped-plain b n, one-add) (ap (λ x. b ∷ x) (flat_map_escaped-split text))
     ]
 
 -- a list that isn't empty is its first element and the rest, as a slice's pattern reads them

@@ -19,7 +19,7 @@ loop-into-init g c =
       taken = grown-none_told taken ∙ ap (λ b. option_map (with_last (grown b)) taken) (sym c.requires.empty);
       counts = λ name. refl;
       front = subst (Continues contents taken) (sym c.requires.empty) c.requires.front;
-      fits = omega (arith, ap length c.requires.empty)
+      fits = omega (arith, ap length c.requires.empty);
     }
 
 pub loop-into-preserved : goal.loop-into-preserved
@@ -34,11 +34,11 @@ loop-into-preserved g c =
       contents = c.in-Some.ensures.contents ∙ now.contents;
       open_name = c.in-Some.ensures.open ∙ now.open_name;
       taken = step.entry ∙ ap (option_map (with_last (grown step.piece))) now.taken
-        ∙ with_last-twice_told (grown into) (grown step.piece) (grown (into ++ step.piece)) (grown-grown into step.piece) taken
-        ∙ ap (λ b. option_map (with_last (grown b)) taken) (sym step.appended);
+          ∙ with_last-twice_told (grown into) (grown step.piece) (grown (into ++ step.piece)) (grown-grown into step.piece) taken
+          ∙ ap (λ b. option_map (with_last (grown b)) taken) (sym step.appended);
       counts = λ name. unmoved _ _ _ is_open c.in-Some.ensures.counts name ∙ now.counts name;
       front = continued contents (g.I.Inputs.contents c.loop-into.inputs) taken (g.I.Inputs.taken c.loop-into.inputs) into now.contents now.taken step.piece c.read.new.into step.appended step.front;
-      fits = omega (arith, ap length step.appended, length-append into step.piece, step.count, step.no_more, c.min-max.ensures, c.len-in-loop-into.ensures, c.len.ensures, c.loop-into-test.true)
+      fits = omega (arith, ap length step.appended, length-append into step.piece, step.count, step.no_more, c.min-max.ensures, c.len-in-loop-into.ensures, c.len.ensures, c.loop-into-test.true);
     }
 
 pub returns-in-End-clause-read : goal.returns-in-End-clause-read
@@ -51,10 +51,10 @@ returns-in-End-clause-read g c =
     record {
       contents_same = c.in-End.ensures.contents ∙ now.contents;
       entry = step.entry ∙ ap (option_map (with_last ended)) now.taken
-        ∙ with_last-twice_told (grown into) ended (λ t. ended (grown into t)) (λ t. refl) taken
-        ∙ ap (λ b. option_map (with_last (λ t. ended (grown b t))) taken) (sym step.unchanged);
+          ∙ with_last-twice_told (grown into) ended (λ t. ended (grown into t)) (λ t. refl) taken
+          ∙ ap (λ b. option_map (with_last (λ t. ended (grown b t))) taken) (sym step.unchanged);
       measures = omega (arith, ap length step.unchanged, c.len.ensures, c.loop-into-test.true);
-      fits = all_taken contents (g.I.Inputs.contents c.loop-into.inputs) taken (g.I.Inputs.taken c.loop-into.inputs) into now.contents now.taken c.read.new.into step.unchanged step.all
+      fits = all_taken contents (g.I.Inputs.contents c.loop-into.inputs) taken (g.I.Inputs.taken c.loop-into.inputs) into now.contents now.taken c.read.new.into step.unchanged step.all;
     }
 
 pub returns-in-Failed-clause-read : goal.returns-in-Failed-clause-read
@@ -67,7 +67,7 @@ returns-in-Failed-clause-read g c =
       contents_same = c.in-Failed.ensures.contents ∙ now.contents;
       entry = step.entry ∙ now.taken ∙ ap (λ b. option_map (with_last (grown b)) taken) (sym step.unchanged);
       measures = omega (arith, ap length step.unchanged, c.len.ensures, c.loop-into-test.true);
-      fits = subst (Continues contents taken) (sym step.unchanged) now.front
+      fits = subst (Continues contents taken) (sym step.unchanged) now.front;
     }
 
 pub returns-in-NoMemory-clause-read : goal.returns-in-NoMemory-clause-read
@@ -80,5 +80,5 @@ returns-in-NoMemory-clause-read g c =
       contents_same = c.in-NoMemory.ensures.contents ∙ now.contents;
       entry = step.entry ∙ now.taken ∙ ap (λ b. option_map (with_last (grown b)) taken) (sym step.unchanged);
       measures = omega (arith, ap length step.unchanged, c.len.ensures, c.loop-into-test.true);
-      fits = subst (Continues contents taken) (sym step.unchanged) now.front
+      fits = subst (Continues contents taken) (sym step.unchanged) now.front;
     }

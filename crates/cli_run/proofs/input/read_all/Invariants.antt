@@ -12,7 +12,7 @@ invariant-loop-into g l = record {
   taken : g.I.Inputs.taken l.inputs ≡ option_map (with_last (grown l.into)) (g.I.Inputs.taken l.initial.inputs);
   counts : (name : InputName) → g.I.Inputs.faults l.inputs name ≡ g.I.Inputs.faults l.initial.inputs name;
   front : Continues (g.I.Inputs.contents l.initial.inputs) (g.I.Inputs.taken l.initial.inputs) l.into;
-  fits : length l.into ≤ 2 ^ 60
+  fits : length l.into ≤ 2 ^ 60;
 }
 
 abbrev pub decreases-loop-into : goal.decreases-loop-into

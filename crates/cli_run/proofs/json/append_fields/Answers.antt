@@ -22,7 +22,7 @@ loop-place-preserved c =
     ∙ ap (λ t. t ++ json_field field) (append_assoc into so_far (separator (nat_lt 0 place)))
     ∙ append_assoc into (so_far ++ separator (nat_lt 0 place)) (json_field field)
     ∙ ap (λ t. into ++ t) (ap (λ f. so_far ++ separator (nat_lt 0 place) ++ json_field f) (sym here)
-        ∙ sym (joined-more json_field fields place field (omega (arith, c.loop-place-test.true, c.len-place-end.ensures.length))))
+    ∙ sym (joined-more json_field fields place field (omega (arith, c.loop-place-test.true, c.len-place-end.ensures.length))))
 
 pub returns : goal.returns
 returns c =

@@ -19,6 +19,6 @@ returns c =
     let map : bytes_eq value (codes "{}") ≡ false = ap (bytes_eq value) (sym c.as_slice.ensures) ∙ sym c.eq.ensures ∙ c.if-eq.false in
     let array : bytes_eq value (codes "[]") ≡ false = ap (bytes_eq value) (sym c.as_slice-else-eq.ensures) ∙ sym c.eq-else-eq.ensures ∙ c.if-eq-2.false in
     with_piece-plain pairs piece value i c.first_of-equals.ensures.place c.behind-value.ensures (λ v. tree_of v.now) c.get.result below
-      (sym c.has_dot.ensures ∙ c.if-has_dot.false) map array c.get.ensures (sym c.is_some.ensures ∙ c.if-is_some.false)
+    (sym c.has_dot.ensures ∙ c.if-has_dot.false) map array c.get.ensures (sym c.is_some.ensures ∙ c.if-is_some.false)
     ∙ ap (λ t. Some (pairs ++ (take i piece, t) ∷ [])) (ap (λ opts. tree_of_data opts value) (sym c.plain.ensures) ∙ sym c.in_ok-value.ensures)
     ∙ ap Some (sym c.in_ok-push.ensures)

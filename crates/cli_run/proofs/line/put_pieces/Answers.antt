@@ -9,7 +9,7 @@ pub returns-then-not-branch : goal.returns-then-not-branch
 returns-then-not-branch c =
     sym c.loop-rest.invariant
     ∙ pieces-stop c.loop-rest.record c.loop-rest.rest.now c.first_of-end.result c.first_of-end.ensures.place c.first_of-end.ensures.within
-        (c.in_ok-put_piece.ensures ∙ ap (λ t. cond t (Some c.put_piece.new.record) None) c.if-not-branch.true)
+    (c.in_ok-put_piece.ensures ∙ ap (λ t. cond t (Some c.put_piece.new.record) None) c.if-not-branch.true)
 
 pub returns-then-end-rest : goal.returns-then-end-rest
 returns-then-end-rest c =
@@ -22,5 +22,5 @@ loop-rest-preserved c =
     let below : c.first_of-end.result < length c.loop-rest.rest.now = omega (arith, c.first_of-end.ensures.within, c.if-end-rest.false) in
     ap (λ r. with_pieces c.put_piece.new.record (slice_split is_comma r)) c.behind-rest.ensures
     ∙ pieces-more c.loop-rest.record c.loop-rest.rest.now c.first_of-end.result c.first_of-end.ensures.place c.put_piece.new.record below
-        (c.in_ok-put_piece.ensures ∙ ap (λ t. cond t (Some c.put_piece.new.record) None) c.if-not-branch.false)
+    (c.in_ok-put_piece.ensures ∙ ap (λ t. cond t (Some c.put_piece.new.record) None) c.if-not-branch.false)
     ∙ c.loop-rest.invariant

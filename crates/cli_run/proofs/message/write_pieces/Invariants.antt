@@ -12,5 +12,5 @@ abbrev pub invariant-loop-piece : goal.invariant-loop-piece
 invariant-loop-piece g l = record {
   bytes : ChangesAt Stderr (Puts (flat_map (λ piece. piece.now) (take l.piece-index l.pieces)) Ok) (g.O.Outputs.held l.initial.outputs) (g.O.Outputs.held l.outputs);
   counts : (target : Target) → g.O.Outputs.faults l.outputs target ≡ g.O.Outputs.faults l.initial.outputs target;
-  memory : g.O.Outputs.shortages l.outputs ≡ g.O.Outputs.shortages l.initial.outputs
+  memory : g.O.Outputs.shortages l.outputs ≡ g.O.Outputs.shortages l.initial.outputs;
 }

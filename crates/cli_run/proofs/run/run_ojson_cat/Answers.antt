@@ -12,7 +12,7 @@ returns-in-Failed-clause-run g c = record {
   bytes = [];
   takes = takes_none (g.I.Inputs.contents c.args.inputs.now) (g.I.Inputs.taken c.args.inputs.now) (g.I.Inputs.taken c.open.new.self) c.in-Failed.ensures.taken;
   says = (refl, inl (refl, refl));
-  leaves = unwritten [] (g.O.Outputs.held c.args.outputs.now)
+  leaves = unwritten [] (g.O.Outputs.held c.args.outputs.now);
 }
 
 pub returns-in-NoMemory-clause-run : goal.returns-in-NoMemory-clause-run
@@ -21,7 +21,7 @@ returns-in-NoMemory-clause-run g c = record {
   bytes = [];
   takes = takes_none (g.I.Inputs.contents c.args.inputs.now) (g.I.Inputs.taken c.args.inputs.now) (g.I.Inputs.taken c.open.new.self) c.in-NoMemory.ensures.taken;
   says = inl (refl, refl);
-  leaves = unwritten [] (g.O.Outputs.held c.args.outputs.now)
+  leaves = unwritten [] (g.O.Outputs.held c.args.outputs.now);
 }
 
 pub read_all-requires-clause-front : goal.read_all-requires-clause-front
@@ -36,9 +36,9 @@ returns-in-Whole-clause-run g c =
       given = stdin_read true bytes;
       bytes = bytes;
       takes = takes_whole (g.I.Inputs.contents c.args.inputs.now) (g.I.Inputs.contents c.open.new.self) c.in-Ok.ensures.contents (g.I.Inputs.taken c.args.inputs.now) (g.I.Inputs.taken c.open.new.self) c.in-Ok.ensures.taken
-        bytes (g.I.Inputs.taken c.read_all.new.inputs) c.in-Whole.ensures.read.entry c.in-Whole.ensures.read.fits;
+          bytes (g.I.Inputs.taken c.read_all.new.inputs) c.in-Whole.ensures.read.entry c.in-Whole.ensures.read.fits;
       says = says_whole result bytes c.in-Whole.ensures.read.measures (subst (Converts result) c.as_slice.ensures c.write_converted.ensures.converts);
-      leaves = subst (λ b. ChangesAt Stdout (LeavesOut result b) (g.O.Outputs.held c.args.outputs.now) (g.O.Outputs.held c.write_converted.new.outputs)) c.as_slice.ensures c.write_converted.ensures.bytes
+      leaves = subst (λ b. ChangesAt Stdout (LeavesOut result b) (g.O.Outputs.held c.args.outputs.now) (g.O.Outputs.held c.write_converted.new.outputs)) c.as_slice.ensures c.write_converted.ensures.bytes;
     }
 
 pub returns-in-Failed-read_all-clause-run : goal.returns-in-Failed-read_all-clause-run
@@ -49,9 +49,9 @@ returns-in-Failed-read_all-clause-run g c =
       given = stdin_read false bytes;
       bytes = bytes;
       takes = takes_part (g.I.Inputs.contents c.args.inputs.now) (g.I.Inputs.contents c.open.new.self) c.in-Ok.ensures.contents (g.I.Inputs.taken c.args.inputs.now) (g.I.Inputs.taken c.open.new.self) c.in-Ok.ensures.taken
-        bytes (g.I.Inputs.taken c.read_all.new.inputs) read.entry read.fits;
+          bytes (g.I.Inputs.taken c.read_all.new.inputs) read.entry read.fits;
       says = (refl, inr (refl, read.measures));
-      leaves = unwritten bytes (g.O.Outputs.held c.args.outputs.now)
+      leaves = unwritten bytes (g.O.Outputs.held c.args.outputs.now);
     }
 
 pub returns-in-TooLong-clause-run : goal.returns-in-TooLong-clause-run
@@ -62,9 +62,9 @@ returns-in-TooLong-clause-run g c =
       given = stdin_read false bytes;
       bytes = bytes;
       takes = takes_part (g.I.Inputs.contents c.args.inputs.now) (g.I.Inputs.contents c.open.new.self) c.in-Ok.ensures.contents (g.I.Inputs.taken c.args.inputs.now) (g.I.Inputs.taken c.open.new.self) c.in-Ok.ensures.taken
-        bytes (g.I.Inputs.taken c.read_all.new.inputs) read.entry read.fits;
+          bytes (g.I.Inputs.taken c.read_all.new.inputs) read.entry read.fits;
       says = (refl, read.measures);
-      leaves = unwritten bytes (g.O.Outputs.held c.args.outputs.now)
+      leaves = unwritten bytes (g.O.Outputs.held c.args.outputs.now);
     }
 
 pub returns-clause-run : goal.returns-clause-run
@@ -75,7 +75,7 @@ returns-clause-run g c =
       given = stdin_read false bytes;
       bytes = bytes;
       takes = takes_part (g.I.Inputs.contents c.args.inputs.now) (g.I.Inputs.contents c.open.new.self) c.in-Ok.ensures.contents (g.I.Inputs.taken c.args.inputs.now) (g.I.Inputs.taken c.open.new.self) c.in-Ok.ensures.taken
-        bytes (g.I.Inputs.taken c.read_all.new.inputs) read.entry read.fits;
+          bytes (g.I.Inputs.taken c.read_all.new.inputs) read.entry read.fits;
       says = inr (inl (refl, read.measures));
-      leaves = unwritten bytes (g.O.Outputs.held c.args.outputs.now)
+      leaves = unwritten bytes (g.O.Outputs.held c.args.outputs.now);
     }

@@ -15,7 +15,7 @@ returns-in-Ok-clause-bytes g c =
     let now = g.O.Outputs.held c.write.new.self in
     let is : Text c.in-Ok-Text.text ≡ converted input = sym c.in-Ok-Text.field-0-is ∙ c.in-Ok-Text.ensures in
     all_written input c.in-Ok-Text.text is before now
-      (subst (λ text. ChangesAt Stdout (WriteLeaves text Ok) before now) c.as_slice.ensures c.in-Ok.ensures.bytes)
+    (subst (λ text. ChangesAt Stdout (WriteLeaves text Ok) before now) c.as_slice.ensures c.in-Ok.ensures.bytes)
 
 pub returns-clause-bytes : goal.returns-clause-bytes
 returns-clause-bytes g c =

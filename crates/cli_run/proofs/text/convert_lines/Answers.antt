@@ -23,8 +23,11 @@ loop-rest-preserved c =
     let some : 0 < length rest = omega (arith, eqb-false (length rest) 0 (sym c.loop-rest-test.ensures)) in
     let put = subst (λ put. Pushes now.0 (take end rest) c.push_line.new.list put) c.if-not-branch.false (c.in_ok-push_line.ensures now.0 now.1) in
     record {
-      lines = (put.0, put.2,
+      lines = (
+        put.0,
+        put.2,
         ap (λ r. went (c.loop-rest.number + 1) put.0 (lines_of r)) c.behind_line-rest.ensures
-        ∙ sym (went-more c.loop-rest.number now.0 rest end c.line_end-end.ensures.place c.line_end-end.ensures.within some put.0 put.1) ∙ now.2);
-      fits = omega (arith, ap length c.behind_line-rest.ensures, length-drop (end + 1) rest, c.loop-rest.invariant.fits)
+            ∙ sym (went-more c.loop-rest.number now.0 rest end c.line_end-end.ensures.place c.line_end-end.ensures.within some put.0 put.1) ∙ now.2,
+      );
+      fits = omega (arith, ap length c.behind_line-rest.ensures, length-drop (end + 1) rest, c.loop-rest.invariant.fits);
     }

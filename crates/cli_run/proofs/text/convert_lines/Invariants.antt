@@ -8,7 +8,7 @@ use Rattle.cli_run.proofs.text.convert_lines.Given as goal
 abbrev pub invariant-loop-rest : goal.invariant-loop-rest
 invariant-loop-rest l = record {
   lines : (records : List Pairs) × HasRecords l.list records × (went l.number records (lines_of l.rest) ≡ went 1 [] (lines_of l.initial.rest));
-  fits : l.number + length l.rest ≤ length l.initial.rest + 1
+  fits : l.number + length l.rest ≤ length l.initial.rest + 1;
 }
 
 abbrev pub decreases-loop-rest : goal.decreases-loop-rest

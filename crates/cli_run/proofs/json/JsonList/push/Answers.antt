@@ -9,9 +9,9 @@ returns c = λ records has.
     let new = c.args.«record».now in
     record {
       text =
-        c.in_ok-append_record.ensures
-        ∙ ap (λ t. t ++ json_record new) (c.in_ok-append_separator.ensures ∙ ap (λ t. t ++ separator c.args.self.now.any) has.text)
-        ∙ ap (λ any. open_list records ++ separator any ++ json_record new) has.any
-        ∙ sym (open_list-push records new);
-      any = sym (are_some-push records new)
+          c.in_ok-append_record.ensures
+          ∙ ap (λ t. t ++ json_record new) (c.in_ok-append_separator.ensures ∙ ap (λ t. t ++ separator c.args.self.now.any) has.text)
+          ∙ ap (λ any. open_list records ++ separator any ++ json_record new) has.any
+          ∙ sym (open_list-push records new);
+      any = sym (are_some-push records new);
     }
