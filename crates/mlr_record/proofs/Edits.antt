@@ -1,17 +1,16 @@
 -- What a removal, a field put first and a renaming leave, and the place of a name.
-use Rattle.std.proofs.Common.{◌≡◌, ℕ, zero, suc, ◌+◌, ◌<◌, Bool, true, false, cond, not, ◌||◌, List, [], ◌∷◌, ◌++◌, length, take, drop, remove, get_or, set, map, Option, Some, None, is_some, is_none, refl, ap, sym, subst, ◌∙◌, arith, tests, one-add, add-one, get_or-set_same, length-take, take-take, ap₂, ◌-◌}
+use Rattle.std.proofs.Common.{◌≡◌, ℕ, zero, suc, ◌+◌, ◌<◌, true, false, List, [], ◌∷◌, ◌++◌, length, take, drop, remove, get_or, set, Vec, Global, Option, Some, None, is_some, is_none, refl, ap, sym, subst, ◌∙◌, arith, tests, one-add, add-one, get_or-set_same, length-take, take-take, ap₂, ◌-◌}
 use Rattle.std.specs.List.{list_any, position_or_len}
 use Rattle.std.specs.Str.{bytes_eq}
 use Rattle.std.proofs.lemmas.Bool.{or_parts, or_from, or_right, cond-false, cond-true, true≢false}
 use Rattle.std.proofs.lemmas.Slice.Eq.{bytes_eq-Decides}
-use Rattle.std.proofs.lemmas.List.{length-map}
-use Rattle.std.specs.Cmp.Lexicographic.{nat_list_eq_equiv}
-use Rattle.mlr_spec.specs.Tree.{Tree}
+use Rattle.std.proofs.lemmas.List.{length-map, with_items_is}
+use Rattle.std.specs.Vec.{with_item, with_items}
 use Rattle.mlr_spec.specs.Pairs.{value_at, remove_at, place_at, with_name, rename_at}
 use Rattle.mlr_value.specs.Value.{tree_of}
 use Rattle.mlr_value.specs.declared.value.Value.{Value}
 use Rattle.mlr_record.specs.declared.record.Field.{Field}
-use Rattle.mlr_record.specs.Fields.{pairs_of, pair_of, has_name, IsPlaceOf, IsRenamed}
+use Rattle.mlr_record.specs.Fields.{pairs_of, pair_of, has_name, IsPlaceOf}
 use Rattle.mlr_record.proofs.Places.{value_at-absent, value_at-place}
 
 module _ (key : List ℕ) where
@@ -111,7 +110,7 @@ remove-set (g ∷ fields) zero f = refl
 remove-set (g ∷ fields) (suc i) f = ap (λ x. g ∷ x) (remove-set fields i f)
 
 -- a field that got a value and was moved before the others
-pub put-first : (key : List ℕ) (value : Value) (fields : List Field) (i : ℕ) (d : Field) → IsPlaceOf key fields (Some i) → d ≡ get_or fields i d → (after : List Field)
+put-first : (key : List ℕ) (value : Value) (fields : List Field) (i : ℕ) (d : Field) → IsPlaceOf key fields (Some i) → d ≡ get_or fields i d → (after : List Field)
     → ((f : Field) → after ≡ get_or (set fields i (record { name = d.name; value = value })) i f ∷ remove (set fields i (record { name = d.name; value = value })) i)
     → pairs_of after ≡ (key, tree_of value) ∷ remove_at key (pairs_of fields)
 put-first key value fields i d is same after moved =
@@ -120,6 +119,17 @@ put-first key value fields i d is same after moved =
     ap pairs_of (moved f) ∙ ap (λ g. pair_of g ∷ pairs_of (remove (set fields i f) i)) (get_or-set_same fields i f f is.0)
     ∙ ap (λ name. (name, tree_of value) ∷ pairs_of (remove (set fields i f) i)) named
     ∙ ap (λ x. (key, tree_of value) ∷ x) (ap pairs_of (remove-set fields i f) ∙ sym (remove_at-found key fields i is))
+
+-- the same of the record's vector, which was lent as a slice twice
+pub put-first-lent : (key : List ℕ) (value : Value) (fields : Vec Field Global) (i : ℕ) (d : Field) (searched lent after : List Field)
+    → searched ≡ fields.items → IsPlaceOf key searched (Some i) → d ≡ get_or fields.items i d
+    → lent ≡ set fields.items i (record { name = d.name; value = value }) → length lent ≡ fields.len
+    → ((f : Field) → after ≡ get_or lent i f ∷ remove lent i) → length after ≡ length lent
+    → pairs_of (with_items (with_item fields i (record { name = d.name; value = value })) after).items ≡ (key, tree_of value) ∷ remove_at key (pairs_of fields.items)
+put-first-lent key value fields i d searched lent after whole is same given long moved kept =
+    ap pairs_of (with_items_is (with_item fields i (record { name = d.name; value = value })) after (kept ∙ long))
+    ∙ put-first key value fields.items i d (subst (λ xs. IsPlaceOf key xs (Some i)) whole is) same after
+    (subst (λ xs. (f : Field) → after ≡ get_or xs i f ∷ remove xs i) given moved)
 
 module _ (old new : List ℕ) (fields : List Field) where
   -- where no field has the old name, nothing changes
@@ -146,7 +156,7 @@ pub moved-first : (fields front : List Field) (i : ℕ) (d : Field) → i < leng
 moved-first fields front i d below turned =
     let k : length (take (i + 1) fields) - 1 ≡ i = let l = length-take (i + 1) fields in omega arith in
     let is : front ≡ get_or fields i d ∷ take i fields =
-      turned ∙ ap (λ m. drop m (take (i + 1) fields) ++ take m (take (i + 1) fields)) k
-      ∙ ap (λ m. drop i (take m fields) ++ take i (take m fields)) (add-one i)
-      ∙ ap₂ (λ x y. x ++ y) (last-of-front fields i d below) (take-take i (suc i) fields (omega arith)) in
+    turned ∙ ap (λ m. drop m (take (i + 1) fields) ++ take m (take (i + 1) fields)) k
+    ∙ ap (λ m. drop i (take m fields) ++ take i (take m fields)) (add-one i)
+    ∙ ap₂ (λ x y. x ++ y) (last-of-front fields i d below) (take-take i (suc i) fields (omega arith)) in
     ap (λ x. x ++ drop (i + 1) fields) is ∙ ap (λ m. get_or fields i d ∷ (take i fields ++ drop m fields)) (add-one i)

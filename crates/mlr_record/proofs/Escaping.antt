@@ -1,8 +1,7 @@
 -- Texts with their escapes.
-use Rattle.std.proofs.Common.{◌≡◌, ℕ, zero, suc, ◌+◌, ◌<◌, ◌≤◌, Bool, true, false, cond, not, ◌||◌, nat_lt, ◌==◌, List, [], ◌∷◌, ◌++◌, length, take, drop, get_or, ◌-◌, append_assoc, refl, ap, sym, ◌∙◌, arith, rules}
+use Rattle.std.proofs.Common.{◌≡◌, ℕ, ◌<◌, ◌≤◌, true, false, ◌||◌, nat_lt, ◌==◌, List, [], ◌∷◌, ◌++◌, length, take, drop, get_or, ◌-◌, append_assoc, refl, ap, sym, ◌∙◌, arith}
 use Rattle.std.specs.List.{flat_map, position_or_len}
 use Rattle.std.proofs.lemmas.Bool.{or_parts, ltb-false, eqb-false, ne_eqb, cases_Bool}
-use Rattle.std.proofs.lemmas.Bool.Decides.{nat_tests}
 use mathlib.Core.Logic.{inl, inr}
 use Rattle.std.proofs.Math.Numerals.{one-add}
 use Rattle.std.proofs.Math.Seq.{take-length}
@@ -28,8 +27,8 @@ pub flat_map_escaped-split : (text : List ℕ) → flat_map escaped text ≡ tak
 flat_map_escaped-split [] = refl
 flat_map_escaped-split (b ∷ text) =
     elim (cases_Bool (is_escaped b)) as (λ _. flat_map escaped (b ∷ text) ≡ take (position_or_len is_escaped (b ∷ text)) (b ∷ text) ++ flat_map escaped (drop (position_or_len is_escaped (b ∷ text)) (b ∷ text))) [
-      inl y ↦ rw y refl
-    | inr n ↦ rw (n, escaped-plain b n, one-add) (ap (λ x. b ∷ x) (flat_map_escaped-split text))
+      | inl y ↦ rw y refl
+      | inr n ↦ rw (n, escaped-plain b n, one-add) (ap (λ x. b ∷ x) (flat_map_escaped-split text))
     ]
 
 -- a list that isn't empty is its first element and the rest, as a slice's pattern reads them

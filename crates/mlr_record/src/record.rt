@@ -135,16 +135,13 @@ impl Record {
     pub fn put_first(&mut self, key: &[u8], value: Value) -> Result<(), NoMemory>
         ensures { self.new ≡ (if is_ok result then (key.now, tree_of value) ∷ remove_at key.now self.old else self.old) }
     {
-        match place_of(&self.fields, key) {
-            Some(place) => {
-                self.fields[place].value = value;
-                move_first(&mut self.fields, place);
-            }
-            None => {
-                let name = Bytes::copy_of(self.alloc, key)?;
-                self.fields.insert(0, Field { name, value })?;
-            }
+        if let Some(place) = place_of(&self.fields, key) {
+            self.fields[place].value = value;
+            move_first(&mut self.fields, place);
+            return Ok(());
         }
+        let name = Bytes::copy_of(self.alloc, key)?;
+        self.fields.insert(0, Field { name, value })?;
         Ok(())
     }
 
@@ -167,18 +164,6 @@ impl Record {
 
 const FIRST_ROOM: usize = 8;
 
-/// The place of the field with this name.
-fn place_of(fields: &[Field], key: &[u8]) -> Option<usize>
-    ensures { IsPlaceOf key.now fields.now result }
-{
-    for (place, field) in fields.iter().enumerate() {
-        if field.name.as_slice() == key {
-            return Some(place);
-        }
-    }
-    None
-}
-
 /// Moves the field at this place before the others.
 fn move_first(fields: &mut [Field], place: usize)
     requires { place < length fields.old }
@@ -198,4 +183,16 @@ fn give_name(fields: &mut Vec<Field>, place: usize, name: Bytes)
     if let Some(other) = other {
         fields.remove(other);
     }
+}
+
+/// The place of the field with this name.
+fn place_of(fields: &[Field], key: &[u8]) -> Option<usize>
+    ensures { IsPlaceOf key.now fields.now result }
+{
+    for (place, field) in fields.iter().enumerate() {
+        if field.name.as_slice() == key {
+            return Some(place);
+        }
+    }
+    None
 }

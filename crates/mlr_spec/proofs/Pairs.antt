@@ -1,9 +1,9 @@
 -- Keys stay distinct where a pair is put, taken out or renamed.
-use Rattle.std.proofs.Common.{◌≡◌, ℕ, Bool, true, false, cond, not, ◌||◌, ◌&&◌, List, [], ◌∷◌, ◌++◌, Some, None, refl, ap, sym, subst, inl, inr, ◌∙◌}
+use Rattle.std.proofs.Common.{◌≡◌, ℕ, Bool, true, false, cond, not, ◌||◌, List, [], ◌∷◌, ◌++◌, Some, None, refl, ap, sym, subst, inl, inr, ◌∙◌}
 use Rattle.std.specs.List.{list_any}
 use Rattle.std.specs.Str.{bytes_eq}
 use Rattle.std.specs.Option.{is_none}
-use Rattle.std.proofs.lemmas.Bool.{or_parts, or_from, or_cases, and_parts, and_from, and_right, cond_both, cases_Bool, not-true, not_from_false, not_from_true}
+use Rattle.std.proofs.lemmas.Bool.{or_parts, or_from, and_parts, and_from, and_right, cond_both, cases_Bool, not-true, not_from_false}
 use Rattle.std.proofs.lemmas.List.Folds.{list_any-append}
 use Rattle.std.proofs.lemmas.Slice.Eq.{bytes_eq-Decides}
 use Rattle.std.specs.Cmp.Lexicographic.{nat_list_eq_equiv}
@@ -114,8 +114,8 @@ module _ {V : Type 0} where
       cond_both (bytes_eq p.0 old) ((new, p.1) ∷ pairs) (p ∷ with_name old new pairs) (λ x. are_distinct (keys_of x) ≡ true)
       (λ _. and_from _ _ (not_from_false _ apart.1) parts.1)
       (λ _. and_from _ _
-        (not_from_false _ (any_key-name (bytes_eq p.0) old new pairs (nat_list_eq_equiv.symm p.0 new ∙ apart.0) (not-true _ parts.0)))
-        (are_distinct-name old new pairs apart.1 parts.1))
+      (not_from_false _ (any_key-name (bytes_eq p.0) old new pairs (nat_list_eq_equiv.symm p.0 new ∙ apart.0) (not-true _ parts.0)))
+      (are_distinct-name old new pairs apart.1 parts.1))
 
   pub are_distinct-rename : (old new : List ℕ) (pairs : List (List ℕ × V)) → are_distinct (keys_of pairs) ≡ true → are_distinct (keys_of (rename_at old new pairs)) ≡ true
   are_distinct-rename old new pairs h =

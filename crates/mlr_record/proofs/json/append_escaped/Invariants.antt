@@ -8,7 +8,7 @@ use Rattle.mlr_record.proofs.json.append_escaped.Given as goal
 abbrev pub invariant-loop-rest : goal.invariant-loop-rest
 invariant-loop-rest l = record {
   all : l.into ++ flat_map escaped l.rest ≡ l.initial.into ++ flat_map escaped l.initial.rest;
-  front : StandsBefore l.initial.into l.into
+  front : StandsBefore l.initial.into l.into;
 }
 
 abbrev pub decreases-loop-rest : goal.decreases-loop-rest

@@ -1,4 +1,4 @@
-use Rattle.std.proofs.Common.{◌≡◌, ap, sym, ◌∙◌, subst, set, remove, Option, Some, None}
+use Rattle.std.proofs.Common.{ap, sym, ◌∙◌, subst, set, remove, Some, None}
 use Rattle.mlr_record.specs.Fields.{IsPlaceOf, pairs_of}
 use Rattle.mlr_record.proofs.Edits.{renamed-alone, renamed-both}
 use Rattle.mlr_record.proofs.record.give_name.Goals as goal
