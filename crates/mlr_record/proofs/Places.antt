@@ -1,11 +1,9 @@
 -- What is found and put at the place of a name.
-use Rattle.std.proofs.Common.{◌≡◌, ℕ, zero, suc, ◌+◌, ◌<◌, Bool, true, false, cond, not, ◌||◌, ◌&&◌, List, [], ◌∷◌, ◌++◌, length, take, get_or, set, map, Some, None, refl, ap, sym, subst, inl, inr, ◌∙◌, arith}
+use Rattle.std.proofs.Common.{◌≡◌, ℕ, zero, suc, ◌<◌, true, false, List, [], ◌∷◌, ◌++◌, length, take, get_or, set, Some, None, refl, ap, sym, ◌∙◌, arith}
 use Rattle.std.specs.List.{list_any}
-use Rattle.std.specs.Str.{bytes_eq}
-use Rattle.std.proofs.lemmas.Bool.{or_parts, and_parts, and_from, cond_both, cases_Bool, not-true, not_from_false}
-use Rattle.std.proofs.lemmas.Grind.{common_steps}
+use Rattle.std.proofs.lemmas.Bool.{or_parts}
 use Rattle.mlr_spec.specs.Tree.{Tree}
-use Rattle.mlr_spec.specs.Pairs.{value_at, put_at, keys_of, are_distinct}
+use Rattle.mlr_spec.specs.Pairs.{value_at, put_at}
 use Rattle.mlr_value.specs.Value.{tree_of}
 use Rattle.mlr_value.specs.declared.value.Value.{Value}
 use Rattle.mlr_record.specs.declared.record.Field.{Field}

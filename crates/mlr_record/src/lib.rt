@@ -3,6 +3,8 @@
 
 mod json;
 mod record;
+#[cfg(test)]
+mod record_tests;
 
 pub use json::{append_json_string, append_json_value};
 pub use record::Record;

@@ -1,8 +1,9 @@
-ghost use Rattle.std.specs.Prelude.{◌≡◌, ◌<◌, ◌++◌, ◌∷◌, true, [], length, if◌then◌else◌, is_ok, IfOk, slice_get};
+ghost use Rattle.std.specs.Prelude.{◌≡◌, ◌<◌, ◌++◌, ◌∷◌, true, [], length, if◌then◌else◌, is_ok, IfOk, slice_get, is_some, vec_len, slice_index_or, remove};
 ghost use Rattle.std.specs.Option.{option_map};
-ghost use Rattle.mlr_spec.specs.Pairs.{value_at, put_at, keys_of, are_distinct};
+ghost use Rattle.mlr_spec.specs.Pairs.{value_at, put_at, remove_at, place_at, rename_at, keys_of, are_distinct};
 ghost use Rattle.mlr_value.specs.Value.{tree_of};
-ghost use Rattle.mlr_record.specs.Fields.{IsPlaceOf};
+ghost use Rattle.mlr_record.specs.declared.record.Field.{Field};
+ghost use Rattle.mlr_record.specs.Fields.{IsPlaceOf, IsRenamed};
 
 use mlr_spec::NoMemory;
 use mlr_value::{Bytes, Value};
@@ -81,6 +82,13 @@ impl Record {
         (field.name.as_slice(), &field.value)
     }
 
+    /// The place of this name, which counts from 0. It takes no memory.
+    pub fn position(&self, key: &[u8]) -> Option<usize>
+        ensures { result ≡ place_at key.now self.now }
+    {
+        place_of(&self.fields, key)
+    }
+
     /// Gives the name this value: in its place if it is there, else last.
     pub fn put(&mut self, key: &[u8], value: Value) -> Result<(), NoMemory>
         ensures { self.new ≡ (if is_ok result then put_at key.now (tree_of value) self.old else self.old) }
@@ -108,9 +116,74 @@ impl Record {
         self.fields.push(Field { name, value })?;
         Ok(())
     }
+
+    /// Takes the field of this name out, and says whether there was one. It takes no memory.
+    pub fn remove(&mut self, key: &[u8]) -> bool
+        ensures found { result ≡ is_some (value_at key.now self.old) }
+        ensures removed { self.new ≡ remove_at key.now self.old }
+    {
+        match place_of(&self.fields, key) {
+            Some(place) => {
+                self.fields.remove(place);
+                true
+            }
+            None => false,
+        }
+    }
+
+    /// Puts a field first; a field of this name that is there is taken out.
+    pub fn put_first(&mut self, key: &[u8], value: Value) -> Result<(), NoMemory>
+        ensures { self.new ≡ (if is_ok result then (key.now, tree_of value) ∷ remove_at key.now self.old else self.old) }
+    {
+        if let Some(place) = place_of(&self.fields, key) {
+            self.fields[place].value = value;
+            move_first(&mut self.fields, place);
+            return Ok(());
+        }
+        let name = Bytes::copy_of(self.alloc, key)?;
+        self.fields.insert(0, Field { name, value })?;
+        Ok(())
+    }
+
+    /// Renames the field `old` in its place, takes another field of the new name out, and says whether `old` was there.
+    pub fn rename(&mut self, old: &[u8], new: &[u8]) -> Result<bool, NoMemory>
+        ensures found { IfOk result (λ found. found ≡ is_some (value_at old.now self.old)) }
+        ensures renamed { self.new ≡ (if is_ok result then rename_at old.now new.now self.old else self.old) }
+    {
+        let Some(place) = place_of(&self.fields, old) else {
+            return Ok(false);
+        };
+        if old == new {
+            return Ok(true);
+        }
+        let name = Bytes::copy_of(self.alloc, new)?;
+        give_name(&mut self.fields, place, name);
+        Ok(true)
+    }
 }
 
 const FIRST_ROOM: usize = 8;
+
+/// Moves the field at this place before the others.
+fn move_first(fields: &mut [Field], place: usize)
+    requires { place < length fields.old }
+    ensures moved { (field : Field) → fields.new ≡ slice_index_or fields.old place field ∷ remove fields.old place }
+    ensures len { length fields.new ≡ length fields.old }
+{
+    fields[..place + 1].rotate_right(1);
+}
+
+/// Gives the field at this place the name, and takes another field of that name out.
+fn give_name(fields: &mut Vec<Field>, place: usize, name: Bytes)
+    requires { place < vec_len fields.old }
+    ensures { IsRenamed name place fields.old.items fields.new.items }
+{
+    let other = place_of(fields, name.as_slice());
+    fields[place].name = name;
+    if let Some(other) = other {
+        fields.remove(other);
+    }
+}
 
 /// The place of the field with this name.
 fn place_of(fields: &[Field], key: &[u8]) -> Option<usize>

@@ -1,6 +1,4 @@
-use Rattle.std.proofs.Common.{◌≡◌, ap, ◌∙◌, take, drop}
-use Rattle.std.specs.List.{position_or_len}
-use Rattle.mlr_record.specs.Escapes.{is_escaped}
+use Rattle.std.proofs.Common.{ap, ◌∙◌, take, drop}
 use Rattle.mlr_record.proofs.Escaping.{run_is, run_with_escape, first_is_escaped}
 use Rattle.mlr_record.proofs.json.append_run.Goals as goal
 

@@ -1,7 +1,7 @@
 use Rattle.std.proofs.Common.{sym, ap, ◌∙◌, subst, Some, None}
 use Rattle.mlr_spec.specs.Pairs.{value_at}
 use Rattle.mlr_value.specs.Value.{tree_of}
-use Rattle.mlr_record.specs.Fields.{pairs_of, IsPlaceOf}
+use Rattle.mlr_record.specs.Fields.{IsPlaceOf}
 use Rattle.mlr_record.proofs.Places.{value_at-absent, value_at-place}
 use Rattle.mlr_record.proofs.record.Record.get.Goals as goal
 
