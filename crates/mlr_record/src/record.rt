@@ -209,13 +209,19 @@ mod tests {
     fn fields_put_and_found(rt: HostRuntime) -> Result<(), NoMemory> {
         let alloc = rt.alloc();
         let mut record = Record::new(alloc)?;
-        let puts: [(&[u8], &[u8]); 4] = [(b"a", b"1"), (b"b", b"2"), (b"", b"3"), (b"a", b"4")];
+        let puts: [(&[u8], &[u8]); 5] = [
+            (b"a", b"1"),
+            (b"b", b"2"),
+            (b"", b"3"),
+            (b"a", b"4"),
+            (b"b", b"5"),
+        ];
         for row in &puts {
             let (name, text) = *row;
             record.put(name, string(alloc, text)?)?;
         }
         assert_eq!(rt; record.len(), 3);
-        let fields: [(&[u8], &[u8]); 3] = [(b"a", b"4"), (b"b", b"2"), (b"", b"3")];
+        let fields: [(&[u8], &[u8]); 3] = [(b"a", b"4"), (b"b", b"5"), (b"", b"3")];
         for (place, row) in fields.iter().enumerate() {
             let (name, text) = *row;
             let value = string(alloc, text)?;
