@@ -3,7 +3,9 @@
 #![tactic(auto)]
 
 mod infer;
+mod json;
 mod memory;
 
 pub use infer::{InferOpts, Kind};
+pub use json::JsonStyle;
 pub use memory::NoMemory;

@@ -1,0 +1,8 @@
+/// How a JSON text lies on its lines.
+#[derive(Clone, Copy, Debug, PartialEq, Eq)]
+pub enum JsonStyle {
+    /// A line for each field of a map, and for each item of an array in which a map or an array stands.
+    Stacked,
+    /// All on one line.
+    Single,
+}
