@@ -3,3 +3,5 @@ pub mod Infer
 pub mod Pairs
 pub mod Lines
 pub mod Json
+pub mod JsonTokens
+pub mod JsonGrammar

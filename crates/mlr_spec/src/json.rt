@@ -6,3 +6,20 @@ pub enum JsonStyle {
     /// All on one line.
     Single,
 }
+
+/// The six marks of JSON, by what they do (RFC 8259, section 2).
+#[derive(Clone, Copy, Debug, PartialEq, Eq)]
+pub enum JsonMark {
+    /// `{`
+    BeginMap,
+    /// `}`
+    EndMap,
+    /// `[`
+    BeginArray,
+    /// `]`
+    EndArray,
+    /// `:`
+    Colon,
+    /// `,`
+    Comma,
+}

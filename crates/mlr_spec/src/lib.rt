@@ -7,5 +7,5 @@ mod json;
 mod memory;
 
 pub use infer::{InferOpts, Kind};
-pub use json::JsonStyle;
+pub use json::{JsonMark, JsonStyle};
 pub use memory::NoMemory;
