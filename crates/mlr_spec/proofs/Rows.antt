@@ -1,13 +1,20 @@
 -- The definitions on worked examples: each computes to the answer that stands beside it.
-use Rattle.std.specs.Prelude.{◌≡◌, ℕ, Bool, true, false, List, [], ◌∷◌, ◌++◌, codes, refl, pos, negsuc}
+use Rattle.std.specs.Prelude.{◌≡◌, ℕ, Bool, true, false, List, [], ◌∷◌, ◌++◌, None, codes, refl, pos, negsuc}
 use Rattle.mlr_spec.specs.declared.infer.Kind.{Kind}
 use Rattle.mlr_spec.specs.declared.infer.Kind.TheVariants.{Empty, Str, Int, Frac, Wide}
 use Rattle.mlr_spec.specs.declared.infer.InferOpts.{InferOpts}
-use Rattle.mlr_spec.specs.Tree.{string, int, text_of}
+use Rattle.mlr_spec.specs.declared.json.JsonStyle.TheVariants.{Stacked, Single}
+use Rattle.mlr_spec.specs.Tree.{Tree, string, int, boolean, text_of, map_of, array_of}
 use Rattle.mlr_spec.specs.Infer.{kind_of, kind_behind_sign, tree_of_data}
 use Rattle.mlr_spec.specs.Pairs.{put_at}
 use Rattle.mlr_spec.specs.Lines.{lines_of}
-use Rattle.mlr_spec.specs.Json.{json_string, json_list}
+use Rattle.mlr_spec.specs.Json.{json_string, json_text, json_list}
+use Rattle.mlr_spec.specs.JsonTokens.{sign, text_token, word_token, tokens_of, front_outside, front_inside}
+use Rattle.std.specs.Fmt.{digits}
+use lib.Utf8.{encode}
+use Rattle.mlr_spec.specs.declared.json.JsonMark.TheVariants.{BeginArray, EndArray, Comma}
+use Rattle.mlr_spec.specs.Split.{split_by}
+use Rattle.mlr_spec.specs.Flatten.{flat, unflat}
 
 abbrev opts : Bool → Bool → InferOpts
 opts none octal = record { none = none; octal = octal }
@@ -118,3 +125,38 @@ two_records = refl
 
 no_records : json_list [] ≡ codes "[\n]\n"
 no_records = refl
+
+abbrev one : Tree
+one = int (pos 1) (codes "1")
+
+abbrev two : Tree
+two = int (pos 2) (codes "2")
+
+abbrev nested : Tree
+nested = map_of ((codes "a", array_of (one ∷ two ∷ [])) ∷ (codes "b", map_of ((codes "x", map_of []) ∷ [])) ∷ (codes "c", array_of (one ∷ array_of [] ∷ [])) ∷ [])
+
+stacked : json_text Stacked nested ≡ codes "{\n  \"a\": [1, 2],\n  \"b\": {\n    \"x\": {}\n  },\n  \"c\": [\n    1,\n    []\n  ]\n}"
+stacked = refl
+
+on_one_line : json_text Single nested ≡ codes "{\"a\": [1, 2], \"b\": {\"x\": {}}, \"c\": [1, []]}"
+on_one_line = refl
+
+tokens : tokens_of (opts false false) (codes " [1,\"x\\n\\u00e9\" ,true]") ≡ record {
+  tokens = (2, sign BeginArray) ∷ (3, word_token one) ∷ (4, sign Comma) ∷ (5, text_token (120 ∷ 10 ∷ 195 ∷ 169 ∷ [])) ∷ (17, sign Comma) ∷ (18, word_token (boolean true)) ∷ (22, sign EndArray) ∷ [];
+  stop = None;
+}
+unfolding kind_behind_sign front_outside front_inside encode
+tokens = refl
+
+parts : split_by (codes "::") (codes "a:::b::") ≡ codes "a" ∷ codes ":b" ∷ [] ∷ []
+parts = refl
+
+flattened : flat (codes ".") ((codes "a", map_of ((codes "b", one) ∷ (codes "c", array_of (two ∷ map_of [] ∷ [])) ∷ [])) ∷ [])
+    ≡ (codes "a.b", one) ∷ (codes "a.c.1", two) ∷ (codes "a.c.2", string (codes "{}")) ∷ []
+unfolding digits
+flattened = refl
+
+unflattened : unflat (codes ".") ((codes "a.1", one) ∷ (codes "a.2", two) ∷ (codes "b.x", string (codes "{}")) ∷ [])
+    ≡ (codes "a", array_of (one ∷ two ∷ [])) ∷ (codes "b", map_of ((codes "x", map_of []) ∷ [])) ∷ []
+unfolding digits
+unflattened = refl

@@ -124,10 +124,10 @@ is_inside inside (piece p) = inside
 abbrev pub lexemes_from : ℕ → Bool → ℕ → List ℕ → Lexemes
 lexemes_from zero inside place text = record { lexemes = []; stop = None }
 lexemes_from (suc n) inside place text = elim (front_of inside text) [
-    | found lexeme len ↦ and_lexeme place lexeme (lexemes_from n (is_inside inside lexeme) (place + len) (drop len text))
-    | begun ↦ record { lexemes = []; stop = if inside then Some (place + length text) else None }
-    | bad offset ↦ record { lexemes = []; stop = Some (place + offset) }
-  ]
+  | found lexeme len ↦ and_lexeme place lexeme (lexemes_from n (is_inside inside lexeme) (place + len) (drop len text))
+  | begun ↦ record { lexemes = []; stop = if inside then Some (place + length text) else None }
+  | bad offset ↦ record { lexemes = []; stop = Some (place + offset) }
+]
 
 abbrev pub lexemes_of : List ℕ → Lexemes
 lexemes_of text = lexemes_from (length text + 1) false 1 text

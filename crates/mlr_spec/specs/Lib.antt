@@ -5,3 +5,5 @@ pub mod Lines
 pub mod Json
 pub mod JsonTokens
 pub mod JsonGrammar
+pub mod Split
+pub mod Flatten
