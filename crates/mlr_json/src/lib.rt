@@ -2,6 +2,6 @@
 //! has its first fault. Texts are read by lexemes, which a reader of streams can share, with a stack of frames.
 #![tactic(auto)]
 
-mod frame;
+mod lexeme;
 
-pub use frame::{Frame, Phase};
+pub use lexeme::{Front, Lexeme, front_of};
