@@ -3,5 +3,7 @@
 #![tactic(auto)]
 
 mod lexeme;
+mod string;
 
 pub use lexeme::{Front, Lexeme, front_of};
+pub use string::StringBuilder;
