@@ -1,8 +1,8 @@
 use Rattle.std.proofs.Common.{◌≡◌, ◌++◌, length}
 use Rattle.std.specs.List.{flat_map}
 use Rattle.mlr_spec.specs.Json.{escaped}
-use Rattle.mlr_record.specs.Escapes.{StandsBefore}
-use Rattle.mlr_record.proofs.json.append_escaped.Given as goal
+use Rattle.mlr_json.specs.Escapes.{StandsBefore}
+use Rattle.mlr_json.proofs.escape.append_escaped.Given as goal
 
 -- what was put so far, with what is left, is the whole string
 abbrev pub invariant-loop-rest : goal.invariant-loop-rest

@@ -9,7 +9,7 @@ use Rattle.std.proofs.lemmas.List.{get_or-drop, length-drop}
 use Rattle.std.proofs.Common.{add-zero}
 use Rattle.std.proofs.lemmas.List.Sums.{passes_at_first}
 use Rattle.mlr_spec.specs.Json.{escaped, escape_letter}
-use Rattle.mlr_record.specs.Escapes.{is_escaped}
+use Rattle.mlr_json.specs.Escapes.{is_escaped}
 
 escape_letter-plain : (b : ℕ) → 32 ≤ b → (b ≡ 34 → ⊥) → (b ≡ 92 → ⊥) → escape_letter b ≡ 0
 escape_letter-plain b high quote backslash =

@@ -2,7 +2,7 @@ ghost use Rattle.std.specs.Prelude.{◌≡◌, ◌<◌, ◌≤◌, ◌++◌, tru
 ghost use Rattle.std.specs.List.{flat_map, position_or_len};
 ghost use Rattle.mlr_spec.specs.Json.{json_string, json_value, escaped, escape_letter, hex_digit};
 ghost use Rattle.mlr_value.specs.Value.{tree_of};
-ghost use Rattle.mlr_record.specs.Escapes.{is_escaped, StandsBefore};
+ghost use Rattle.mlr_json.specs.Escapes.{is_escaped, StandsBefore};
 
 use mlr_spec::NoMemory;
 use mlr_value::{Bytes, Value, append_text};

@@ -1,6 +1,6 @@
 use Rattle.std.proofs.Common.{ap, ◌∙◌, take, drop}
-use Rattle.mlr_record.proofs.Escaping.{run_is, run_with_escape, first_is_escaped}
-use Rattle.mlr_record.proofs.json.append_run.Goals as goal
+use Rattle.mlr_json.proofs.Escaping.{run_is, run_with_escape, first_is_escaped}
+use Rattle.mlr_json.proofs.escape.append_run.Goals as goal
 
 pub append_escape-requires : goal.append_escape-requires
 append_escape-requires c =

@@ -1,7 +1,7 @@
 use Rattle.std.proofs.Common.{arith, sym}
 use Rattle.std.proofs.lemmas.List.Sums.{position_or_len_is}
-use Rattle.mlr_record.specs.Escapes.{is_escaped}
-use Rattle.mlr_record.proofs.json.plain_front.Goals as goal
+use Rattle.mlr_json.specs.Escapes.{is_escaped}
+use Rattle.mlr_json.proofs.escape.plain_front.Goals as goal
 
 pub returns-then-wants_escape-clause-place : goal.returns-then-wants_escape-clause-place
 returns-then-wants_escape-clause-place c =
