@@ -3,3 +3,4 @@ pub mod Infer
 pub mod Pairs
 pub mod Lines
 pub mod Json
+pub mod TreeCode
