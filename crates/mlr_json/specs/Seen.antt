@@ -1,5 +1,5 @@
 -- The types of the code as the definitions have them: lexemes, and what stands at the front of a text.
-use Rattle.std.specs.Prelude.{◌≡◌, ℕ, ◌+◌, ◌≤◌, List, [], ◌∷◌, Option, MatchOption}
+use Rattle.std.specs.Prelude.{◌≡◌, ℕ, ◌≤◌, List, [], ◌∷◌, Option, MatchOption}
 use Rattle.std.specs.Borrow.{Bor}
 use Rattle.mlr_spec.specs.JsonTokens as text
 use Rattle.mlr_spec.specs.JsonTokens.{raw, unit, escape_of}

@@ -1,25 +1,10 @@
 ghost use Rattle.std.specs.Prelude.{◌≡◌, ◌<◌, ◌≤◌, ◌++◌, true, length, IfOk, OnOk, OnErr};
 ghost use Rattle.std.specs.List.{flat_map, position_or_len};
-ghost use Rattle.mlr_spec.specs.Json.{json_string, json_value, escaped, escape_letter, hex_digit};
-ghost use Rattle.mlr_value.specs.Value.{tree_of};
+ghost use Rattle.mlr_spec.specs.Json.{json_string, escaped, escape_letter, hex_digit};
 ghost use Rattle.mlr_json.specs.Escapes.{is_escaped, StandsBefore};
 
 use mlr_spec::NoMemory;
-use mlr_value::{Bytes, Value, append_text};
-
-/// Puts a value as JSON text behind `into`: numbers in their spelling, other texts in quotes (RFC 8259). Without
-/// memory a front of the text may have been put there.
-#[inline]
-pub fn append_json_value(value: &Value, into: &mut Bytes) -> Result<(), NoMemory>
-    ensures ok { OnOk result (into.new ≡ into.old ++ json_value (tree_of value.now)) }
-    ensures err { OnErr result (StandsBefore into.old into.new) }
-{
-    match value {
-        Value::Empty => append_json_string(b"", into),
-        Value::Str(text) => append_json_string(text.as_slice(), into),
-        Value::Int(_) | Value::Frac(_) | Value::Wide(_) => append_text(value, into),
-    }
-}
+use mlr_value::Bytes;
 
 /// Puts a text as a JSON string behind `into`. Quotes, backslashes and the bytes below 0x20 are escaped; every
 /// other byte stands, also one that is no UTF-8. Without memory a front of it may have been put there.
@@ -137,8 +122,6 @@ fn digit_of(number: u8) -> u8
 #[cfg(test)]
 mod tests {
     use super::*;
-    use mlr_spec::InferOpts;
-    use mlr_value::{IntValue, from_data};
 
     #[test]
     fn strings_with_escapes(rt: HostRuntime) -> Result<(), NoMemory> {
@@ -161,38 +144,6 @@ mod tests {
             append_json_string(text, &mut json)?;
             assert_eq!(rt; &json.as_slice()[1..], want, "at {i}");
         }
-        Ok(())
-    }
-
-    #[test]
-    fn values_bare_and_in_quotes(rt: HostRuntime) -> Result<(), NoMemory> {
-        let table: [(&[u8], &[u8]); 6] = [
-            (b"", br#""""#),
-            (b"abc", br#""abc""#),
-            (br#"say "hi""#, br#""say \"hi\"""#),
-            (b"0x0F", b"0x0F"),
-            (b"0.50", b"0.50"),
-            (b"9223372036854775808", b"9223372036854775808"),
-        ];
-        for (i, row) in table.iter().enumerate() {
-            let (text, want) = *row;
-            let value = from_data(rt.alloc(), text, InferOpts::plain())?;
-            let mut json = Bytes::copy_of(rt.alloc(), b"[")?;
-            append_json_value(&value, &mut json)?;
-            assert_eq!(rt; &json.as_slice()[1..], want, "at {i}");
-        }
-        Ok(())
-    }
-
-    #[test]
-    fn ints_without_a_spelling(rt: HostRuntime) -> Result<(), NoMemory> {
-        let value = Value::Int(IntValue {
-            n: -7,
-            spelling: Bytes::new(rt.alloc()),
-        });
-        let mut json = Bytes::new(rt.alloc());
-        append_json_value(&value, &mut json)?;
-        assert_eq!(rt; json.as_slice(), b"-7".as_slice());
         Ok(())
     }
 }

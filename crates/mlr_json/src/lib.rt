@@ -2,8 +2,12 @@
 //! has its first fault. Texts are read by lexemes, which a reader of streams can share, with a stack of frames.
 #![tactic(auto)]
 
+mod escape;
 mod lexeme;
 mod string;
+mod word;
 
+pub use escape::append_json_string;
 pub use lexeme::{Front, Lexeme, front_of};
 pub use string::StringBuilder;
+pub use word::word_value;

@@ -1,5 +1,5 @@
-use Rattle.std.proofs.Common.{arith, rules, get_or}
-use Rattle.mlr_json.proofs.Digits.{digit-small, number-of_four}
+use Rattle.std.proofs.Common.{arith}
+use Rattle.mlr_json.proofs.Digits.{digit-small}
 use Rattle.mlr_json.proofs.lexeme.unit_of.Goals as goal
 
 pub overflow_add-result-3 : goal.overflow_add-result-3

@@ -1,6 +1,6 @@
-use Rattle.std.proofs.Common.{◌≡◌, List, [], ◌++◌, ap, sym, ◌∙◌}
+use Rattle.std.proofs.Common.{[], ◌++◌, ap, sym, ◌∙◌}
 use Rattle.std.proofs.lemmas.List.{append-nil}
-use Rattle.mlr_spec.specs.JsonTokens.{Piece, decoded}
+use Rattle.mlr_spec.specs.JsonTokens.{decoded}
 use Rattle.mlr_json.specs.Decoding.{pending}
 use Rattle.mlr_json.proofs.string.StringBuilder.finish.Goals as goal
 
