@@ -1,3 +1,4 @@
 pub mod Seen
 pub mod Decoding
 pub mod Escapes
+pub mod Writing

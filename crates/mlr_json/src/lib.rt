@@ -6,8 +6,10 @@ mod escape;
 mod lexeme;
 mod string;
 mod word;
+mod write;
 
 pub use escape::append_json_string;
 pub use lexeme::{Front, Lexeme, front_of};
 pub use string::StringBuilder;
 pub use word::word_value;
+pub use write::{append_json_field, append_json_value, json_text};
