@@ -1,4 +1,5 @@
 pub mod Tree
+pub mod TreeCode
 pub mod Infer
 pub mod Pairs
 pub mod Lines
