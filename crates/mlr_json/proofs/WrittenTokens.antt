@@ -4,15 +4,12 @@ use Rattle.std.specs.List.{flat_map, prefix_len, take_while, list_all}
 use Rattle.std.proofs.lemmas.Bool.{or_parts, or_from, eqb-true, eqb-false, cases_Bool, not-true, cond-false, cond-true, and_parts, lt-ltb, false_from_ne_true, true≢false}
 use Rattle.std.proofs.lemmas.List.{append-nil, map-append, length-drop}
 use Rattle.std.proofs.Math.Seq.{drop-append_seam, take-append_seam}
-use Rattle.mlr_spec.specs.declared.infer.InferOpts.{InferOpts}
+use Rattle.mlr_json.specs.Readable.{plain}
 use Rattle.mlr_spec.specs.declared.json.JsonMark.{JsonMark}
 use Rattle.mlr_spec.specs.Json.{json_string}
 use Rattle.mlr_spec.specs.JsonTokens.{Piece, Lexeme, blank, mark, word, quote, piece, Front, found, begun, bad, mark_of, is_blank, is_word_byte, front_inside, front_outside, front_unmarked, front_of, is_inside, decoded, Lexemes, and_lexeme, lexemes_from, lexemes_of, Token, sign, text_token, word_token, Tokens, and_token, or_stop, token_of_word, pieces_in, tokens_outside, tokens_inside, tokens_of}
 use Rattle.mlr_spec.specs.JsonGrammar.{bare}
 use Rattle.mlr_json.proofs.WrittenStrings.{Lexes, lexes-append, written-string}
-
-abbrev pub plain : InferOpts
-plain = record { none = false; octal = false }
 
 abbrev names : List (ℕ × Lexeme) → List Lexeme
 names placed = map (λ l. l.1) placed
@@ -171,7 +168,7 @@ reads-line n rest filled = blanks-read 10 (replicate n 32) rest (spaces-blank n)
 other-byte : (b c : ℕ) → is_word_byte b ≡ true → is_word_byte c ≡ false → (b == c) ≡ false
 other-byte b c h k = false_from_ne_true (b == c) (λ e. true≢false (sym h ∙ ap is_word_byte (eqb-true b c e) ∙ k))
 
-word-byte-front : (b : ℕ) (t : List ℕ) → is_word_byte b ≡ true → (mark_of b ≡ None) × (is_blank b ≡ false) × ((b == 34) ≡ false)
+pub word-byte-front : (b : ℕ) (t : List ℕ) → is_word_byte b ≡ true → (mark_of b ≡ None) × (is_blank b ≡ false) × ((b == 34) ≡ false)
 word-byte-front b t h =
     (rw (other-byte b 123 h refl, other-byte b 125 h refl, other-byte b 91 h refl, other-byte b 93 h refl, other-byte b 58 h refl, other-byte b 44 h refl) refl,
     rw (other-byte b 32 h refl, other-byte b 9 h refl, other-byte b 10 h refl, other-byte b 13 h refl) refl,

@@ -1,2 +1,4 @@
 pub mod Machine
 pub mod Escapes
+pub mod Readable
+pub mod Answer

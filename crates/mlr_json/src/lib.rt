@@ -3,5 +3,7 @@
 #![tactic(auto)]
 
 mod frame;
+mod laws;
 
 pub use frame::{Frame, Phase};
+pub use laws::one_outcome;
