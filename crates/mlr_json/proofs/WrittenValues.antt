@@ -40,12 +40,12 @@ abbrev mutual
   elements_of (tree_and item more) = element_and (syntax_of item) (elements_of more)
 
 -- a text that is read as these tokens, where no word follows it
-record IsRead (t : List ℕ) (tokens : List Token) : Type 0 where
-  reads : (rest : List ℕ) → ends_word rest ≡ true → Reads (t ++ rest) tokens rest
-  filled : (rest : List ℕ) → is_filled (t ++ rest) ≡ true
+pub record IsRead (t : List ℕ) (tokens : List Token) : Type 0 where
+  pub reads : (rest : List ℕ) → ends_word rest ≡ true → Reads (t ++ rest) tokens rest
+  pub filled : (rest : List ℕ) → is_filled (t ++ rest) ≡ true
 
 -- texts one by one
-abbrev AreRead : List (List ℕ) → List (List Token) → Type 0
+abbrev pub AreRead : List (List ℕ) → List (List Token) → Type 0
 AreRead [] [] = Unit {0}
 AreRead [] (ts ∷ more) = ⊥
 AreRead (t ∷ texts) [] = ⊥
@@ -129,11 +129,11 @@ bracketed-filled true level left right (t ∷ texts) rest h = h
 bracketed-filled false level left right (t ∷ texts) rest h = h
 
 -- the tokens of the members and of the elements, each by itself
-abbrev each_member : Fields → List (List Token)
+abbrev pub each_member : Fields → List (List Token)
 each_member no_fields = []
 each_member (field_and key value more) = (text_token key ∷ sign Colon ∷ tokens_in (syntax_of value)) ∷ each_member more
 
-abbrev each_element : Trees → List (List Token)
+abbrev pub each_element : Trees → List (List Token)
 each_element no_trees = []
 each_element (tree_and item more) = tokens_in (syntax_of item) ∷ each_element more
 
@@ -172,7 +172,7 @@ member-read key t tokens h = record {
 }
 
 mutual
-  value-read : (style : JsonStyle) (level : ℕ) (v : Tree) → IsReadable v → IsRead (json_at style level v) (tokens_in (syntax_of v))
+  pub value-read : (style : JsonStyle) (level : ℕ) (v : Tree) → IsReadable v → IsRead (json_at style level v) (tokens_in (syntax_of v))
   value-read style level absent h = string-read []
   value-read style level empty h = string-read []
   value-read style level (string t) h = string-read t
