@@ -1,11 +1,11 @@
 ghost use Rattle.std.specs.Prelude.{◌≡◌, ◌++◌, ◌∷◌, [], codes, map, List, ℕ, IfOk, OnOk};
 ghost use Rattle.mlr_spec.specs.Json.{joined, json_field, json_record, json_list};
-ghost use Rattle.mlr_value.specs.Value.{tree_of};
-ghost use Rattle.cli_run.specs.Written.{HasRecords, Pairs, separator};
+ghost use Rattle.cli_run.specs.Written.{HasRecords, Pairs, separated};
 
-use mlr_record::{Record, append_json_string, append_json_value};
-use mlr_spec::NoMemory;
-use mlr_value::{Bytes, Value};
+use mlr_json::append_json_field;
+use mlr_record::Record;
+use mlr_spec::{JsonStyle, NoMemory};
+use mlr_value::Bytes;
 use std::alloc::Global;
 
 /// The JSON text of a list of records that is being written: its bracket is open.
@@ -30,7 +30,7 @@ impl JsonList {
     pub(crate) fn push(&mut self, record: &Record) -> Result<(), NoMemory>
         ensures { (records : List Pairs) → HasRecords self.old records → OnOk result (HasRecords self.new (records ++ record.now ∷ [])) }
     {
-        append_separator(self.any, &mut self.text)?;
+        append_separator(b",\n", self.any, &mut self.text)?;
         append_record(record, &mut self.text)?;
         self.any = true;
         Ok(())
@@ -50,40 +50,32 @@ impl JsonList {
     }
 }
 
-/// What stands between two, if there is one before.
-fn append_separator(any: bool, into: &mut Bytes) -> Result<(), NoMemory>
-    ensures { OnOk result (into.new ≡ into.old ++ separator any) }
+/// The separator, if there is a text before.
+fn append_separator(separator: &[u8], any: bool, into: &mut Bytes) -> Result<(), NoMemory>
+    ensures { OnOk result (into.new ≡ into.old ++ separated separator.now any) }
 {
-    if any { into.append(b",\n") } else { Ok(()) }
+    if any { into.append(separator) } else { Ok(()) }
 }
 
+/// A record as a map on lines, at the first level.
 fn append_record(record: &Record, into: &mut Bytes) -> Result<(), NoMemory>
-    ensures { OnOk result (into.new ≡ into.old ++ json_record record.now) }
+    ensures { OnOk result (into.new ≡ into.old ++ json_record JsonStyle.Stacked record.now) }
 {
     if record.len() == 0 {
         return into.append(b"{}");
     }
-    into.append(b"{\n")?;
+    into.append(b"{\n  ")?;
     append_fields(record, into)?;
     into.append(b"\n}")
 }
 
 fn append_fields(record: &Record, into: &mut Bytes) -> Result<(), NoMemory>
-    ensures { OnOk result (into.new ≡ into.old ++ joined (codes ",\n") (map json_field record.now)) }
+    ensures { OnOk result (into.new ≡ into.old ++ joined (codes ",\n  ") (map (json_field JsonStyle.Stacked 1) record.now)) }
 {
     for place in 0..record.len() {
-        append_separator(place > 0, into)?;
+        append_separator(b",\n  ", place > 0, into)?;
         let (key, value) = record.entry(place);
-        append_field(key, value, into)?;
+        append_json_field(key, value, JsonStyle::Stacked, into)?;
     }
     Ok(())
-}
-
-fn append_field(key: &[u8], value: &Value, into: &mut Bytes) -> Result<(), NoMemory>
-    ensures { OnOk result (into.new ≡ into.old ++ json_field (key.now, tree_of value.now)) }
-{
-    into.append(b"  ")?;
-    append_json_string(key, into)?;
-    into.append(b": ")?;
-    append_json_value(value, into)
 }

@@ -3,13 +3,20 @@
 #![tactic(auto)]
 
 mod escape;
+mod frame;
+mod laws;
 mod lexeme;
+mod machine;
+mod steps;
 mod string;
 mod word;
 mod write;
 
 pub use escape::append_json_string;
+pub use frame::{Frame, Phase};
+pub use laws::one_outcome;
 pub use lexeme::{Front, Lexeme, front_of};
+pub use machine::{Machine, Went};
 pub use string::StringBuilder;
 pub use word::word_value;
 pub use write::{append_json_field, append_json_value, json_text};

@@ -1,4 +1,5 @@
 pub mod Tree
+pub mod TreeCode
 pub mod Infer
 pub mod Pairs
 pub mod Lines
@@ -7,4 +8,3 @@ pub mod JsonTokens
 pub mod JsonGrammar
 pub mod Split
 pub mod Flatten
-pub mod TreeCode

@@ -99,3 +99,42 @@ fn copy_items(from: &ArrayValue, into: &mut ArrayValue, alloc: Global) -> Result
     }
     Ok(())
 }
+
+#[cfg(test)]
+mod tests {
+    use super::*;
+
+    /// The truth of a value that is a boolean.
+    fn truth(value: Option<&Value>) -> Option<bool> {
+        match value {
+            Some(Value::Bool(b)) => Some(*b),
+            _ => None,
+        }
+    }
+
+    #[test]
+    fn items_pushed(rt: HostRuntime) -> Result<(), NoMemory> {
+        let mut array = ArrayValue::new(rt.alloc());
+        array.push(Value::Bool(true))?;
+        array.push(Value::Bool(false))?;
+        assert_eq!(rt; array.len(), 2);
+        assert_eq!(rt; truth(Some(array.item(0))), Some(true));
+        assert_eq!(rt; truth(array.at(1)), Some(false));
+        assert_eq!(rt; truth(array.at(2)), None);
+        Ok(())
+    }
+
+    #[test]
+    fn nested_array_copied(rt: HostRuntime) -> Result<(), NoMemory> {
+        let mut inner = ArrayValue::new(rt.alloc());
+        inner.push(Value::Bool(true))?;
+        let mut outer = ArrayValue::new(rt.alloc());
+        outer.push(Value::Array(inner))?;
+        let copy = outer.copy(rt.alloc())?;
+        match copy.at(0) {
+            Some(Value::Array(inner)) => assert_eq!(rt; truth(inner.at(0)), Some(true)),
+            _ => panic!(rt; "no inner array"),
+        }
+        Ok(())
+    }
+}

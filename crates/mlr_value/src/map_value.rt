@@ -199,3 +199,74 @@ fn remove_pair(columns: &mut Columns, key: &[u8]) -> bool
     columns.values.remove(place);
     true
 }
+
+#[cfg(test)]
+mod tests {
+    use super::*;
+
+    /// The truth of a value that is a boolean.
+    fn truth(value: Option<&Value>) -> Option<bool> {
+        match value {
+            Some(Value::Bool(b)) => Some(*b),
+            _ => None,
+        }
+    }
+
+    #[test]
+    fn keys_put_and_found(rt: HostRuntime) -> Result<(), NoMemory> {
+        let mut map = MapValue::new(rt.alloc())?;
+        let puts: [(&[u8], bool); 4] = [(b"a", false), (b"", true), (b"b", true), (b"a", true)];
+        for row in &puts {
+            let (key, b) = *row;
+            map.put(key, Value::Bool(b))?;
+        }
+        assert_eq!(rt; map.len(), 3);
+        assert_eq!(rt; map.entry(0).0, b"a".as_slice());
+        assert_eq!(rt; truth(map.get(b"a")), Some(true));
+        assert_eq!(rt; truth(map.get(b"ab")), None);
+        Ok(())
+    }
+
+    #[test]
+    fn places(rt: HostRuntime) -> Result<(), NoMemory> {
+        let mut map = MapValue::new(rt.alloc())?;
+        map.put(b"a", Value::Bool(true))?;
+        map.put(b"b", Value::Bool(false))?;
+        assert!(rt; map.at(2).is_none());
+        let Some((key, value)) = map.at(1) else {
+            panic!(rt; "no pair at 1");
+        };
+        assert_eq!(rt; key, b"b".as_slice());
+        assert_eq!(rt; truth(Some(value)), Some(false));
+        Ok(())
+    }
+
+    #[test]
+    fn keys_removed(rt: HostRuntime) -> Result<(), NoMemory> {
+        let mut map = MapValue::new(rt.alloc())?;
+        for key in b"abc" {
+            map.put(&[*key], Value::Bool(*key == b'c'))?;
+        }
+        assert!(rt; !map.remove(b"d"));
+        assert!(rt; map.remove(b"b"));
+        assert_eq!(rt; map.len(), 2);
+        assert_eq!(rt; map.entry(1).0, b"c".as_slice());
+        assert_eq!(rt; truth(map.get(b"c")), Some(true));
+        Ok(())
+    }
+
+    #[test]
+    fn nested_map_copied(rt: HostRuntime) -> Result<(), NoMemory> {
+        let mut inner = MapValue::new(rt.alloc())?;
+        inner.put(b"x", Value::Bool(true))?;
+        let mut outer = MapValue::new(rt.alloc())?;
+        outer.put(b"inner", Value::Map(inner))?;
+        let copy = outer.copy(rt.alloc())?;
+        outer.remove(b"inner");
+        match copy.get(b"inner") {
+            Some(Value::Map(inner)) => assert_eq!(rt; truth(inner.get(b"x")), Some(true)),
+            _ => panic!(rt; "no inner map"),
+        }
+        Ok(())
+    }
+}

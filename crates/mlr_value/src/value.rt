@@ -129,14 +129,14 @@ pub fn text_of(alloc: Global, value: &Value) -> Result<Bytes, NoMemory>
 mod tests {
     use super::*;
 
-    fn kind(value: &Value) -> Kind {
+    fn kind(value: &Value) -> Option<Kind> {
         match value {
-            Value::Empty => Kind::Empty,
-            Value::Str(_) => Kind::Str,
-            Value::Int(int) => Kind::Int(int.n),
-            Value::Frac(_) => Kind::Frac,
-            Value::Wide(_) => Kind::Wide,
-            _ => Kind::Empty,
+            Value::Empty => Some(Kind::Empty),
+            Value::Str(_) => Some(Kind::Str),
+            Value::Int(int) => Some(Kind::Int(int.n)),
+            Value::Frac(_) => Some(Kind::Frac),
+            Value::Wide(_) => Some(Kind::Wide),
+            _ => None,
         }
     }
 
@@ -153,8 +153,10 @@ mod tests {
         for (i, row) in table.iter().enumerate() {
             let (text, want) = *row;
             let value = from_data(rt.alloc(), text, InferOpts::plain())?;
-            assert_eq!(rt; kind(&value), want, "at {i}");
-            assert_eq!(rt; text_of(rt.alloc(), &value)?.as_slice(), text, "at {i}");
+            assert_eq!(rt; kind(&value), Some(want), "at {i}");
+            let mut printed = Bytes::new(rt.alloc());
+            append_text(&value, &mut printed)?;
+            assert_eq!(rt; printed.as_slice(), text, "at {i}");
         }
         Ok(())
     }
@@ -178,6 +180,36 @@ mod tests {
             append_text(&value, &mut text)?;
             assert_eq!(rt; &text.as_slice()[want.len()..], want, "at {i}");
         }
+        Ok(())
+    }
+
+    #[test]
+    fn kinds_that_no_data_has(rt: HostRuntime) -> Result<(), NoMemory> {
+        let alloc = rt.alloc();
+        assert_eq!(rt; text_of(alloc, &Value::Absent)?.as_slice(), b"".as_slice());
+        assert_eq!(rt;
+            text_of(alloc, &Value::Bool(true))?.as_slice(),
+            b"true".as_slice()
+        );
+        assert_eq!(rt;
+            text_of(alloc, &Value::Bool(false))?.as_slice(),
+            b"false".as_slice()
+        );
+        assert_eq!(rt;
+            text_of(alloc, &Value::Error)?.as_slice(),
+            b"(error)".as_slice()
+        );
+        Ok(())
+    }
+
+    #[test]
+    fn copy_with_its_spelling(rt: HostRuntime) -> Result<(), NoMemory> {
+        let value = from_data(rt.alloc(), b"0x0000000000000000000F", InferOpts::plain())?;
+        let copy = value.copy(rt.alloc())?;
+        assert_eq!(rt; kind(&copy), Some(Kind::Int(15)));
+        let mut text = Bytes::new(rt.alloc());
+        append_text(&copy, &mut text)?;
+        assert_eq!(rt; text.as_slice(), b"0x0000000000000000000F".as_slice());
         Ok(())
     }
 }
