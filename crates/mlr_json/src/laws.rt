@@ -6,5 +6,4 @@ ghost use Rattle.mlr_json.specs.Answer.{HasOneOutcome};
 /// law of the definitions.
 pub fn one_outcome()
     ensures { (opts : InferOpts) (text : List ℕ) → HasOneOutcome opts text }
-{
-}
+{}
