@@ -5,6 +5,7 @@ mod json;
 mod record;
 #[cfg(test)]
 mod record_tests;
+pub mod split;
 
 pub use json::{append_json_string, append_json_value};
 pub use record::Record;

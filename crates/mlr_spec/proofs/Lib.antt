@@ -1,2 +1,3 @@
 mod Rows
 pub mod Pairs
+pub mod Splitting
