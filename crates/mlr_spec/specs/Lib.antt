@@ -7,3 +7,4 @@ pub mod JsonTokens
 pub mod JsonGrammar
 pub mod Split
 pub mod Flatten
+pub mod TreeCode

@@ -1,3 +1,6 @@
 pub mod Magnitudes
 pub mod Fractions
 pub mod Rows
+pub mod Columns
+pub mod Depth
+mod Fronts

@@ -1,4 +1,4 @@
-ghost use Rattle.std.specs.Prelude.{◌≡◌, ◌↔◌, ℕ, List, [], ◌++◌, length, if◌then◌else◌, is_ok, IfOk, IsTrue};
+ghost use Rattle.std.specs.Prelude.{◌≡◌, ◌≤◌, ◌↔◌, ℕ, List, [], ◌++◌, length, if◌then◌else◌, is_ok, IfOk, IsOk, IsTrue};
 
 use mlr_spec::NoMemory;
 use smallvec::SmallVec;
@@ -32,7 +32,8 @@ impl Bytes {
     /// A copy. It takes memory where the text has more than 16 bytes.
     #[inline(always)]
     pub fn copy_of(alloc: Global, text: &[u8]) -> Result<Self, NoMemory>
-        ensures { IfOk result (λ copy. copy ≡ text.now) }
+        ensures copied { IfOk result (λ copy. copy ≡ text.now) }
+        ensures short { length text.now ≤ 16 → IsOk result }
     {
         Ok(Bytes {
             items: SmallVec::from_slice(alloc, text)?,

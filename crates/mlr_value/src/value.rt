@@ -1,9 +1,9 @@
-ghost use Rattle.std.specs.Prelude.{◌≡◌, ◌++◌, is_ok, if◌then◌else◌, IfOk};
+ghost use Rattle.std.specs.Prelude.{◌≡◌, ◌++◌, false, is_ok, if◌then◌else◌, IfOk};
 ghost use Rattle.mlr_spec.specs.Infer.{tree_of_data};
-ghost use Rattle.mlr_spec.specs.Tree.{text_of};
+ghost use Rattle.mlr_spec.specs.Tree.{text_of, is_collection};
 ghost use Rattle.mlr_value.specs.Value.{tree_of, int_text};
 
-use crate::{Bytes, infer};
+use crate::{ArrayValue, Bytes, MapValue, infer};
 use itoa::Buffer;
 use mlr_spec::{InferOpts, Kind, NoMemory};
 use std::alloc::Global;
@@ -16,9 +16,12 @@ pub struct IntValue {
     pub spelling: Bytes,
 }
 
-/// The value of a field.
-#[derive(Debug, PartialEq, Eq, Drop)]
+/// A value: of a field, or in a map or an array.
+#[cycle(value)]
+#[derive(Debug, Drop)]
 pub enum Value {
+    /// No value: of a field that isn't there.
+    Absent,
     /// A text of no bytes.
     Empty,
     /// A text that is no number.
@@ -29,6 +32,40 @@ pub enum Value {
     Frac(Bytes),
     /// A whole number that 64 bits don't hold, in its spelling.
     Wide(Bytes),
+    /// True or false.
+    Bool(bool),
+    /// A map of values.
+    Map(MapValue),
+    /// A list of values.
+    Array(ArrayValue),
+    /// What a computation gives that has no answer.
+    Error,
+}
+
+const _: () = prove!(size_of::<Value>() <= 48);
+
+impl Value {
+    /// A copy. It takes memory for maps, arrays and texts of more than 16 bytes.
+    #[cycle(copy)]
+    pub fn copy(&self, alloc: Global) -> Result<Value, NoMemory>
+        ensures { IfOk result (λ copy. tree_of copy ≡ tree_of self.now) }
+    {
+        match self {
+            Value::Absent => Ok(Value::Absent),
+            Value::Empty => Ok(Value::Empty),
+            Value::Str(text) => Ok(Value::Str(Bytes::copy_of(alloc, text.as_slice())?)),
+            Value::Int(int) => Ok(Value::Int(IntValue {
+                n: int.n,
+                spelling: Bytes::copy_of(alloc, int.spelling.as_slice())?,
+            })),
+            Value::Frac(text) => Ok(Value::Frac(Bytes::copy_of(alloc, text.as_slice())?)),
+            Value::Wide(text) => Ok(Value::Wide(Bytes::copy_of(alloc, text.as_slice())?)),
+            Value::Bool(b) => Ok(Value::Bool(*b)),
+            Value::Map(map) => Ok(Value::Map(map.copy(alloc)?)),
+            Value::Array(array) => Ok(Value::Array(array.copy(alloc)?)),
+            Value::Error => Ok(Value::Error),
+        }
+    }
 }
 
 /// A text from data as a value, which keeps the text as its spelling. It takes memory where the text has more than
@@ -57,9 +94,12 @@ pub fn append_text(value: &Value, into: &mut Bytes) -> Result<(), NoMemory>
     ensures { into.new ≡ (if is_ok result then into.old ++ text_of (tree_of value.now) else into.old) }
 {
     match value {
-        Value::Empty => Ok(()),
+        Value::Absent | Value::Empty | Value::Map(_) | Value::Array(_) => Ok(()),
         Value::Str(text) | Value::Frac(text) | Value::Wide(text) => into.append(text.as_slice()),
         Value::Int(int) => append_int(int, into),
+        Value::Bool(true) => into.append(b"true"),
+        Value::Bool(false) => into.append(b"false"),
+        Value::Error => into.append(b"(error)"),
     }
 }
 
@@ -75,8 +115,9 @@ fn append_int(int: &IntValue, into: &mut Bytes) -> Result<(), NoMemory>
     }
 }
 
-/// What the value prints.
+/// What a value prints that is no map and no array.
 pub fn text_of(alloc: Global, value: &Value) -> Result<Bytes, NoMemory>
+    requires { is_collection (tree_of value.now) ≡ false }
     ensures { IfOk result (λ text. text ≡ text_of (tree_of value.now)) }
 {
     let mut text = Bytes::new(alloc);
@@ -95,6 +136,7 @@ mod tests {
             Value::Int(int) => Kind::Int(int.n),
             Value::Frac(_) => Kind::Frac,
             Value::Wide(_) => Kind::Wide,
+            _ => Kind::Empty,
         }
     }
 
