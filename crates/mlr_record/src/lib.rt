@@ -1,6 +1,7 @@
 //! Records: lists of fields with distinct names, and the JSON text of their values.
 #![tactic(auto)]
 
+mod flatten;
 mod json;
 mod record;
 #[cfg(test)]
