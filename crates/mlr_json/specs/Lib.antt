@@ -4,5 +4,7 @@ pub mod Escapes
 pub mod Writing
 pub mod Machine
 pub mod Steps
+pub mod Reading
+pub mod Turns
 pub mod Readable
 pub mod Answer

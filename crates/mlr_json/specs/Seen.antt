@@ -1,5 +1,5 @@
 -- The types of the code as the definitions have them: lexemes, and what stands at the front of a text.
-use Rattle.std.specs.Prelude.{◌≡◌, ℕ, ◌≤◌, List, [], ◌∷◌, Option, MatchOption}
+use Rattle.std.specs.Prelude.{◌≡◌, ℕ, ◌<◌, ◌≤◌, List, [], ◌∷◌, Option, MatchOption}
 use Rattle.std.specs.Borrow.{Bor}
 use Rattle.mlr_spec.specs.JsonTokens as text
 use Rattle.mlr_spec.specs.JsonTokens.{raw, unit, escape_of}
@@ -21,11 +21,11 @@ front_seen (Found l len) = text.found (lexeme_seen l) len
 front_seen Begun = text.begun
 front_seen (Bad offset) = text.bad offset
 
--- a lexeme has at least one byte, and no more than the text
+-- a lexeme has at least one byte, and no more than the text; a bad byte stands in the text
 abbrev pub IsWithin : ℕ → Front → Type 0
 IsWithin n (Found l len) = (1 ≤ len) × (len ≤ n)
 IsWithin n Begun = Unit {0}
-IsWithin n (Bad offset) = Unit {0}
+IsWithin n (Bad offset) = offset < n
 
 -- the byte of an escape, or none where its letter stands for none
 abbrev pub EscapeIs : ℕ → Option (Bor (List ℕ)) → Type 0

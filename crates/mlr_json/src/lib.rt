@@ -7,8 +7,10 @@ mod frame;
 mod laws;
 mod lexeme;
 mod machine;
+mod read;
 mod steps;
 mod string;
+mod token;
 mod word;
 mod write;
 
@@ -17,6 +19,7 @@ pub use frame::{Frame, Phase};
 pub use laws::{one_outcome, written_is_read};
 pub use lexeme::{Front, Lexeme, front_of};
 pub use machine::{Machine, Went};
+pub use read::{JsonRead, read_json_value};
 pub use string::StringBuilder;
 pub use word::word_value;
 pub use write::{append_json_field, append_json_value, json_text};

@@ -1,0 +1,181 @@
+-- What is left of a text, lexeme by lexeme and token by token.
+use Rattle.std.proofs.Common.{◌≡◌, ℕ, zero, suc, ◌+◌, ◌-◌, ◌==◌, ◌<◌, ◌≤◌, Bool, true, false, cond, ◌||◌, nat_lt, nat_le, List, [], ◌∷◌, ◌++◌, length, take, drop, Option, Some, None, refl, ap, sym, subst, ◌∙◌, arith, add-one, length-drop}
+use Rattle.std.specs.List.{prefix_len, take_while}
+use Rattle.std.proofs.lemmas.Bool.{cond_both, leb-true}
+use Rattle.std.proofs.lemmas.List.Sums.{prefix_len-le-length}
+use Rattle.mlr_spec.specs.declared.json.JsonMark.{JsonMark}
+use Rattle.mlr_spec.specs.Infer.{number}
+use Rattle.mlr_spec.specs.JsonTokens.{Piece, raw, unit, Lexeme, blank, mark, word, quote, piece, Front, found, begun, bad, is_blank, is_word_byte, is_raw, is_hex, mark_of, escape_of, front_unmarked, front_outside, front_unit, front_escape, front_inside, front_of, Lexemes, and_lexeme, is_inside, lexemes_from, Token, sign, text_token, word_token, Tokens, and_token, or_stop, token_of_word, decoded, pieces_in, tokens_outside, tokens_inside}
+use Rattle.mlr_json.specs.Readable.{plain}
+use Rattle.mlr_json.specs.Reading.{lexemes_left, tokens_left, inside_left, pieces_left, stopped, is_of_string}
+use Rattle.mlr_json.proofs.Digits.{prefix_len-within, is_raw-other}
+
+-- a lexeme has at least one byte, and no more than the text
+abbrev IsFrontWithin : ℕ → Front → Type 0
+IsFrontWithin n (found l len) = (1 ≤ len) × (len ≤ n)
+IsFrontWithin n begun = Unit {0}
+IsFrontWithin n (bad offset) = Unit {0}
+
+unmarked-within : (b : ℕ) (text : List ℕ) → IsFrontWithin (length (b ∷ text)) (front_unmarked (b ∷ text))
+unmarked-within b text =
+    let P : Front → Type 0 = λ f. IsFrontWithin (length (b ∷ text)) f in
+    let as_word : Front = found (word (take_while is_word_byte (b ∷ text))) (prefix_len is_word_byte (b ∷ text)) in
+    cond_both (is_blank b) (found blank (prefix_len is_blank (b ∷ text))) (cond (b == 34) (found quote 1) (cond (is_word_byte b) as_word (bad 0))) P
+    (λ h. prefix_len-within is_blank (b ∷ text) _ (omega arith) h refl)
+    (λ _. cond_both (b == 34) (found quote 1) (cond (is_word_byte b) as_word (bad 0)) P
+    (λ _. (omega arith, omega arith))
+    (λ _. cond_both (is_word_byte b) as_word (bad 0) P (λ h. prefix_len-within is_word_byte (b ∷ text) _ (omega arith) h refl) (λ _. tt)))
+
+outside-within : (text : List ℕ) → IsFrontWithin (length text) (front_outside text)
+unfolding front_outside
+outside-within [] = tt
+outside-within (b ∷ text) =
+    elim (mark_of b) as (λ m. IsFrontWithin (length (b ∷ text)) (elim m [ Some k ↦ found (mark k) 1 | None ↦ front_unmarked (b ∷ text) ])) [
+      | Some k ↦ (omega arith, omega arith)
+      | None ↦ unmarked-within b text
+    ]
+
+unit-within : (text : List ℕ) → IsFrontWithin (2 + length text) (front_unit text)
+unit-within text =
+    let P : Front → Type 0 = λ f. IsFrontWithin (2 + length text) f in
+    cond_both (nat_le 4 (prefix_len is_hex text)) (found (piece (unit (number 16 (take 4 text)))) 6) (cond (prefix_len is_hex text == length text) begun (bad (2 + prefix_len is_hex text))) P
+    (λ h. (omega arith, omega (arith, leb-true 4 (prefix_len is_hex text) h, prefix_len-le-length is_hex text)))
+    (λ _. cond_both (prefix_len is_hex text == length text) begun (bad (2 + prefix_len is_hex text)) P (λ _. tt) (λ _. tt))
+
+escape-within : (text : List ℕ) → IsFrontWithin (1 + length text) (front_escape text)
+escape-within [] = tt
+escape-within (c ∷ text) =
+    let P : Front → Type 0 = λ f. IsFrontWithin (1 + length (c ∷ text)) f in
+    let by_letter : Front = cond (nat_lt 0 (escape_of c)) (found (piece (raw (escape_of c ∷ []))) 2) (bad 1) in
+    cond_both (c == 117) (front_unit text) by_letter P
+    (λ _. rw (omega-length c text) (unit-within text))
+    (λ _. cond_both (nat_lt 0 (escape_of c)) (found (piece (raw (escape_of c ∷ []))) 2) (bad 1) P (λ _. (omega arith, omega arith)) (λ _. tt))
+  where
+    omega-length : (c : ℕ) (text : List ℕ) → 1 + length (c ∷ text) ≡ 2 + length text
+    omega-length c text = omega arith
+
+inside-within : (text : List ℕ) → IsFrontWithin (length text) (front_inside text)
+unfolding front_inside
+inside-within [] = tt
+inside-within (b ∷ text) =
+    let P : Front → Type 0 = λ f. IsFrontWithin (length (b ∷ text)) f in
+    let as_raw : Front = found (piece (raw (take_while is_raw (b ∷ text)))) (prefix_len is_raw (b ∷ text)) in
+    cond_both (b == 34) (found quote 1) (cond (b == 92) (front_escape text) as_raw) P
+    (λ _. (omega arith, omega arith))
+    (λ other. cond_both (b == 92) (front_escape text) as_raw P
+    (λ _. rw (one-length b text) (escape-within text))
+    (λ last. prefix_len-within is_raw (b ∷ text) _ (omega arith) (rw (other, last) refl) refl))
+  where
+    one-length : (b : ℕ) (text : List ℕ) → length (b ∷ text) ≡ 1 + length text
+    one-length b text = omega arith
+
+front-within : (inside : Bool) (text : List ℕ) → IsFrontWithin (length text) (front_of inside text)
+front-within true text = inside-within text
+front-within false text = outside-within text
+
+-- one lexeme and the rest, in at most n more steps
+abbrev at_front : ℕ → Bool → ℕ → List ℕ → Front → Lexemes
+at_front n inside place text (found l len) = and_lexeme place l (lexemes_from n (is_inside inside l) (place + len) (drop len text))
+at_front n inside place text begun = record { lexemes = []; stop = cond inside (Some (place + length text)) None }
+at_front n inside place text (bad offset) = record { lexemes = []; stop = Some (place + offset) }
+
+from-front : (n : ℕ) (inside : Bool) (place : ℕ) (text : List ℕ) → lexemes_from (suc n) inside place text ≡ at_front n inside place text (front_of inside text)
+from-front n inside place text = by-front (front_of inside text)
+  where
+    by-front : (f : Front) → (elim f [
+      | found l len ↦ and_lexeme place l (lexemes_from n (is_inside inside l) (place + len) (drop len text))
+      | begun ↦ record { lexemes = []; stop = cond inside (Some (place + length text)) None }
+      | bad offset ↦ record { lexemes = []; stop = Some (place + offset) }
+    ]) ≡ at_front n inside place text f
+    by-front (found l len) = refl
+    by-front begun = refl
+    by-front (bad offset) = refl
+
+-- enough steps are enough
+lexemes-enough : (n m : ℕ) (inside : Bool) (place : ℕ) (text : List ℕ) → length text < n → length text < m → lexemes_from n inside place text ≡ lexemes_from m inside place text
+lexemes-enough zero m inside place text hn hm = absurd (omega arith)
+lexemes-enough (suc n) zero inside place text hn hm = absurd (omega arith)
+lexemes-enough (suc n) (suc m) inside place text hn hm =
+    from-front n inside place text
+    ∙ step (front_of inside text) (front-within inside text) (lexemes-enough n m)
+    ∙ sym (from-front m inside place text)
+  where
+    step : (f : Front) → IsFrontWithin (length text) f
+        → ((i : Bool) (p : ℕ) (t : List ℕ) → length t < n → length t < m → lexemes_from n i p t ≡ lexemes_from m i p t)
+        → at_front n inside place text f ≡ at_front m inside place text f
+    step (found l len) w same =
+        ap (and_lexeme place l) (same (is_inside inside l) (place + len) (drop len text) (omega (arith, w.0, w.1, length-drop len text)) (omega (arith, w.0, w.1, length-drop len text)))
+    step begun w same = refl
+    step (bad offset) w same = refl
+
+left-front : (inside : Bool) (end : ℕ) (text : List ℕ) → lexemes_left inside end text ≡ at_front (length text) inside (end - length text) text (front_of inside text)
+unfolding lexemes_left
+left-front inside end text = rw add-one (from-front (length text) inside (end - length text) text)
+
+-- one lexeme of what is left
+pub left-found : (inside : Bool) (end : ℕ) (text : List ℕ) (l : Lexeme) (len : ℕ) → length text ≤ end → front_of inside text ≡ found l len →
+    lexemes_left inside end text ≡ and_lexeme (end - length text) l (lexemes_left (is_inside inside l) end (drop len text))
+unfolding lexemes_left
+left-found inside end text l len fits is =
+    let within : IsFrontWithin (length text) (found l len) = subst (IsFrontWithin (length text)) is (front-within inside text) in
+    let next : (end - length text) + len ≡ end - length (drop len text) = omega (arith, within.0, within.1, length-drop len text) in
+    let i = is_inside inside l in
+    left-front inside end text
+    ∙ ap (at_front (length text) inside (end - length text) text) is
+    ∙ ap (λ p. and_lexeme (end - length text) l (lexemes_from (length text) i p (drop len text))) next
+    ∙ ap (and_lexeme (end - length text) l) (lexemes-enough (length text) (length (drop len text) + 1) i (end - length (drop len text)) (drop len text) (omega (arith, within.0, within.1, length-drop len text)) (omega arith))
+
+-- where the front is no lexeme: within a string and outside
+module _ (end : ℕ) (text : List ℕ) (fits : length text ≤ end) where
+  pub inside-begun : front_inside text ≡ begun → inside_left end text ≡ stopped (Some (end - 0))
+  inside-begun is =
+      let all : (end - length text) + length text ≡ end - 0 = omega arith in
+      ap (λ x. tokens_inside plain x.lexemes x.stop) (left-front true end text ∙ ap (at_front (length text) true (end - length text) text) is)
+      ∙ ap (λ n. stopped (Some n)) all
+
+  pub inside-bad : (offset : ℕ) → offset < length text → front_inside text ≡ bad offset → inside_left end text ≡ stopped (Some (end - (length text - offset)))
+  inside-bad offset within is =
+      let here : (end - length text) + offset ≡ end - (length text - offset) = omega arith in
+      ap (λ x. tokens_inside plain x.lexemes x.stop) (left-front true end text ∙ ap (at_front (length text) true (end - length text) text) is)
+      ∙ ap (λ n. stopped (Some n)) here
+
+  pub outside-begun : front_outside text ≡ begun → tokens_left end text ≡ stopped None
+  outside-begun is = ap (λ x. tokens_outside plain x.lexemes x.stop) (left-front false end text ∙ ap (at_front (length text) false (end - length text) text) is)
+
+  pub outside-bad : (offset : ℕ) → offset < length text → front_outside text ≡ bad offset → tokens_left end text ≡ stopped (Some (end - (length text - offset)))
+  outside-bad offset within is =
+      let here : (end - length text) + offset ≡ end - (length text - offset) = omega arith in
+      ap (λ x. tokens_outside plain x.lexemes x.stop) (left-front false end text ∙ ap (at_front (length text) false (end - length text) text) is)
+      ∙ ap (λ n. stopped (Some n)) here
+
+-- the lexemes within a string are pieces and its last quote
+abbrev IsOfString : Front → Type 0
+IsOfString (found l len) = is_of_string l ≡ true
+IsOfString begun = Unit {0}
+IsOfString (bad offset) = Unit {0}
+
+unit-of_string : (text : List ℕ) → IsOfString (front_unit text)
+unit-of_string text =
+    cond_both (nat_le 4 (prefix_len is_hex text)) (found (piece (unit (number 16 (take 4 text)))) 6) (cond (prefix_len is_hex text == length text) begun (bad (2 + prefix_len is_hex text))) IsOfString
+    (λ _. refl)
+    (λ _. cond_both (prefix_len is_hex text == length text) begun (bad (2 + prefix_len is_hex text)) IsOfString (λ _. tt) (λ _. tt))
+
+escape-of_string : (text : List ℕ) → IsOfString (front_escape text)
+escape-of_string [] = tt
+escape-of_string (c ∷ text) =
+    let by_letter : Front = cond (nat_lt 0 (escape_of c)) (found (piece (raw (escape_of c ∷ []))) 2) (bad 1) in
+    cond_both (c == 117) (front_unit text) by_letter IsOfString
+    (λ _. unit-of_string text)
+    (λ _. cond_both (nat_lt 0 (escape_of c)) (found (piece (raw (escape_of c ∷ []))) 2) (bad 1) IsOfString (λ _. refl) (λ _. tt))
+
+inside-of_string : (text : List ℕ) → IsOfString (front_inside text)
+unfolding front_inside
+inside-of_string [] = tt
+inside-of_string (b ∷ text) =
+    let as_raw : Front = found (piece (raw (take_while is_raw (b ∷ text)))) (prefix_len is_raw (b ∷ text)) in
+    cond_both (b == 34) (found quote 1) (cond (b == 92) (front_escape text) as_raw) IsOfString
+    (λ _. refl)
+    (λ _. cond_both (b == 92) (front_escape text) as_raw IsOfString (λ _. escape-of_string text) (λ _. refl))
+
+pub found-of_string : (text : List ℕ) (l : Lexeme) (len : ℕ) → front_inside text ≡ found l len → is_of_string l ≡ true
+found-of_string text l len is = subst IsOfString is (inside-of_string text)

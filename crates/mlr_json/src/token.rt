@@ -1,0 +1,178 @@
+ghost use Rattle.std.specs.Prelude.{◌≡◌, ℕ, ◌-◌, ◌<◌, ◌≤◌, List, Bool, true, false, length, drop, IfOk};
+ghost use Rattle.mlr_spec.specs.JsonTokens.{text_token, and_token, or_stop, token_of_word, decoded};
+ghost use Rattle.mlr_json.specs.Readable.{plain};
+ghost use Rattle.mlr_json.specs.Seen.{lexeme_seen};
+ghost use Rattle.mlr_json.specs.Reading.{tokens_left, inside_left, pieces_left, IsFirst, Gives, IsShorter, IsWanted, IsStringEnd, EndsWithin, is_of_string, PieceGives, IsPieceShorter};
+
+use crate::{Front, Lexeme, StringBuilder, front_of, word_value};
+use mlr_spec::{InferOpts, JsonMark, NoMemory};
+use mlr_value::{Bytes, Value};
+use std::alloc::Global;
+
+#[derive(Drop)]
+pub(crate) enum Token {
+    Mark(JsonMark),
+    /// A word with its value.
+    Word(Value),
+    /// A string with its text.
+    Text(Bytes),
+}
+
+/// What comes next in a text, with the text behind it. The place of a fault is told by how many bytes are left there.
+#[derive(Drop)]
+pub(crate) enum Next<'a> {
+    Blank(&'a [u8]),
+    Token(Token, &'a [u8]),
+    /// A string, where none may come.
+    Refused,
+    /// A string that is cut off here, or has a byte here that it can't hold.
+    Cut(usize),
+    /// A byte here that begins no token, or a word here that has no value.
+    Bad(usize),
+    /// The end of the text.
+    End,
+}
+
+/// How a string goes on behind its first quote.
+#[derive(Drop)]
+pub(crate) enum StringEnd<'a> {
+    /// Up to its last quote.
+    Closed(Bytes, &'a [u8]),
+    /// Up to the place where so many bytes are left.
+    Cut(usize),
+}
+
+/// What comes next within a string, with the text behind it.
+enum PieceAt<'a> {
+    Raw(&'a [u8], &'a [u8]),
+    Unit(u16, &'a [u8]),
+    /// The last quote.
+    Quote(&'a [u8]),
+    /// The string stops where so many bytes are left.
+    Stop(usize),
+}
+
+/// Reads the next token, or blanks. A string is read only where it is wanted.
+pub(crate) fn next_token(alloc: Global, wants_text: bool, text: &[u8]) -> Result<Next<'_>, NoMemory>
+    ensures tokens { IfOk result
+        (λ next. (end : ℕ) → length text.now ≤ end → Gives end (length text.now) next (tokens_left end text.now)) }
+    ensures shorter { IfOk result (IsShorter (length text.now)) }
+    ensures wanted { IfOk result (IsWanted wants_text) }
+{
+    match front_of(false, text) {
+        Front::Found(lexeme, len) => token_of(alloc, wants_text, lexeme, text, behind(text, len)),
+        Front::Begun => Ok(Next::End),
+        Front::Bad(offset) => Ok(Next::Bad(text.len() - offset)),
+    }
+}
+
+/// The token that begins with the lexeme at the front of a text.
+fn token_of<'a>(
+    alloc: Global,
+    wants_text: bool,
+    lexeme: Lexeme<'_>,
+    text: &[u8],
+    behind: &'a [u8],
+) -> Result<Next<'a>, NoMemory>
+    requires { length behind.now < length text.now }
+    ensures tokens { IfOk result
+        (λ next. (end : ℕ) → length text.now ≤ end → IsFirst false end text.now (lexeme_seen lexeme.entry) behind.now → Gives end (length text.now) next (tokens_left end text.now)) }
+    ensures shorter { IfOk result (IsShorter (length text.now)) }
+    ensures wanted { IfOk result (IsWanted wants_text) }
+{
+    match lexeme {
+        Lexeme::Mark(mark) => Ok(Next::Token(Token::Mark(mark), behind)),
+        Lexeme::Word(word) => word_token(alloc, word, text, behind),
+        Lexeme::Quote => string_token(alloc, wants_text, text, behind),
+        Lexeme::Blank | Lexeme::Raw(_) | Lexeme::Unit(_) => Ok(Next::Blank(behind)),
+    }
+}
+
+/// The token of a word at the front of a text.
+fn word_token<'a>(alloc: Global, word: &[u8], text: &[u8], behind: &'a [u8]) -> Result<Next<'a>, NoMemory>
+    requires { length behind.now < length text.now }
+    ensures tokens { IfOk result
+        (λ next. (end : ℕ) → Gives end (length text.now) next (or_stop (end - length text.now) (token_of_word plain word.now) (tokens_left end behind.now))) }
+    ensures shorter { IfOk result (IsShorter (length text.now)) }
+    ensures wanted { IfOk result (λ next. (wanted : Bool) → IsWanted wanted next) }
+{
+    Ok(match word_value(alloc, word, InferOpts::plain())? {
+        Some(value) => Next::Token(Token::Word(value), behind),
+        None => Next::Bad(text.len()),
+    })
+}
+
+/// The token of a string whose first quote is at the front of a text.
+fn string_token<'a>(alloc: Global, wanted: bool, text: &[u8], behind: &'a [u8]) -> Result<Next<'a>, NoMemory>
+    requires { length behind.now < length text.now }
+    ensures tokens { IfOk result
+        (λ next. (end : ℕ) → length behind.now ≤ end → Gives end (length text.now) next (and_token (end - length text.now) (text_token (decoded (pieces_left end behind.now))) (inside_left end behind.now))) }
+    ensures shorter { IfOk result (IsShorter (length text.now)) }
+    ensures wanted { IfOk result (IsWanted wanted) }
+{
+    if !wanted {
+        return Ok(Next::Refused);
+    }
+    match read_string(alloc, behind)? {
+        StringEnd::Closed(text, behind) => Ok(Next::Token(Token::Text(text), behind)),
+        StringEnd::Cut(rest) => Ok(Next::Cut(rest)),
+    }
+}
+
+/// Reads a string from behind its first quote on.
+fn read_string(alloc: Global, text: &[u8]) -> Result<StringEnd<'_>, NoMemory>
+    ensures tokens { IfOk result (λ ended. (end : ℕ) → length text.now ≤ end → IsStringEnd end text.now ended) }
+    ensures within { IfOk result (EndsWithin (length text.now)) }
+{
+    let mut builder = StringBuilder::new(alloc);
+    let mut left = text;
+    loop {
+        match piece_at(left) {
+            PieceAt::Raw(piece, behind) => {
+                builder.push_raw(piece)?;
+                left = behind;
+            }
+            PieceAt::Unit(code, behind) => {
+                builder.push_unit(code)?;
+                left = behind;
+            }
+            PieceAt::Quote(behind) => return Ok(StringEnd::Closed(builder.finish()?, behind)),
+            PieceAt::Stop(rest) => return Ok(StringEnd::Cut(rest)),
+        }
+    }
+}
+
+/// Reads the next piece within a string, or its last quote.
+fn piece_at(text: &[u8]) -> PieceAt<'_>
+    ensures tokens { (end : ℕ) → length text.now ≤ end → PieceGives end text.now result }
+    ensures shorter { IsPieceShorter (length text.now) result }
+{
+    match front_of(true, text) {
+        Front::Found(lexeme, len) => piece_of(lexeme, behind(text, len)),
+        Front::Begun => PieceAt::Stop(0),
+        Front::Bad(offset) => PieceAt::Stop(text.len() - offset),
+    }
+}
+
+/// The piece that a lexeme within a string is.
+fn piece_of<'a>(lexeme: Lexeme<'a>, behind: &'a [u8]) -> PieceAt<'a>
+    requires { is_of_string (lexeme_seen lexeme) ≡ true }
+    ensures tokens { (end : ℕ) (text : List ℕ) → IsFirst true end text (lexeme_seen lexeme.entry) behind.now → PieceGives end text result }
+    ensures shorter { (left : ℕ) → length behind.now < left → IsPieceShorter left result }
+{
+    match lexeme {
+        Lexeme::Raw(piece) => PieceAt::Raw(piece, behind),
+        Lexeme::Unit(code) => PieceAt::Unit(code, behind),
+        Lexeme::Quote => PieceAt::Quote(behind),
+        Lexeme::Blank | Lexeme::Mark(_) | Lexeme::Word(_) => unreachable!(),
+    }
+}
+
+/// The text behind its first bytes.
+#[inline(always)]
+pub(crate) fn behind(text: &[u8], len: usize) -> &[u8]
+    requires { len ≤ length text.now }
+    ensures { result.now ≡ drop len text.now }
+{
+    &text[len..]
+}
