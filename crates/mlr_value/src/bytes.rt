@@ -49,6 +49,14 @@ impl Bytes {
         Ok(())
     }
 
+    /// Takes all bytes out, and keeps the room.
+    #[inline]
+    pub fn clear(&mut self)
+        ensures { self.new ≡ [] }
+    {
+        self.items.clear();
+    }
+
     /// The text.
     #[inline(always)]
     pub fn as_slice(&self) -> &[u8]
@@ -137,6 +145,8 @@ mod tests {
             assert_eq!(rt; text.as_slice(), want, "at {i}");
             assert_eq!(rt; text.len(), want.len(), "at {i}");
             assert_eq!(rt; text.is_empty(), want.is_empty(), "at {i}");
+            text.clear();
+            assert!(rt; text.is_empty(), "at {i}");
         }
         Ok(())
     }
