@@ -12,13 +12,11 @@ ghost use Rattle.mlr_json.specs.Readable.{plain, read_back, IsReadable};
 /// law of the definitions.
 pub fn one_outcome()
     ensures { (opts : InferOpts) (text : List ℕ) → HasOneOutcome opts text }
-{
-}
+{}
 
 /// What is written of a value, in either style, is read as that value. Absent is written as the empty value is, and
 /// an int that arithmetic made gets its decimal spelling; a value with an error in it is written as no JSON, and so
 /// is none of these. The function does nothing: its clause is a law of the definitions.
 pub fn written_is_read()
     ensures { (style : JsonStyle) (value : Tree) → IsReadable value → depth value ≤ 100 → IsJson plain (json_text style value) (read_back value) }
-{
-}
+{}

@@ -8,6 +8,8 @@ mod laws;
 mod lexeme;
 mod machine;
 mod read;
+#[cfg(test)]
+mod read_tests;
 mod steps;
 mod string;
 mod token;

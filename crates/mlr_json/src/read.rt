@@ -80,7 +80,12 @@ fn next_turn<'a>(alloc: Global, machine: &mut Machine, text: &'a [u8]) -> Result
 }
 
 /// Takes a token that stands where so many bytes are left.
-fn token_turn<'a>(machine: &mut Machine, token: Token, left: usize, behind: &'a [u8]) -> Result<Turn<'a>, NoMemory>
+fn token_turn<'a>(
+    machine: &mut Machine,
+    token: Token,
+    left: usize,
+    behind: &'a [u8],
+) -> Result<Turn<'a>, NoMemory>
     requires { length behind.now < left }
     ensures outcome { IfOk result
         (λ turn. (end : ℕ) → IsTurn end (outcome_at end (frames_of machine.old) machine.old.phase (and_token (end - left) (token_seen token) (tokens_left end behind.now))) machine.new turn) }

@@ -89,7 +89,12 @@ fn token_of<'a>(
 }
 
 /// The token of a word at the front of a text.
-fn word_token<'a>(alloc: Global, word: &[u8], text: &[u8], behind: &'a [u8]) -> Result<Next<'a>, NoMemory>
+fn word_token<'a>(
+    alloc: Global,
+    word: &[u8],
+    text: &[u8],
+    behind: &'a [u8],
+) -> Result<Next<'a>, NoMemory>
     requires { length behind.now < length text.now }
     ensures tokens { IfOk result
         (λ next. (end : ℕ) → Gives end (length text.now) next (or_stop (end - length text.now) (token_of_word plain word.now) (tokens_left end behind.now))) }
@@ -103,7 +108,12 @@ fn word_token<'a>(alloc: Global, word: &[u8], text: &[u8], behind: &'a [u8]) -> 
 }
 
 /// The token of a string whose first quote is at the front of a text.
-fn string_token<'a>(alloc: Global, wanted: bool, text: &[u8], behind: &'a [u8]) -> Result<Next<'a>, NoMemory>
+fn string_token<'a>(
+    alloc: Global,
+    wanted: bool,
+    text: &[u8],
+    behind: &'a [u8],
+) -> Result<Next<'a>, NoMemory>
     requires { length behind.now < length text.now }
     ensures tokens { IfOk result
         (λ next. (end : ℕ) → length behind.now ≤ end → Gives end (length text.now) next (and_token (end - length text.now) (text_token (decoded (pieces_left end behind.now))) (inside_left end behind.now))) }

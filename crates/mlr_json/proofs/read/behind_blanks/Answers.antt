@@ -27,8 +27,8 @@ pub loop-offset-preserved : goal.loop-offset-preserved
 loop-offset-preserved c = record {
   shorter = omega (arith, c.loop-offset.invariant.shorter, ap length c.behind-left.ensures, length-drop c.in-Found.len c.loop-offset.left.now);
   same = λ end value fits.
-    let small : length c.loop-offset.left.now ≤ end = omega arith in
-    c.loop-offset.invariant.same end value fits
-    ∙ behind-blank end value c.loop-offset.left.now small (lexeme_seen c.in-Found.lexeme) c.in-Found.len (sym c.in-Found.ensures.front) (sym c.is_token.ensures ∙ c.if-is_token.false)
-    ∙ ap (λ left. behind_at value (tokens_left end left)) (sym c.behind-left.ensures);
+      let small : length c.loop-offset.left.now ≤ end = omega arith in
+      c.loop-offset.invariant.same end value fits
+      ∙ behind-blank end value c.loop-offset.left.now small (lexeme_seen c.in-Found.lexeme) c.in-Found.len (sym c.in-Found.ensures.front) (sym c.is_token.ensures ∙ c.if-is_token.false)
+      ∙ ap (λ left. behind_at value (tokens_left end left)) (sym c.behind-left.ensures);
 }

@@ -16,8 +16,8 @@ loop-machine-init c =
     record {
       shorter = omega arith;
       same = ap (outcome_of end) (tokens_left-all text)
-        ∙ ap (λ frames. outcome_at end frames phase.Value (tokens_left end text)) (sym c.new-machine.ensures.frames_are)
-        ∙ ap (λ at. outcome_at end (frames_of machine) at (tokens_left end text)) (sym c.new-machine.ensures.phase_is);
+          ∙ ap (λ frames. outcome_at end frames phase.Value (tokens_left end text)) (sym c.new-machine.ensures.frames_are)
+          ∙ ap (λ at. outcome_at end (frames_of machine) at (tokens_left end text)) (sym c.new-machine.ensures.phase_is);
     }
 
 pub loop-machine-preserved : goal.loop-machine-preserved
@@ -30,7 +30,7 @@ loop-machine-preserved c =
     record {
       shorter = omega (arith, shorter, c.loop-machine.invariant.shorter);
       same = c.loop-machine.invariant.same
-        ∙ subst (IsTurn end (outcome_at end (frames_of machine) machine.phase (tokens_left end left)) c.next_turn.new.machine) c.in-On.is (c.in_ok-behind.ensures.outcome end fits);
+          ∙ subst (IsTurn end (outcome_at end (frames_of machine) machine.phase (tokens_left end left)) c.next_turn.new.machine) c.in-On.is (c.in_ok-behind.ensures.outcome end fits);
     }
 
 pub returns-in-Whole : goal.returns-in-Whole
