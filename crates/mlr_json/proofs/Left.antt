@@ -1,14 +1,13 @@
 -- What is left of a text, lexeme by lexeme and token by token.
-use Rattle.std.proofs.Common.{◌≡◌, ℕ, zero, suc, ◌+◌, ◌-◌, ◌==◌, ◌<◌, ◌≤◌, Bool, true, false, cond, ◌||◌, nat_lt, nat_le, List, [], ◌∷◌, ◌++◌, length, take, drop, Option, Some, None, refl, ap, sym, subst, ◌∙◌, arith, add-one, length-drop}
+use Rattle.std.proofs.Common.{◌≡◌, ℕ, zero, suc, ◌+◌, ◌-◌, ◌==◌, ◌<◌, ◌≤◌, Bool, true, false, cond, nat_lt, nat_le, List, [], ◌∷◌, length, take, drop, Some, None, refl, ap, sym, subst, ◌∙◌, arith, add-one, length-drop}
 use Rattle.std.specs.List.{prefix_len, take_while}
 use Rattle.std.proofs.lemmas.Bool.{cond_both, leb-true}
 use Rattle.std.proofs.lemmas.List.Sums.{prefix_len-le-length}
-use Rattle.mlr_spec.specs.declared.json.JsonMark.{JsonMark}
 use Rattle.mlr_spec.specs.Infer.{number}
-use Rattle.mlr_spec.specs.JsonTokens.{Piece, raw, unit, Lexeme, blank, mark, word, quote, piece, Front, found, begun, bad, is_blank, is_word_byte, is_raw, is_hex, mark_of, escape_of, front_unmarked, front_outside, front_unit, front_escape, front_inside, front_of, Lexemes, and_lexeme, is_inside, lexemes_from, Token, sign, text_token, word_token, Tokens, and_token, or_stop, token_of_word, decoded, pieces_in, tokens_outside, tokens_inside}
+use Rattle.mlr_spec.specs.JsonTokens.{raw, unit, Lexeme, blank, mark, word, quote, piece, Front, found, begun, bad, is_blank, is_word_byte, is_raw, is_hex, mark_of, escape_of, front_unmarked, front_outside, front_unit, front_escape, front_inside, front_of, Lexemes, and_lexeme, is_inside, lexemes_from, tokens_outside, tokens_inside}
 use Rattle.mlr_json.specs.Readable.{plain}
-use Rattle.mlr_json.specs.Reading.{lexemes_left, tokens_left, inside_left, pieces_left, stopped, is_of_string}
-use Rattle.mlr_json.proofs.Digits.{prefix_len-within, is_raw-other}
+use Rattle.mlr_json.specs.Reading.{lexemes_left, tokens_left, inside_left, stopped, is_of_string}
+use Rattle.mlr_json.proofs.Digits.{prefix_len-within}
 
 -- a lexeme has at least one byte, and no more than the text
 abbrev IsFrontWithin : ℕ → Front → Type 0

@@ -1,10 +1,9 @@
 -- How the outcome goes on behind a token, and behind a whole value.
-use Rattle.std.proofs.Common.{◌≡◌, ℕ, ◌+◌, ◌-◌, ◌<◌, ◌≤◌, ltb, Bool, true, false, cond, List, [], ◌∷◌, length, drop, Option, Some, None, refl, ap, sym, subst, ◌∙◌, arith}
+use Rattle.std.proofs.Common.{◌≡◌, ℕ, ◌+◌, ◌-◌, ◌<◌, ◌≤◌, ltb, true, false, cond, List, [], ◌∷◌, length, drop, Option, Some, None, refl, ap, subst, ◌∙◌, arith}
 use Rattle.std.proofs.lemmas.Bool.{le-ltb}
 use Rattle.std.proofs.lemmas.List.{length-reverse}
 use Rattle.mlr_spec.specs.Tree.{Tree}
 use Rattle.mlr_spec.specs.JsonTokens.{Lexeme, blank, mark, word, quote, piece, found, begun, bad, front_outside, is_inside, Token, text_token, Tokens, and_token, or_stop, token_of_word, tokens_outside, tokens_of, lexemes_from}
-use Rattle.mlr_spec.specs.JsonGrammar.{text_value}
 use Rattle.mlr_json.specs.declared.frame.Frame.{Frame}
 use Rattle.mlr_json.specs.declared.frame.Frame.TheVariants.{Array, Map}
 use Rattle.mlr_json.specs.declared.frame.Phase.{Phase}
@@ -13,7 +12,7 @@ use Rattle.mlr_json.specs.declared.machine.Machine.{Machine}
 use Rattle.mlr_json.specs.declared.read.JsonRead.{JsonRead}
 use Rattle.mlr_json.specs.declared.read.JsonRead.TheVariants as answer
 use Rattle.mlr_json.specs.Answer.{Says}
-use Rattle.mlr_json.specs.Machine.{Step, on, whole, wrong, Outcome, read, syntax, deep, step, outcome_from, outcome_behind, outcome_cut, outcome_of}
+use Rattle.mlr_json.specs.Machine.{Step, on, whole, wrong, Outcome, read, syntax, deep, step, outcome_from, outcome_behind, outcome_of}
 use Rattle.mlr_json.specs.Readable.{plain}
 use Rattle.mlr_json.specs.Steps.{frames_of, takes_text}
 use Rattle.mlr_json.specs.Reading.{lexemes_left, tokens_left, stopped}

@@ -1,7 +1,6 @@
 -- What is left of a text as tokens. Places count from 1, and the whole text ends before the place `end`, so what is left
 -- stands at `end - length left`.
 use Rattle.std.specs.Prelude.{◌≡◌, ℕ, ◌+◌, ◌-◌, ◌<◌, ◌≤◌, Bool, true, false, List, [], ◌∷◌, length, Option, Some, None}
-use Rattle.mlr_spec.specs.Tree.{Tree}
 use Rattle.mlr_spec.specs.JsonTokens.{Piece, raw, unit, Lexeme, blank, mark, word, quote, piece, Lexemes, and_lexeme, is_inside, lexemes_from, Token, sign, text_token, word_token, Tokens, and_token, decoded, pieces_in, tokens_outside, tokens_inside}
 use Rattle.mlr_value.specs.Value.{tree_of}
 use Rattle.mlr_json.specs.declared.token.Token.{Token as TokenRead}

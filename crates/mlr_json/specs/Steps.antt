@@ -1,6 +1,5 @@
 -- The machine's steps as the definitions have them.
-use Rattle.std.specs.Prelude.{◌≡◌, ℕ, ◌<◌, ◌≤◌, Bool, true, false, ◌&&◌, ◌||◌, List, [], ◌∷◌, length, reverse}
-use Rattle.mlr_spec.specs.Tree.{Tree}
+use Rattle.std.specs.Prelude.{◌≡◌, ◌<◌, ◌≤◌, Bool, true, false, ◌&&◌, ◌||◌, List, [], ◌∷◌, length, reverse}
 use Rattle.mlr_value.specs.Value.{tree_of}
 use Rattle.mlr_json.specs.declared.frame.Frame.{Frame}
 use Rattle.mlr_json.specs.declared.frame.Frame.TheVariants.{Array, Map}

@@ -1,4 +1,4 @@
-use Rattle.std.proofs.Common.{◌≡◌, ◌≤◌, ap, sym, ◌∙◌, arith, length}
+use Rattle.std.proofs.Common.{◌≤◌, ap, sym, ◌∙◌, arith, length}
 use Rattle.std.proofs.lemmas.List.{length-drop}
 use Rattle.mlr_json.specs.Seen.{lexeme_seen}
 use Rattle.mlr_json.specs.Reading.{tokens_left}

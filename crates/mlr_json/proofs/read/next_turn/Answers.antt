@@ -1,7 +1,7 @@
-use Rattle.std.proofs.Common.{◌≡◌, ℕ, ◌≤◌, true, false, length, ap, sym, subst, ◌∙◌}
+use Rattle.std.proofs.Common.{ℕ, ◌≤◌, length, ap, sym, subst, ◌∙◌}
 use Rattle.std.proofs.lemmas.Result.{IfOk-weaker}
-use Rattle.mlr_json.specs.Steps.{frames_of, takes_text}
-use Rattle.mlr_json.specs.Reading.{Gives, IsWanted, tokens_left, token_seen}
+use Rattle.mlr_json.specs.Steps.{frames_of}
+use Rattle.mlr_json.specs.Reading.{Gives, IsWanted, tokens_left}
 use Rattle.mlr_json.specs.Turns.{outcome_at, IsTurn}
 use Rattle.mlr_json.proofs.Turned.{is-shallow, text-cut, text-refused}
 use Rattle.mlr_json.proofs.read.next_turn.Goals as goal

@@ -1,5 +1,4 @@
-use Rattle.std.proofs.Common.{◌≡◌, ◌+◌, ◌≤◌, [], length, ap, sym, subst, ◌∙◌, arith}
-use Rattle.mlr_spec.specs.JsonTokens.{tokens_of}
+use Rattle.std.proofs.Common.{◌+◌, ◌≤◌, length, ap, sym, subst, ◌∙◌, arith}
 use Rattle.mlr_json.specs.declared.frame.Phase.TheVariants as phase
 use Rattle.mlr_json.specs.Machine.{syntax, deep, outcome_of}
 use Rattle.mlr_json.specs.Steps.{frames_of}

@@ -1,4 +1,4 @@
-use Rattle.std.proofs.Common.{false, ◌≡◌, ◌≤◌, ℕ, length, ap, sym, subst, ◌∙◌}
+use Rattle.std.proofs.Common.{false, ◌≤◌, ℕ, length, sym, subst}
 use Rattle.std.proofs.lemmas.Result.{IfOk-weaker}
 use Rattle.mlr_json.specs.Seen.{lexeme_seen}
 use Rattle.mlr_json.specs.Reading.{IsFirst, Gives, tokens_left}

@@ -1,4 +1,4 @@
-use Rattle.std.proofs.Common.{true, ◌≡◌, length, ap, sym, subst, ◌∙◌}
+use Rattle.std.proofs.Common.{true, sym, subst}
 use Rattle.mlr_json.specs.Seen.{lexeme_seen}
 use Rattle.mlr_json.specs.Reading.{IsFirst}
 use Rattle.mlr_json.proofs.Left.{left-found, inside-begun, inside-bad, found-of_string}
