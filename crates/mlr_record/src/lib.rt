@@ -3,10 +3,12 @@
 
 mod flatten;
 mod json;
+mod node;
 mod record;
 #[cfg(test)]
 mod record_tests;
 pub mod split;
+mod unflatten;
 
 pub use json::{append_json_string, append_json_value};
 pub use record::Record;
