@@ -17,7 +17,7 @@ use Rattle.mlr_json.specs.Readable.{plain}
 use Rattle.mlr_json.specs.Steps.{frames_of, takes_text}
 use Rattle.mlr_json.specs.Reading.{lexemes_left, tokens_left, stopped}
 use Rattle.mlr_json.specs.Turns.{outcome_at, behind_at, is_token, IsAnswer, IsRead}
-use Rattle.mlr_json.proofs.GrammarAnswer.{outcome-says}
+use Rattle.mlr_json.proofs.GrammarAnswer.{outcome-says, outcome-only}
 use Rattle.mlr_json.proofs.Left.{left-found, outside-begun, outside-bad}
 
 -- a machine is never deeper than 100
@@ -124,3 +124,7 @@ answer-read text (answer.Ok value) is = subst (Says plain text) is (outcome-says
 answer-read text (answer.Syntax place) is = subst (Says plain text) is (outcome-says plain text)
 answer-read text (answer.Deep place) is = subst (Says plain text) is (outcome-says plain text)
 answer-read text answer.NoMemory is = tt
+
+-- what the grammar says of a text is the answer
+pub answer-only : (text : List ℕ) (result : JsonRead) → IsAnswer (outcome_of (length text + 1) (tokens_of plain text)) result → (outcome : Outcome) → Says plain text outcome → IsAnswer outcome result
+answer-only text result is outcome says = subst (λ o. IsAnswer o result) (sym (outcome-only plain text outcome says)) is

@@ -1,7 +1,8 @@
 ghost use Rattle.std.specs.Prelude.{◌≡◌, ℕ, ◌+◌, ◌-◌, ◌<◌, ◌≤◌, length, IfOk, IfSome};
 ghost use Rattle.mlr_spec.specs.Tree.{Tree};
 ghost use Rattle.mlr_spec.specs.JsonTokens.{and_token, tokens_of};
-ghost use Rattle.mlr_json.specs.Machine.{step, outcome_of};
+ghost use Rattle.mlr_json.specs.Answer.{Says};
+ghost use Rattle.mlr_json.specs.Machine.{Outcome, step, outcome_of};
 ghost use Rattle.mlr_json.specs.Readable.{plain};
 ghost use Rattle.mlr_json.specs.Steps.{frames_of, IsStep};
 ghost use Rattle.mlr_json.specs.Reading.{tokens_left, token_seen};
@@ -40,7 +41,10 @@ enum Turn<'a> {
 /// Reads a whole JSON text (RFC 8259): a value, with blanks round it. Numbers are inferred as texts from data are, and
 /// keep their spelling.
 pub fn read_json_value(alloc: Global, text: &[u8]) -> JsonRead
-    ensures { IsRead text.now result }
+    // The value or the fault is that of the grammar,
+    ensures read { IsRead text.now result }
+    // and what the grammar says of the text is the answer, unless memory runs out.
+    ensures only { (outcome : Outcome) → Says plain text.now outcome → IsAnswer outcome result }
 {
     match read_text(alloc, text) {
         Ok(read) => read,

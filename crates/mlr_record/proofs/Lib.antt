@@ -1,3 +1,6 @@
 pub mod Places
 mod Edits
 mod Finding
+mod Named
+mod Children
+mod Unflattening

@@ -1,5 +1,5 @@
 -- A text cut at its first separator.
-use Rattle.std.specs.Prelude.{ℕ, ◌+◌, List, [], ◌∷◌, length, take, drop, Option, Some, None}
+use Rattle.std.specs.Prelude.{ℕ, ◌+◌, List, [], length, take, drop, Option, Some, None}
 use Rattle.std.specs.Option.{option_map}
 use Rattle.mlr_spec.specs.Split.{place_in, split_by}
 

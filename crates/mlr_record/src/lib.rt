@@ -2,9 +2,11 @@
 #![tactic(auto)]
 
 mod flatten;
+mod node;
 mod record;
 #[cfg(test)]
 mod record_tests;
 pub mod split;
+mod unflatten;
 
 pub use record::Record;

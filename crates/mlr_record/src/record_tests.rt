@@ -168,3 +168,90 @@ fn a_map_is_flattened(rt: HostRuntime) -> Result<(), Fail> {
     );
     Ok(())
 }
+
+#[test]
+fn paths_are_unflattened(rt: HostRuntime) -> Result<(), Fail> {
+    let alloc = rt.alloc();
+    let mut record = record_of(
+        alloc,
+        &[("a.1", "5"), ("b.x", "{}"), ("a.2", "6"), ("c", "[]")],
+    )?;
+    record.unflatten(b".")?;
+    assert_eq!(rt; record.len(), 3);
+    assert!(rt; matches!(record.get(b"a"), Some(Value::Array(array)) if array.len() == 2));
+    assert!(rt; matches!(record.get(b"b"), Some(Value::Map(map)) if map.len() == 1));
+    assert!(rt; matches!(record.get(b"c"), Some(Value::Array(array)) if array.len() == 0));
+    record.flatten(b":")?;
+    assert_eq!(rt;
+        shown(alloc, &record)?.as_slice(),
+        b"a:1=5,a:2=6,b:x={},c=[],".as_slice()
+    );
+    Ok(())
+}
+
+#[test]
+fn a_value_in_the_way_is_replaced(rt: HostRuntime) -> Result<(), Fail> {
+    let alloc = rt.alloc();
+    let mut record = record_of(alloc, &[("a", "1"), ("z", "0"), ("a.b", "2"), ("a.0", "3")])?;
+    record.unflatten(b".")?;
+    assert_eq!(rt; record.len(), 2);
+    assert!(rt; matches!(record.get(b"a"), Some(Value::Map(map)) if map.len() == 2));
+    record.flatten(b".")?;
+    assert_eq!(rt;
+        shown(alloc, &record)?.as_slice(),
+        b"a.b=2,a.0=3,z=0,".as_slice()
+    );
+    Ok(())
+}
+
+#[test]
+fn paths_go_on_in_a_map(rt: HostRuntime) -> Result<(), Fail> {
+    let alloc = rt.alloc();
+    let mut record = record_of(alloc, &[("a", ""), ("a.b", "3"), ("a.d", "4")])?;
+    record.put(b"a", nested(alloc)?)?;
+    record.unflatten(b".")?;
+    record.flatten(b".")?;
+    assert_eq!(rt;
+        shown(alloc, &record)?.as_slice(),
+        b"a.b=3,a.c.1=2,a.c.2={},a.d=4,".as_slice()
+    );
+    Ok(())
+}
+
+#[test]
+fn positions_begin_at_1(rt: HostRuntime) -> Result<(), Fail> {
+    let alloc = rt.alloc();
+    let mut record = record_of(alloc, &[("a.0", "5"), ("a.1", "6"), ("b.2", "7")])?;
+    record.unflatten(b".")?;
+    assert!(rt; matches!(record.get(b"a"), Some(Value::Map(_))));
+    assert!(rt; matches!(record.get(b"b"), Some(Value::Map(_))));
+    Ok(())
+}
+
+#[test]
+fn a_long_path_is_left(rt: HostRuntime) -> Result<(), Fail> {
+    let alloc = rt.alloc();
+    let mut name = Bytes::new(alloc);
+    for _ in 0..199 {
+        name.append(b"a.")?;
+    }
+    let mut record = Record::new(alloc)?;
+    record.put(name.as_slice(), Value::Empty)?;
+    name.append(b"a.")?;
+    record.put(name.as_slice(), Value::Empty)?;
+    record.unflatten(b".")?;
+    assert_eq!(rt; record.len(), 2);
+    assert_eq!(rt; record.entry(0).0, b"a".as_slice());
+    assert_eq!(rt; record.entry(1).0, name.as_slice());
+    Ok(())
+}
+
+#[test]
+fn a_record_is_copied(rt: HostRuntime) -> Result<(), Fail> {
+    let alloc = rt.alloc();
+    let mut record = record_of(alloc, &[("a", "1"), ("b", "2")])?;
+    let copy = record.copy()?;
+    record.remove(b"b");
+    assert_eq!(rt; shown(alloc, &copy)?.as_slice(), b"a=1,b=2,".as_slice());
+    Ok(())
+}

@@ -1,13 +1,11 @@
 -- Records that flattening and unflattening leave as they are, and each of them one field after another.
-use Rattle.std.proofs.Common.{◌≡◌, ℕ, zero, suc, ◌+◌, Bool, true, false, cond, ◌||◌, List, [], ◌∷◌, ◌++◌, map, length, drop, Option, Some, None, slice_get, is_none, refl, ap, ap₂, sym, subst, ◌∙◌, arith, inl, inr, append_assoc, add-one}
+use Rattle.std.proofs.Common.{◌≡◌, ℕ, zero, suc, ◌+◌, Bool, true, false, ◌||◌, List, [], ◌∷◌, ◌++◌, length, drop, Some, None, slice_get, is_none, refl, ap, ap₂, sym, ◌∙◌, arith, inl, inr, append_assoc, add-one}
 use Rattle.std.specs.List.{flat_map, list_any}
-use Rattle.std.specs.Option.{unwrap_or}
-use Rattle.std.specs.Str.{bytes_eq}
 use Rattle.std.specs.Prelude.{codes}
 use Rattle.std.specs.Fmt.{decimal}
 use Rattle.std.proofs.lemmas.List.{append-nil}
-use Rattle.std.proofs.lemmas.Bool.{cases_Bool, or_parts, true≢false}
-use Rattle.mlr_spec.specs.Tree.{Tree, absent, empty, string, int, fraction, wide, boolean, mapping, array, error, Trees, no_trees, tree_and, Fields, no_fields, field_and, fields_of, trees_of, map_of, array_of, is_collection}
+use Rattle.std.proofs.lemmas.Bool.{or_parts, true≢false}
+use Rattle.mlr_spec.specs.Tree.{Tree, absent, empty, string, int, fraction, wide, boolean, mapping, array, error, fields_of, trees_of, map_of, array_of, is_collection}
 use Rattle.mlr_spec.specs.Pairs.{keys_of, are_distinct, value_at, put_at, put_each}
 use Rattle.mlr_spec.specs.Flatten.{leaves_of, leaves_of_pairs, leaves_of_items, flat}
 use Rattle.mlr_spec.proofs.Splitting.{cases_Option}

@@ -1,7 +1,6 @@
 -- A text split at its first separator, and then at the others.
-use Rattle.std.proofs.Common.{◌≡◌, ℕ, zero, suc, ◌+◌, ◌-◌, ◌<◌, ◌≤◌, Bool, true, false, cond, List, [], ◌∷◌, length, take, drop, Option, Some, None, ◌⊎◌, refl, ap, sym, subst, ◌∙◌, arith, inl, inr, length-drop, length-take}
+use Rattle.std.proofs.Common.{◌≡◌, ℕ, zero, suc, ◌+◌, ◌<◌, ◌≤◌, true, cond, List, [], ◌∷◌, length, take, drop, Option, Some, None, ◌⊎◌, refl, ap, sym, ◌∙◌, arith, inl, inr, length-drop, length-take}
 use Rattle.std.specs.Option.{option_map}
-use Rattle.std.specs.Str.{bytes_eq}
 use Rattle.std.proofs.lemmas.Bool.{cases_Bool}
 use Rattle.std.proofs.lemmas.Slice.Eq.{bytes_eq-Decides}
 use Rattle.mlr_spec.specs.Split.{begins_with, place_in, parts_from, split_by}

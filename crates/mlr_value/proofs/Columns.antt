@@ -1,12 +1,11 @@
 -- Keys and values that stand beside each other: what is found, put and taken out at the place of a key.
-use Rattle.std.proofs.Common.{◌≡◌, ℕ, zero, suc, ◌+◌, ◌<◌, Bool, true, false, List, [], ◌∷◌, ◌++◌, length, get_or, set, remove, take, Vec, Global, Option, Some, None, slice_get, is_some, position, refl, ap, sym, inl, inr, subst, ◌∙◌, arith, cond, ◌||◌}
+use Rattle.std.proofs.Common.{◌≡◌, ℕ, zero, suc, ◌<◌, Bool, true, false, List, [], ◌∷◌, ◌++◌, length, get_or, set, remove, Vec, Global, Some, None, slice_get, position, refl, ap, sym, inl, inr, ◌∙◌, arith, cond}
 use Rattle.std.specs.List.{list_any, IsDistinct, AllByRecursion}
 use Rattle.std.specs.Str.{bytes_eq}
 use Rattle.std.specs.Cmp.Lexicographic.{nat_list_eq_equiv}
 use Rattle.std.proofs.lemmas.Bool.{or_parts, not_from_false, and_from, or_from, cases_Bool}
 use Rattle.std.proofs.lemmas.List.Quantifiers.{position-Some}
-use Rattle.indexmap.specs.IndexSet.{remove_key, insert_key}
-use Rattle.mlr_spec.specs.Tree.{Tree}
+use Rattle.indexmap.specs.IndexSet.{remove_key}
 use Rattle.mlr_spec.specs.Pairs.{value_at, put_at, remove_at, keys_of, are_distinct}
 use Rattle.mlr_value.specs.declared.value.Value.{Value}
 use Rattle.mlr_value.specs.Value.{tree_of}

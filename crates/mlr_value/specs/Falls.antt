@@ -1,5 +1,5 @@
 -- A value in a map or an array is less deep than the map or the array: the measure that the models of both give.
-use Rattle.std.specs.Prelude.{◌≡◌, ℕ, ◌+◌, ◌≤◌, max, List, [], ◌∷◌, length, Vec}
+use Rattle.std.specs.Prelude.{◌≡◌, ℕ, ◌≤◌, List, [], ◌∷◌, length, Vec}
 use Rattle.std.proofs.Common.{Global, arith}
 use denote.Param.Weighed.{most}
 use Rattle.mlr_value.specs.declared.value.Value.{Value}

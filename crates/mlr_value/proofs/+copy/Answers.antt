@@ -1,4 +1,4 @@
-use Rattle.std.proofs.Common.{◌≡◌, ◌++◌, ◌∷◌, [], Some, slice_get, take, ap, sym, subst, ◌∙◌, arith}
+use Rattle.std.proofs.Common.{◌++◌, ◌∷◌, [], take, ap, sym, ◌∙◌, arith}
 use Rattle.mlr_spec.specs.Pairs.{value_at}
 use Rattle.mlr_value.specs.Value.{tree_of}
 use Rattle.mlr_value.proofs.Depth.{depth-item, depth-pair}

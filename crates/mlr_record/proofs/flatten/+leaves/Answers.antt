@@ -1,7 +1,5 @@
-use Rattle.std.proofs.Common.{◌≡◌, length, ◌++◌, ◌+◌, ap, sym, ◌∙◌, subst, arith}
-use Rattle.std.specs.Fmt.{decimal}
+use Rattle.std.proofs.Common.{◌≡◌, length, ap, sym, ◌∙◌, arith}
 use Rattle.std.proofs.lemmas.Result.{on_ok_weaker}
-use Rattle.mlr_spec.specs.Tree.{fields_of, trees_of}
 use Rattle.mlr_spec.specs.Pairs.{put_each}
 use Rattle.mlr_spec.specs.Flatten.{leaves_of}
 use Rattle.mlr_spec.proofs.Flattening.{leaves_of-pairs, leaves_of-items, pairs-more, items-more}

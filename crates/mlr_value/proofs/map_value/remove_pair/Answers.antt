@@ -1,6 +1,6 @@
-use Rattle.std.proofs.Common.{◌≡◌, None, ap, sym, subst, ◌∙◌, is_some}
+use Rattle.std.proofs.Common.{◌≡◌, None, ap, sym, ◌∙◌, is_some}
 use Rattle.indexmap.specs.IndexSet.{remove_key}
-use Rattle.mlr_spec.specs.Pairs.{value_at, remove_at}
+use Rattle.mlr_spec.specs.Pairs.{value_at}
 use Rattle.mlr_value.specs.Collections.{pairs_in}
 use Rattle.mlr_value.proofs.Columns.{IsAt, is_text, IsAt-position, value_at-there, remove_at-there, value_at-absent, remove_at-absent}
 use Rattle.mlr_value.proofs.map_value.remove_pair.Goals as goal

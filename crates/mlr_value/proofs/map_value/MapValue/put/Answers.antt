@@ -1,4 +1,4 @@
-use Rattle.std.proofs.Common.{◌≡◌, ◌++◌, ◌∷◌, [], None, length, set, ap, sym, subst, ◌∙◌}
+use Rattle.std.proofs.Common.{◌≡◌, ◌++◌, ◌∷◌, [], None, length, ap, sym, subst, ◌∙◌}
 use Rattle.mlr_spec.specs.Pairs.{value_at, put_at}
 use Rattle.mlr_spec.proofs.Pairs.{put_at-none}
 use Rattle.mlr_value.specs.Value.{tree_of}

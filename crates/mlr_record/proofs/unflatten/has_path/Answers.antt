@@ -1,0 +1,18 @@
+use Rattle.std.proofs.Common.{ℕ, List, sym, ◌∙◌}
+use Rattle.mlr_spec.specs.Tree.{Tree}
+use Rattle.mlr_spec.proofs.Flattening.{any-here, any-later}
+use Rattle.mlr_value.specs.Value.{tree_of}
+use Rattle.mlr_record.specs.Paths.{is_unflattened}
+use Rattle.mlr_record.proofs.unflatten.has_path.Goals as goal
+
+pub returns-then-is_path-clause-found : goal.returns-then-is_path-clause-found
+returns-then-is_path-clause-found c =
+    let entry : List ℕ × Tree = (c.entry.result.0.now, tree_of c.entry.result.1.now) in
+    sym (any-here (is_unflattened c.args.separator.now) c.args.from.now c.loop-place.place entry c.entry.ensures (sym c.if-is_path.ensures))
+    ∙ c.loop-place.invariant
+
+pub loop-place-preserved : goal.loop-place-preserved
+loop-place-preserved c =
+    let entry : List ℕ × Tree = (c.entry.result.0.now, tree_of c.entry.result.1.now) in
+    any-later (is_unflattened c.args.separator.now) c.args.from.now c.loop-place.place entry c.entry.ensures (sym c.if-is_path.ensures)
+    ∙ c.loop-place.invariant
