@@ -4,3 +4,4 @@ mod Finding
 mod Named
 mod Children
 mod Unflattening
+mod RoundTrip

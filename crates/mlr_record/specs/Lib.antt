@@ -5,3 +5,4 @@ pub mod NodeView
 pub mod NodesFall
 pub mod Children
 pub mod Paths
+pub mod Leaves

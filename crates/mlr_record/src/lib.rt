@@ -2,6 +2,7 @@
 #![tactic(auto)]
 
 mod flatten;
+mod laws;
 mod node;
 mod record;
 #[cfg(test)]
@@ -9,4 +10,5 @@ mod record_tests;
 pub mod split;
 mod unflatten;
 
+pub use laws::flattened_again;
 pub use record::Record;
