@@ -8,3 +8,4 @@ pub mod Reading
 pub mod Turns
 pub mod Readable
 pub mod Answer
+pub mod Stable

@@ -1,4 +1,4 @@
-ghost use Rattle.std.specs.Prelude.{◌≤◌, ℕ, List};
+ghost use Rattle.std.specs.Prelude.{◌≤◌, ℕ, Bool, List};
 ghost use Rattle.mlr_spec.specs.declared.infer.InferOpts.{InferOpts};
 ghost use Rattle.mlr_spec.specs.declared.json.JsonStyle.{JsonStyle};
 ghost use Rattle.mlr_spec.specs.Json.{json_text};
@@ -7,6 +7,7 @@ ghost use Rattle.mlr_spec.specs.Tree.{Tree};
 ghost use Rattle.mlr_value.specs.Depth.{depth};
 ghost use Rattle.mlr_json.specs.Answer.{HasOneOutcome};
 ghost use Rattle.mlr_json.specs.Readable.{plain, read_back, IsReadable};
+ghost use Rattle.mlr_json.specs.Stable.{StaysFound};
 
 /// Each text is one value or has one first fault, by the grammar alone. The function does nothing: its clause is a
 /// law of the definitions.
@@ -19,4 +20,10 @@ pub fn one_outcome()
 /// is none of these. The function does nothing: its clause is a law of the definitions.
 pub fn written_is_read()
     ensures { (style : JsonStyle) (value : Tree) → IsReadable value → depth value ≤ 100 → IsJson plain (json_text style value) (read_back value) }
+{}
+
+/// What `front_of` finds stays found when bytes follow, but for a run that reaches the end of the text. So a reader of
+/// streams may take what it finds in a piece. The function does nothing: its clause is a law of the definitions.
+pub fn found_stays()
+    ensures { (inside : Bool) (text more : List ℕ) → StaysFound inside text more }
 {}
