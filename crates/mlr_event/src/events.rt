@@ -1,0 +1,67 @@
+ghost use Rattle.std.specs.Prelude.{◌≡◌, ◌++◌, ◌∷◌, [], length, if◌then◌else◌, is_ok, slice_get};
+ghost use Rattle.std.specs.Option.{option_map};
+
+use crate::Event;
+use mlr_spec::NoMemory;
+use std::alloc::Global;
+use std::marker::Model;
+
+/// A list of events, in order.
+#[derive(Drop)]
+pub struct Events {
+    events: Vec<Event>,
+}
+
+impl Model for Events {
+    ghost use Rattle.std.specs.Prelude.{List};
+    ghost use Rattle.mlr_event.specs.declared.event.Event.{Event};
+    ghost use Rattle.mlr_event.specs.EventCode.{coded_events};
+
+    ghost Value = { List Event };
+
+    ghost coded = { coded_events };
+
+    ghost view = { λ e. e.events.items };
+}
+
+impl Events {
+    /// No events. It takes no memory.
+    pub fn new(alloc: Global) -> Self
+        ensures { result ≡ [] }
+    {
+        Events {
+            events: Vec::new(alloc),
+        }
+    }
+
+    /// How many events there are.
+    pub fn len(&self) -> usize
+        ensures { result ≡ length self.now }
+    {
+        self.events.len()
+    }
+
+    /// The event at this place, which counts from 0.
+    pub fn at(&self, place: usize) -> Option<&Event>
+        ensures { option_map (λ event. event.now) result ≡ slice_get self.now place }
+    {
+        self.events.get(place)
+    }
+
+    /// Puts an event last.
+    #[inline]
+    pub fn push(&mut self, event: Event) -> Result<(), NoMemory>
+        ensures { self.new ≡ (if is_ok result then self.old ++ event ∷ [] else self.old) }
+    {
+        self.events.push(event)?;
+        Ok(())
+    }
+
+    /// The events, as a vector.
+    pub fn into_vec(self) -> Vec<Event>
+        ensures { result.items ≡ self }
+    {
+        let Events { events } = self;
+        events
+    }
+}

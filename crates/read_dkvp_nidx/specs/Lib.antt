@@ -1,0 +1,4 @@
+pub mod Dkvp
+pub mod Nidx
+pub mod Markdown
+pub mod Lines
