@@ -6,4 +6,4 @@ mod frame;
 mod laws;
 
 pub use frame::{Frame, Phase};
-pub use laws::one_outcome;
+pub use laws::{one_outcome, written_is_read};

@@ -1,3 +1,4 @@
 pub mod Places
 pub mod Escaping
 mod Edits
+mod Finding

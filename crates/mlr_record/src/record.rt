@@ -1,4 +1,4 @@
-ghost use Rattle.std.specs.Prelude.{◌≡◌, ◌<◌, ◌++◌, ◌∷◌, true, [], length, if◌then◌else◌, is_ok, IfOk, slice_get, is_some, vec_len, slice_index_or, remove};
+ghost use Rattle.std.specs.Prelude.{◌≡◌, ◌<◌, ◌++◌, ◌∷◌, true, [], length, if◌then◌else◌, is_ok, IfOk, OnOk, slice_get, is_some, vec_len, slice_index_or, remove};
 ghost use Rattle.std.specs.Option.{option_map};
 ghost use Rattle.mlr_spec.specs.Pairs.{value_at, put_at, remove_at, place_at, rename_at, keys_of, are_distinct};
 ghost use Rattle.mlr_value.specs.Value.{tree_of};
@@ -27,8 +27,11 @@ pub struct Record {
 impl Model for Record {
     ghost use Rattle.std.specs.Prelude.{List, ℕ, ◌≡◌, true};
     ghost use Rattle.mlr_spec.specs.Tree.{Tree};
+    ghost use Rattle.mlr_spec.specs.TreeCode.{coded_pairs};
 
     ghost Value = { List (List ℕ × Tree) };
+
+    ghost coded = { coded_pairs };
 
     ghost use Rattle.mlr_spec.specs.Pairs.{keys_of, are_distinct};
     ghost use Rattle.mlr_record.specs.Fields.{pairs_of};
@@ -117,6 +120,23 @@ impl Record {
         Ok(())
     }
 
+    /// A copy, which takes the room of the list at once.
+    pub fn copy(&self) -> Result<Self, NoMemory>
+        ensures { IfOk result (λ copy. copy ≡ self.now) }
+    {
+        let mut copy = Record {
+            alloc: self.alloc,
+            fields: Vec::with_capacity(self.alloc, self.len())?,
+        };
+        copy_fields(self, &mut copy, self.alloc)?;
+        Ok(copy)
+    }
+
+    /// The allocator that its fields are in.
+    pub(crate) fn allocator(&self) -> Global {
+        self.alloc
+    }
+
     /// Takes the field of this name out, and says whether there was one. It takes no memory.
     pub fn remove(&mut self, key: &[u8]) -> bool
         ensures found { result ≡ is_some (value_at key.now self.old) }
@@ -164,6 +184,18 @@ impl Record {
 
 const FIRST_ROOM: usize = 8;
 
+/// Puts copies of all fields into an empty record.
+fn copy_fields(from: &Record, into: &mut Record, alloc: Global) -> Result<(), NoMemory>
+    requires { into.old ≡ [] }
+    ensures { OnOk result (into.new ≡ from.now) }
+{
+    for place in 0..from.len() {
+        let (name, value) = from.entry(place);
+        into.push(name, value.copy(alloc)?)?;
+    }
+    Ok(())
+}
+
 /// Moves the field at this place before the others.
 fn move_first(fields: &mut [Field], place: usize)
     requires { place < length fields.old }
@@ -200,9 +232,20 @@ fn place_of(fields: &[Field], key: &[u8]) -> Option<usize>
 #[cfg(test)]
 mod tests {
     use super::*;
+    use mlr_value::append_text;
 
     fn string(alloc: Global, text: &[u8]) -> Result<Value, NoMemory> {
         Ok(Value::Str(Bytes::copy_of(alloc, text)?))
+    }
+
+    /// Whether there is a value, and it prints this text.
+    fn prints(value: Option<&Value>, text: &[u8], alloc: Global) -> Result<bool, NoMemory> {
+        let mut printed = Bytes::new(alloc);
+        match value {
+            Some(value) => append_text(value, &mut printed)?,
+            None => return Ok(false),
+        }
+        Ok(printed.as_slice() == text)
     }
 
     #[test]
@@ -224,12 +267,16 @@ mod tests {
         let fields: [(&[u8], &[u8]); 3] = [(b"a", b"4"), (b"b", b"5"), (b"", b"3")];
         for (place, row) in fields.iter().enumerate() {
             let (name, text) = *row;
-            let value = string(alloc, text)?;
-            assert_eq!(rt; record.get(name), Some(&value), "at {place}");
-            assert_eq!(rt; record.at(place), Some((name, &value)), "at {place}");
+            assert!(rt; prints(record.get(name), text, alloc)?, "at {place}");
+            let field = record.at(place);
+            assert_eq!(rt; field.map(|field| field.0), Some(name), "at {place}");
+            assert!(rt;
+                prints(field.map(|field| field.1), text, alloc)?,
+                "at {place}"
+            );
         }
-        assert_eq!(rt; record.get(b"ab"), None);
-        assert_eq!(rt; record.at(3), None);
+        assert!(rt; record.get(b"ab").is_none());
+        assert!(rt; record.at(3).is_none());
         Ok(())
     }
 
@@ -246,9 +293,9 @@ mod tests {
         }
         assert_eq!(rt; record.len(), 11);
         assert_eq!(rt; record.entry(0).0, b"first".as_slice());
-        assert_eq!(rt; record.entry(0).1, &string(alloc, b"1")?);
+        assert!(rt; prints(Some(record.entry(0).1), b"1", alloc)?);
         assert_eq!(rt; record.entry(10).0, b"j".as_slice());
-        assert_eq!(rt; record.entry(10).1, &Value::Empty);
+        assert!(rt; prints(Some(record.entry(10).1), b"", alloc)?);
         Ok(())
     }
 }

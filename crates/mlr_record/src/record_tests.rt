@@ -1,7 +1,7 @@
 //! What the calls on a record leave, on small records.
 use crate::Record;
 use mlr_spec::NoMemory;
-use mlr_value::{Bytes, Value, append_text};
+use mlr_value::{ArrayValue, Bytes, MapValue, Value, append_text};
 use std::alloc::Global;
 use std::test::Fail;
 
@@ -142,5 +142,29 @@ fn a_renamed_record_takes_another_field_first(rt: HostRuntime) -> Result<(), Fai
     assert_eq!(rt; shown(alloc, &record)?.as_slice(), b"c=3,b=1,".as_slice());
     assert!(rt; !record.rename(b"z", b"c")?);
     assert_eq!(rt; shown(alloc, &record)?.as_slice(), b"c=3,b=1,".as_slice());
+    Ok(())
+}
+
+/// `{b:1,c:[2,{}]}`.
+fn nested(alloc: Global) -> Result<Value, NoMemory> {
+    let mut array = ArrayValue::new(alloc);
+    array.push(text_value(alloc, "2")?)?;
+    array.push(Value::Map(MapValue::new(alloc)?))?;
+    let mut map = MapValue::new(alloc)?;
+    map.put(b"b", text_value(alloc, "1")?)?;
+    map.put(b"c", Value::Array(array))?;
+    Ok(Value::Map(map))
+}
+
+#[test]
+fn a_map_is_flattened(rt: HostRuntime) -> Result<(), Fail> {
+    let alloc = rt.alloc();
+    let mut record = record_of(alloc, &[("z", "0"), ("a", ""), ("a.b", "3")])?;
+    record.put(b"a", nested(alloc)?)?;
+    record.flatten(b".")?;
+    assert_eq!(rt;
+        shown(alloc, &record)?.as_slice(),
+        b"z=0,a.b=3,a.c.1=2,a.c.2={},".as_slice()
+    );
     Ok(())
 }

@@ -1,2 +1,4 @@
 mod Rows
 pub mod Pairs
+pub mod Splitting
+pub mod Flattening

@@ -13,5 +13,5 @@ invariant_of-self-2 c =
     let fields = c.self.inside.fields.items in
     let absent : value_at key (pairs_of fields) ≡ None = ap (value_at key) c.self.view_is ∙ c.requires in
     let pairs_are : pairs_of c.push.new.self.items ≡ pairs_of fields ++ (key, value) ∷ [] =
-    ap pairs_of c.in_ok-push.ensures.items ∙ map-append pair_of fields _ ∙ ap (λ name. pairs_of fields ++ (name, value) ∷ []) c.in_ok-name.ensures in
+    ap pairs_of c.in_ok-push.ensures.items ∙ map-append pair_of fields _ ∙ ap (λ name. pairs_of fields ++ (name, value) ∷ []) c.in_ok-name.ensures.copied in
     subst (λ pairs. are_distinct (keys_of pairs) ≡ true) (sym pairs_are) (are_distinct-push key value (pairs_of fields) absent c.self.invariant)

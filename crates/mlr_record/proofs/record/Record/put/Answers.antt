@@ -21,7 +21,7 @@ pushed c =
     let key = c.args.key.now in
     let fields = c.self.inside.fields.items in
     let absent = subst (λ fields. IsPlaceOf key fields None) c.deref.ensures.value c.in-None.ensures in
-    ap pairs_of c.in_ok-push-in-None.ensures.items ∙ pairs_of-push key c.args.value fields c.in_ok-name-in-None.name c.in_ok-name-in-None.ensures absent
+    ap pairs_of c.in_ok-push-in-None.ensures.items ∙ pairs_of-push key c.args.value fields c.in_ok-name-in-None.name c.in_ok-name-in-None.ensures.copied absent
 
 pub invariant_of-self : goal.invariant_of-self
 invariant_of-self c =

@@ -12,7 +12,7 @@ abbrev inserted : (c : In_ok-insert) →
 inserted c =
     let fields = c.self.inside.fields.items in
     let absent = subst (λ fields. IsPlaceOf c.args.key.now fields None) c.deref.ensures.value c.in_default.ensures in
-    ap pairs_of c.in_ok-insert.ensures.items ∙ ap (λ name. (name, tree_of c.args.value) ∷ pairs_of fields) c.in_ok-name.ensures
+    ap pairs_of c.in_ok-insert.ensures.items ∙ ap (λ name. (name, tree_of c.args.value) ∷ pairs_of fields) c.in_ok-name.ensures.copied
     ∙ ap (λ pairs. (c.args.key.now, tree_of c.args.value) ∷ pairs) (sym (remove_at-absent c.args.key.now fields absent))
 
 pub invariant_of-self : goal.invariant_of-self

@@ -19,7 +19,7 @@ renamed c =
     let new = c.args.new.now in
     let fields = c.self.inside.fields.items in
     let apart : bytes_eq old new ≡ false = sym c.if-eq.ensures in
-    let given = subst (λ name. IsRenamed name c.in-Some.place fields c.give_name.new.fields.items) c.in_ok-name.ensures c.give_name.ensures in
+    let given = subst (λ name. IsRenamed name c.in-Some.place fields c.give_name.new.fields.items) c.in_ok-name.ensures.copied c.give_name.ensures in
     given old (found c) apart ∙ sym (rename_at-found old new fields c.in-Some.place apart (found c))
 
 pub returns-in_default-clause-found : goal.returns-in_default-clause-found

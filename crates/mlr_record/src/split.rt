@@ -1,0 +1,86 @@
+ghost use Rattle.std.specs.Prelude.{◌≡◌, ◌+◌, ◌<◌, ◌≤◌, ◌∷◌, length, IfSome};
+ghost use Rattle.std.specs.Option.{option_map};
+ghost use Rattle.mlr_spec.specs.Split.{place_in, split_by};
+ghost use Rattle.mlr_record.specs.Parts.{first_part, behind_first, parts_of_rest};
+
+use memchr::{memchr, memmem};
+
+/// The place of the first separator in the text. It takes no memory.
+#[inline]
+pub fn separator_place(separator: &[u8], text: &[u8]) -> Option<usize>
+    requires { 0 < length separator.now }
+    ensures place { result ≡ place_in separator.now text.now }
+    ensures inside { IfSome result (λ place. place + length separator.now ≤ length text.now) }
+{
+    if separator.len() == 1 {
+        memchr(separator[0], text)
+    } else {
+        memmem::find(text, separator)
+    }
+}
+
+/// The part of the text before the first separator, and what stands behind that separator, where the next part begins.
+/// It takes no memory.
+#[inline]
+pub fn next_part<'t>(separator: &[u8], text: &'t [u8]) -> (&'t [u8], Option<&'t [u8]>)
+    requires { 0 < length separator.now }
+    ensures part { result.0.now ≡ first_part separator.now text.now }
+    ensures rest { option_map (λ rest. rest.now) result.1 ≡ behind_first separator.now text.now }
+    ensures shorter { IfSome result.1 (λ rest. length rest.now < length text.now) }
+    ensures parts { split_by separator.now text.now ≡ result.0.now ∷ parts_of_rest separator.now (option_map (λ rest. rest.now) result.1) }
+{
+    match separator_place(separator, text) {
+        None => (text, None),
+        Some(place) => (&text[..place], Some(&text[place + separator.len()..])),
+    }
+}
+
+/// How many parts the text has between the separators. It takes no memory.
+pub fn count_parts(separator: &[u8], text: &[u8]) -> usize
+    requires { 0 < length separator.now }
+    ensures { result ≡ length (split_by separator.now text.now) }
+{
+    let mut count = 1;
+    let mut left = text;
+    while let (_, Some(rest)) = next_part(separator, left) {
+        count += 1;
+        left = rest;
+    }
+    count
+}
+
+#[cfg(test)]
+mod tests {
+    use super::*;
+
+    #[test]
+    fn parts_in_order(rt: HostRuntime) {
+        let table: [(&[u8], &[u8], &[u8], Option<&[u8]>); 7] = [
+            (b".", b"a.b.c", b"a", Some(b"b.c")),
+            (b".", b".b", b"", Some(b"b")),
+            (b".", b"a.", b"a", Some(b"")),
+            (b".", b"", b"", None),
+            (b"::", b"a::b", b"a", Some(b"b")),
+            (b"::", b"a:b", b"a:b", None),
+            (b"::", b"a:::b", b"a", Some(b":b")),
+        ];
+        for (i, row) in table.iter().enumerate() {
+            let (separator, text, part, rest) = *row;
+            if separator.len() == 0 {
+                continue;
+            }
+            let (first, left) = next_part(separator, text);
+            assert_eq!(rt; first, part, "at {i}");
+            assert_eq!(rt; left, rest, "at {i}");
+        }
+    }
+
+    #[test]
+    fn parts_counted(rt: HostRuntime) {
+        assert_eq!(rt; count_parts(b".", b"a.b..c"), 4);
+        assert_eq!(rt; count_parts(b"..", b"a.b...c"), 2);
+        assert_eq!(rt; count_parts(b".", b""), 1);
+        assert_eq!(rt; separator_place(b"bc", b"abcbc"), Some(1));
+        assert_eq!(rt; separator_place(b"bd", b"abcbc"), None);
+    }
+}
