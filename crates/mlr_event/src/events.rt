@@ -15,11 +15,8 @@ pub struct Events {
 impl Model for Events {
     ghost use Rattle.std.specs.Prelude.{List};
     ghost use Rattle.mlr_event.specs.declared.event.Event.{Event};
-    ghost use Rattle.mlr_event.specs.EventCode.{coded_events};
 
     ghost Value = { List Event };
-
-    ghost coded = { coded_events };
 
     ghost view = { λ e. e.events.items };
 }
