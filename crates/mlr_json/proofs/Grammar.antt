@@ -113,12 +113,20 @@ put_each-push pairs (a ∷ more) pair = put_each-push (put_at a.0 a.1 pairs) mor
 -- a value that was awaited and came
 leads-value : (frames : List Frame) (tokens : List Token) (s : Syntax) → Awaits frames tokens → Leads (with_value (value_of s) frames) (tokens ++ tokens_in s)
 leads-value [] tokens s h = (s, ap (λ t. t ++ tokens_in s) h, refl)
-leads-value (Array items ∷ frames) tokens s h =
-    (h.0, h.1, s, (h.2, ap (λ t. t ++ tokens_in s) h.4 ∙ append_assoc h.0 (sign BeginArray ∷ each_item h.1) (tokens_in s)),
-    ap (λ t. t ++ value_of s ∷ []) h.3 ∙ sym (map-append value_of h.1 (s ∷ [])))
-leads-value (Map pairs key ∷ frames) tokens s h =
-    (h.0, h.1, (key, s), (h.2, ap (λ t. t ++ tokens_in s) h.4 ∙ simp append_assoc),
-    ap (put_at key (value_of s)) h.3 ∙ sym (ap (put_each []) (map-append (λ m. (m.0, value_of m.1)) h.1 ((key, s) ∷ [])) ∙ put_each-push [] (valued h.1) (key, value_of s)))
+leads-value (Array items ∷ frames) tokens s h = (
+  h.0,
+  h.1,
+  s,
+  (h.2, ap (λ t. t ++ tokens_in s) h.4 ∙ append_assoc h.0 (sign BeginArray ∷ each_item h.1) (tokens_in s)),
+  ap (λ t. t ++ value_of s ∷ []) h.3 ∙ sym (map-append value_of h.1 (s ∷ [])),
+)
+leads-value (Map pairs key ∷ frames) tokens s h = (
+  h.0,
+  h.1,
+  (key, s),
+  (h.2, ap (λ t. t ++ tokens_in s) h.4 ∙ simp append_assoc),
+  ap (put_at key (value_of s)) h.3 ∙ sym (ap (put_each []) (map-append (λ m. (m.0, value_of m.1)) h.1 ((key, s) ∷ [])) ∙ put_each-push [] (valued h.1) (key, value_of s)),
+)
 
 -- the first item of an array is awaited
 pub awaits-first : (items : List Tree) (frames : List Frame) (tokens : List Token) → Stands (Array items ∷ frames) phase.FirstItem tokens → Awaits (Array items ∷ frames) tokens
@@ -240,13 +248,19 @@ leads-colon frames phase.Later tokens h = tt
 
 leads-comma : (frames : List Frame) (at : Phase) (tokens : List Token) → Stands frames at tokens → Leads (comma_read frames at) (tokens ++ sign Comma ∷ [])
 leads-comma [] phase.Later tokens h = tt
-leads-comma (Array items ∷ frames) phase.Later tokens h =
-    (h.0, h.1 ++ h.2 ∷ [], h.3.0, h.4,
-    one-more tokens h.0 (sign BeginArray ∷ each_item h.1 ++ tokens_in h.2) (sign Comma ∷ []) h.3.1 ∙ ap (λ t. h.0 ++ sign BeginArray ∷ t) (each_item-push h.1 h.2))
-leads-comma (Map pairs key ∷ frames) phase.Later tokens h =
-    (h.0, h.1 ++ h.2 ∷ [],
-    (h.3.0, one-more tokens h.0 (sign BeginMap ∷ each_member h.1 ++ member_text h.2) (sign Comma ∷ []) h.3.1 ∙ ap (λ t. h.0 ++ sign BeginMap ∷ t) (each_member-push h.1 h.2)),
-    h.4)
+leads-comma (Array items ∷ frames) phase.Later tokens h = (
+  h.0,
+  h.1 ++ h.2 ∷ [],
+  h.3.0,
+  h.4,
+  one-more tokens h.0 (sign BeginArray ∷ each_item h.1 ++ tokens_in h.2) (sign Comma ∷ []) h.3.1 ∙ ap (λ t. h.0 ++ sign BeginArray ∷ t) (each_item-push h.1 h.2),
+)
+leads-comma (Map pairs key ∷ frames) phase.Later tokens h = (
+  h.0,
+  h.1 ++ h.2 ∷ [],
+  (h.3.0, one-more tokens h.0 (sign BeginMap ∷ each_member h.1 ++ member_text h.2) (sign Comma ∷ []) h.3.1 ∙ ap (λ t. h.0 ++ sign BeginMap ∷ t) (each_member-push h.1 h.2)),
+  h.4,
+)
 leads-comma frames phase.Value tokens h = tt
 leads-comma frames phase.FirstItem tokens h = tt
 leads-comma frames phase.FirstKey tokens h = tt

@@ -72,7 +72,7 @@ outcome_at end wrong tokens stop = syntax end
 module _ (end : ℕ) (stop : Option ℕ) where
   passes-step : (done before tokens : List (ℕ × Token)) (place : ℕ) (t : Token) (frames : List Frame) (at : Phase) → Reads done frames at → IsShallow (bare (done ++ (place, t) ∷ before))
       → ((more : List Frame) (next : Phase) → Reads (done ++ (place, t) ∷ []) more next → (run more next (bare before) ≡ wrong → ⊥)
-        → outcome_from end more next (before ++ tokens) stop ≡ outcome_at end (run more next (bare before)) tokens stop)
+      → outcome_from end more next (before ++ tokens) stop ≡ outcome_at end (run more next (bare before)) tokens stop)
       → (s : Step) → step frames at t ≡ s → (run_on s (bare before) ≡ wrong → ⊥)
       → outcome_on end (before ++ tokens) stop place s ≡ outcome_at end (run_on s (bare before)) tokens stop
   passes-step done before tokens place t frames at reads shallow later (on more next) is right =

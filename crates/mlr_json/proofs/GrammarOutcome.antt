@@ -261,7 +261,7 @@ whole-stops all before ((q, u) ∷ behind) place end p t value stop frames at pa
       begins = record { syntax = came.0; more = []; whole = append-nil (bare (before ++ (p, t) ∷ [])) ∙ b ∙ came.1 };
       shallow = subst IsShallow (sym b) (shallow-push (bare before) t h.shallow (omega arith));
       wrong = λ begins. begins-run (bare (before ++ (p, t) ∷ []) ++ u ∷ []) begins
-        (run-append [] phase.Value (bare (before ++ (p, t) ∷ [])) (u ∷ []) ∙ ap (λ s. run_on s (u ∷ [])) ran);
+          (run-append [] phase.Value (bare (before ++ (p, t) ∷ [])) (u ∷ []) ∙ ap (λ s. run_on s (u ∷ [])) ran);
     })
 
 cut-holds : (all : List (ℕ × Token)) (end : ℕ) (stop : Option ℕ) (frames : List Frame) (at : Phase) → Reads all frames at → Holds all stop end (outcome_cut end stop)
@@ -284,14 +284,14 @@ outcome_on end tokens stop place wrong = syntax place
 pub outcome-step : (end : ℕ) (frames : List Frame) (at : Phase) (place : ℕ) (t : Token) (tokens : List (ℕ × Token)) (stop : Option ℕ)
     → outcome_from end frames at ((place, t) ∷ tokens) stop ≡ outcome_on end tokens stop place (step frames at t)
 outcome-step end frames at place t tokens stop = elim (step frames at t) as (λ s. elim s as (λ _. Outcome) [
-      | on more next ↦ cond (ltb 100 (length more)) (deep place) (outcome_from end more next tokens stop)
-      | whole value ↦ outcome_behind value tokens stop
-      | wrong ↦ syntax place
-    ] ≡ outcome_on end tokens stop place s) [
-    | on more next ↦ refl
-    | whole value ↦ refl
-    | wrong ↦ refl
-  ]
+  | on more next ↦ cond (ltb 100 (length more)) (deep place) (outcome_from end more next tokens stop)
+  | whole value ↦ outcome_behind value tokens stop
+  | wrong ↦ syntax place
+] ≡ outcome_on end tokens stop place s) [
+  | on more next ↦ refl
+  | whole value ↦ refl
+  | wrong ↦ refl
+]
 
 holds-step : (all before tokens : List (ℕ × Token)) (end : ℕ) (stop : Option ℕ) (frames : List Frame) (at : Phase) (place : ℕ) (t : Token)
     → all ≡ before ++ (place, t) ∷ tokens → Reads before frames at

@@ -78,10 +78,10 @@ whole_then value (token ∷ tokens) = wrong
 abbrev pub run : List Frame → Phase → List Token → Step
 run frames at [] = on frames at
 run frames at (token ∷ tokens) = elim (step frames at token) [
-    | on more next ↦ run more next tokens
-    | whole value ↦ whole_then value tokens
-    | wrong ↦ wrong
-  ]
+  | on more next ↦ run more next tokens
+  | whole value ↦ whole_then value tokens
+  | wrong ↦ wrong
+]
 
 abbrev pub run_on : Step → List Token → Step
 run_on (on frames at) tokens = run frames at tokens
@@ -90,14 +90,14 @@ run_on wrong tokens = wrong
 
 pub run-cons : (frames : List Frame) (at : Phase) (token : Token) (tokens : List Token) → run frames at (token ∷ tokens) ≡ run_on (step frames at token) tokens
 run-cons frames at token tokens = elim (step frames at token) as (λ s. elim s as (λ _. Step) [
-      | on more next ↦ run more next tokens
-      | whole value ↦ whole_then value tokens
-      | wrong ↦ wrong
-    ] ≡ run_on s tokens) [
-    | on more next ↦ refl
-    | whole value ↦ refl
-    | wrong ↦ refl
-  ]
+  | on more next ↦ run more next tokens
+  | whole value ↦ whole_then value tokens
+  | wrong ↦ wrong
+] ≡ run_on s tokens) [
+  | on more next ↦ refl
+  | whole value ↦ refl
+  | wrong ↦ refl
+]
 
 -- where a value may come
 step-text : (t : List ℕ) (frames : List Frame) (at : Phase) → takes_value at ≡ true → step frames at (text_token t) ≡ with_value (text_value t) frames
@@ -127,6 +127,7 @@ run-step frames at token tokens s is = run-cons frames at token tokens ∙ ap (�
 -- the tokens of a value
 mutual
   unfolding step
+
   pub run-value : (s : Syntax) (frames : List Frame) (at : Phase) (rest : List Token) → takes_value at ≡ true
       → run frames at (tokens_in s ++ rest) ≡ run_on (with_value (value_of s) frames) rest
   run-value (text t) frames at rest h = run-step frames at (text_token t) rest (with_value (text_value t) frames) (step-text t frames at h)

@@ -133,7 +133,7 @@ based-words (z ∷ b ∷ t) h =
           let small = base-small b in
           elim small.1 [
             | inl here ↦ and-true z (is_word_byte z) (list_all is_word_byte (b ∷ t)) (same-word z 48 y refl)
-              (and-true b (is_word_byte b) (list_all is_word_byte t) here (are_digits-words (base_of_letter b) t small.0 digits))
+                (and-true b (is_word_byte b) (list_all is_word_byte t) here (are_digits-words (base_of_letter b) t small.0 digits))
             | inr none ↦ absurd (no-digits t (ap (λ n. are_digits n t) (sym none) ∙ digits))
           ]
       | inr n ↦ absurd (no-digits t (ap (λ v. are_digits (cond v (base_of_letter b) 0) t) (sym n) ∙ h))

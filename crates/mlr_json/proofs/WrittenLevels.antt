@@ -63,8 +63,12 @@ enclosed level most left right tokens lo lc ro rc low h =
     let down : moved (level + 1) right ≡ level = rw (ro, rc) (omega arith) in
     let last : Within (level + 1) most (right ∷ []) = (low, rw (ro, rc) (omega arith), subst (λ n. n ≤ most) (sym down) (omega arith)) in
     record {
-      within = (omega arith, rw (lo, lc) (omega arith), subst (λ n. Within n most (tokens ++ right ∷ [])) (sym up)
-        (within-append (level + 1) most tokens (right ∷ []) h.within (subst (λ n. Within n most (right ∷ [])) (sym h.back) last)));
+      within = (
+        omega arith,
+        rw (lo, lc) (omega arith),
+        subst (λ n. Within n most (tokens ++ right ∷ [])) (sym up)
+            (within-append (level + 1) most tokens (right ∷ []) h.within (subst (λ n. Within n most (right ∷ [])) (sym h.back) last)),
+      );
       back = ap (λ n. moved_by n (tokens ++ right ∷ [])) up ∙ moved-append (level + 1) tokens (right ∷ []) ∙ ap (λ n. moved n right) h.back ∙ down;
     }
 

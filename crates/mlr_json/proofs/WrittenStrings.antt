@@ -59,10 +59,11 @@ module _ (b : ℕ) (text rest : List ℕ) (plain : is_raw b ≡ true) where
   run-longer (p ∷ pieces) lexes is front =
       let e : found (piece p) lexes.0 ≡ found (piece (raw (take (prefix_len is_raw behind) behind))) (prefix_len is_raw behind) = sym lexes.1 ∙ front in
       let same : p ≡ raw (take (prefix_len is_raw behind) behind) = cc in
-      let len : lexes.0 ≡ prefix_len is_raw behind = cc in
-      (raw (b ∷ take (prefix_len is_raw behind) behind) ∷ pieces,
-      (suc (prefix_len is_raw behind), run-front, omega arith, subst (λ n. Lexes true (drop n behind) (map piece pieces ++ quote ∷ []) false rest) len lexes.3),
-      ap (λ t. b ∷ t) (ap (λ q. decoded (q ∷ pieces)) (sym same) ∙ is))
+      let len : lexes.0 ≡ prefix_len is_raw behind = cc in (
+        raw (b ∷ take (prefix_len is_raw behind) behind) ∷ pieces,
+        (suc (prefix_len is_raw behind), run-front, omega arith, subst (λ n. Lexes true (drop n behind) (map piece pieces ++ quote ∷ []) false rest) len lexes.3),
+        ap (λ t. b ∷ t) (ap (λ q. decoded (q ∷ pieces)) (sym same) ∙ is),
+      )
 
   byte-plain : WrittenPieces text rest → (t : List ℕ) → behind ≡ t → Longer
   byte-plain h [] is = run-alone h.0 h.1 h.2 (ap (prefix_len is_raw) is)
@@ -75,10 +76,11 @@ module _ (b : ℕ) (text rest : List ℕ) (plain : is_raw b ≡ true) where
 -- a byte that is escaped by a letter
 byte-letter : (b l : ℕ) (text rest : List ℕ) → WrittenPieces text rest → escaped b ≡ 92 ∷ l ∷ [] → front_inside (92 ∷ l ∷ (flat_map escaped text ++ 34 ∷ rest)) ≡ found (piece (raw (b ∷ []))) 2
     → WrittenPieces (b ∷ text) rest
-byte-letter b l text rest h is front =
-    (raw (b ∷ []) ∷ h.0,
-    subst (λ e. Lexes true (e ++ flat_map escaped text ++ 34 ∷ rest) (piece (raw (b ∷ [])) ∷ (map piece h.0 ++ quote ∷ [])) false rest) (sym is) (2, front, omega arith, h.1),
-    ap (λ t. b ∷ t) h.2)
+byte-letter b l text rest h is front = (
+  raw (b ∷ []) ∷ h.0,
+  subst (λ e. Lexes true (e ++ flat_map escaped text ++ 34 ∷ rest) (piece (raw (b ∷ [])) ∷ (map piece h.0 ++ quote ∷ [])) false rest) (sym is) (2, front, omega arith, h.1),
+  ap (λ t. b ∷ t) h.2,
+)
 
 digit-hex : (n : ℕ) → n < 16 → digit (hex_digit n) ≡ n
 digit-hex n h =
@@ -124,12 +126,12 @@ module _ (b : ℕ) (text rest : List ℕ) (low : b < 32) where
   decoded-low (unit v ∷ pieces) = rw (lt-leb 0xD800 b (omega arith)) (ap (λ u. u ++ decoded (unit v ∷ pieces)) (encode_ascii b (omega arith)))
 
   byte-control : WrittenPieces text rest → escaped b ≡ 92 ∷ 117 ∷ digits → WrittenPieces (b ∷ text) rest
-  byte-control h is =
-      (unit b ∷ h.0,
-      subst (λ e. Lexes true (e ++ flat_map escaped text ++ 34 ∷ rest) (piece (unit b) ∷ (map piece h.0 ++ quote ∷ [])) false rest) (sym is)
-      (6, digits-front (flat_map escaped text ++ 34 ∷ rest), omega arith, h.1),
-      decoded-low h.0 ∙ ap (λ t. b ∷ t) h.2)
-
+  byte-control h is = (
+    unit b ∷ h.0,
+    subst (λ e. Lexes true (e ++ flat_map escaped text ++ 34 ∷ rest) (piece (unit b) ∷ (map piece h.0 ++ quote ∷ [])) false rest) (sym is)
+        (6, digits-front (flat_map escaped text ++ 34 ∷ rest), omega arith, h.1),
+    decoded-low h.0 ∙ ap (λ t. b ∷ t) h.2,
+  )
 
 -- each byte of a string, by its escape
 byte-written : (b : ℕ) (text rest : List ℕ) → WrittenPieces text rest → WrittenPieces (b ∷ text) rest

@@ -83,9 +83,12 @@ yields-string pieces (x ∷ tail) more is =
     let e : x.1 ∷ names tail ≡ quote ∷ (map piece pieces ++ quote ∷ [] ++ more) = is in
     let same : x.1 ≡ quote = cc in
     let rest : names tail ≡ map piece pieces ++ quote ∷ [] ++ more = cc in
-    let h = inside-string pieces tail more (rest ∙ append_assoc (map piece pieces) (quote ∷ []) more) in
-    (h.0, h.1, λ stop. subst (λ y. (bare (tokens_outside plain ((x.0, y) ∷ tail) stop).tokens ≡ text_token (decoded pieces) ∷ bare (tokens_outside plain h.0 stop).tokens) × ((tokens_outside plain ((x.0, y) ∷ tail) stop).stop ≡ (tokens_outside plain h.0 stop).stop)) (sym same)
-      (ap₂ (λ (ps : List Piece) (t : Tokens). text_token (decoded ps) ∷ bare t.tokens) h.2 (h.3 stop), ap (λ t. t.stop) (h.3 stop)))
+    let h = inside-string pieces tail more (rest ∙ append_assoc (map piece pieces) (quote ∷ []) more) in (
+      h.0,
+      h.1,
+      λ stop. subst (λ y. (bare (tokens_outside plain ((x.0, y) ∷ tail) stop).tokens ≡ text_token (decoded pieces) ∷ bare (tokens_outside plain h.0 stop).tokens) × ((tokens_outside plain ((x.0, y) ∷ tail) stop).stop ≡ (tokens_outside plain h.0 stop).stop)) (sym same)
+          (ap₂ (λ (ps : List Piece) (t : Tokens). text_token (decoded ps) ∷ bare t.tokens) h.2 (h.3 stop), ap (λ t. t.stop) (h.3 stop)),
+    )
 
 -- ---- texts
 
@@ -169,10 +172,11 @@ other-byte : (b c : ℕ) → is_word_byte b ≡ true → is_word_byte c ≡ fals
 other-byte b c h k = false_from_ne_true (b == c) (λ e. true≢false (sym h ∙ ap is_word_byte (eqb-true b c e) ∙ k))
 
 pub word-byte-front : (b : ℕ) (t : List ℕ) → is_word_byte b ≡ true → (mark_of b ≡ None) × (is_blank b ≡ false) × ((b == 34) ≡ false)
-word-byte-front b t h =
-    (rw (other-byte b 123 h refl, other-byte b 125 h refl, other-byte b 91 h refl, other-byte b 93 h refl, other-byte b 58 h refl, other-byte b 44 h refl) refl,
-    rw (other-byte b 32 h refl, other-byte b 9 h refl, other-byte b 10 h refl, other-byte b 13 h refl) refl,
-    other-byte b 34 h refl)
+word-byte-front b t h = (
+  rw (other-byte b 123 h refl, other-byte b 125 h refl, other-byte b 91 h refl, other-byte b 93 h refl, other-byte b 58 h refl, other-byte b 44 h refl) refl,
+  rw (other-byte b 32 h refl, other-byte b 9 h refl, other-byte b 10 h refl, other-byte b 13 h refl) refl,
+  other-byte b 34 h refl,
+)
 
 pub reads-word : (b : ℕ) (t rest : List ℕ) (token : Token) → list_all is_word_byte (b ∷ t) ≡ true → ends_word rest ≡ true → token_of_word plain (b ∷ t) ≡ Some token
     → Reads ((b ∷ t) ++ rest) (token ∷ []) rest
@@ -190,7 +194,7 @@ reads-word b t rest token all ends is =
       lexemes = word (b ∷ t) ∷ [];
       lexes = (length (b ∷ t), front, omega arith, (drop-append_seam (b ∷ t) rest, refl));
       yields = yields-one (word (b ∷ t)) (token ∷ []) (λ place tail stop.
-        subst (λ o. (bare (or_stop place o (tokens_outside plain tail stop)).tokens ≡ token ∷ bare (tokens_outside plain tail stop).tokens) × ((or_stop place o (tokens_outside plain tail stop)).stop ≡ (tokens_outside plain tail stop).stop)) (sym is) (refl, refl));
+          subst (λ o. (bare (or_stop place o (tokens_outside plain tail stop)).tokens ≡ token ∷ bare (tokens_outside plain tail stop).tokens) × ((or_stop place o (tokens_outside plain tail stop)).stop ≡ (tokens_outside plain tail stop).stop)) (sym is) (refl, refl));
     }
 
 -- all tokens of a text
@@ -200,9 +204,10 @@ reads-all t tokens h =
     let y = h.yields (lexemes_of t).lexemes [] (lexed.0 ∙ sym (append-nil h.lexemes)) in
     let none : y.0 ≡ [] = no-names y.0 y.1 in
     let tokens_are = (y.2 (lexemes_of t).stop).0 in
-    let stop_is = (y.2 (lexemes_of t).stop).1 in
-    (tokens_are ∙ ap (λ r. tokens ++ bare (tokens_outside plain r (lexemes_of t).stop).tokens) none ∙ append-nil tokens,
-    stop_is ∙ ap (λ r. (tokens_outside plain r (lexemes_of t).stop).stop) none ∙ lexed.1)
+    let stop_is = (y.2 (lexemes_of t).stop).1 in (
+      tokens_are ∙ ap (λ r. tokens ++ bare (tokens_outside plain r (lexemes_of t).stop).tokens) none ∙ append-nil tokens,
+      stop_is ∙ ap (λ r. (tokens_outside plain r (lexemes_of t).stop).stop) none ∙ lexed.1,
+    )
   where
     no-names : (placed : List (ℕ × Lexeme)) → names placed ≡ [] → placed ≡ []
     no-names [] is = refl

@@ -164,10 +164,10 @@ string-read t = record { reads = λ rest e. reads-string t rest; filled = λ res
 member-read : (key t : List ℕ) (tokens : List Token) → IsRead t tokens → IsRead (json_string key ++ codes ": " ++ t) (text_token key ∷ sign Colon ∷ tokens)
 member-read key t tokens h = record {
   reads = λ rest e.
-    subst (λ x. Reads x (text_token key ∷ sign Colon ∷ tokens) rest) (sym (append_assoc (json_string key ++ codes ": ") t rest ∙ append_assoc (json_string key) (codes ": ") (t ++ rest)))
-    (reads-append (json_string key ++ (58 ∷ 32 ∷ (t ++ rest))) (58 ∷ 32 ∷ (t ++ rest)) rest (text_token key ∷ []) (sign Colon ∷ tokens) (reads-string key (58 ∷ 32 ∷ (t ++ rest)))
-    (reads-append (58 ∷ 32 ∷ (t ++ rest)) (32 ∷ (t ++ rest)) rest (sign Colon ∷ []) tokens (reads-mark 58 Colon (32 ∷ (t ++ rest)) refl)
-    (reads-append (32 ∷ (t ++ rest)) (t ++ rest) rest [] tokens (reads-space (t ++ rest) (h.filled rest)) (h.reads rest e))));
+      subst (λ x. Reads x (text_token key ∷ sign Colon ∷ tokens) rest) (sym (append_assoc (json_string key ++ codes ": ") t rest ∙ append_assoc (json_string key) (codes ": ") (t ++ rest)))
+      (reads-append (json_string key ++ (58 ∷ 32 ∷ (t ++ rest))) (58 ∷ 32 ∷ (t ++ rest)) rest (text_token key ∷ []) (sign Colon ∷ tokens) (reads-string key (58 ∷ 32 ∷ (t ++ rest)))
+      (reads-append (58 ∷ 32 ∷ (t ++ rest)) (32 ∷ (t ++ rest)) rest (sign Colon ∷ []) tokens (reads-mark 58 Colon (32 ∷ (t ++ rest)) refl)
+      (reads-append (32 ∷ (t ++ rest)) (t ++ rest) rest [] tokens (reads-space (t ++ rest) (h.filled rest)) (h.reads rest e))));
   filled = λ rest. refl;
 }
 
@@ -184,12 +184,12 @@ mutual
   value-read style level (boolean false) h = record { reads = λ rest e. reads-word 102 (codes "alse") rest (word_token (boolean false)) refl e refl; filled = λ rest. refl }
   value-read style level (mapping pairs) h = record {
     reads = λ rest e. subst (λ t. Reads (json_at style level (mapping pairs) ++ rest) (sign BeginMap ∷ t ++ sign EndMap ∷ []) rest) (sym (members-between pairs))
-      (bracketed-read 123 125 BeginMap EndMap refl refl (λ r. refl) (λ r. refl) (is_stacked style) level (json_pairs style (level + 1) pairs) (each_member pairs) (pairs-read style (level + 1) pairs h.1) rest);
+        (bracketed-read 123 125 BeginMap EndMap refl refl (λ r. refl) (λ r. refl) (is_stacked style) level (json_pairs style (level + 1) pairs) (each_member pairs) (pairs-read style (level + 1) pairs h.1) rest);
     filled = λ rest. bracketed-filled (is_stacked style) level 123 125 (json_pairs style (level + 1) pairs) rest refl;
   }
   value-read style level (array items) h = record {
     reads = λ rest e. subst (λ t. Reads (json_at style level (array items) ++ rest) (sign BeginArray ∷ t ++ sign EndArray ∷ []) rest) (sym (elements-between items))
-      (bracketed-read 91 93 BeginArray EndArray refl refl (λ r. refl) (λ r. refl) (is_stacked style && list_any is_collection (items_in items)) level (json_items style (level + 1) items) (each_element items) (items-read style (level + 1) items h) rest);
+        (bracketed-read 91 93 BeginArray EndArray refl refl (λ r. refl) (λ r. refl) (is_stacked style && list_any is_collection (items_in items)) level (json_items style (level + 1) items) (each_element items) (items-read style (level + 1) items h) rest);
     filled = λ rest. bracketed-filled (is_stacked style && list_any is_collection (items_in items)) level 91 93 (json_items style (level + 1) items) rest refl;
   }
   value-read style level error h = absurd h

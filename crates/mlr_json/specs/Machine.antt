@@ -122,10 +122,10 @@ outcome_cut end None = syntax end
 abbrev pub outcome_from : ℕ → List Frame → Phase → List (ℕ × Token) → Option ℕ → Outcome
 outcome_from end frames at [] stop = outcome_cut end stop
 outcome_from end frames at ((place, token) ∷ tokens) stop = elim (step frames at token) [
-    | on more next ↦ if nat_lt 100 (length more) then deep place else outcome_from end more next tokens stop
-    | whole value ↦ outcome_behind value tokens stop
-    | wrong ↦ syntax place
-  ]
+  | on more next ↦ if nat_lt 100 (length more) then deep place else outcome_from end more next tokens stop
+  | whole value ↦ outcome_behind value tokens stop
+  | wrong ↦ syntax place
+]
 
 abbrev pub outcome_of : ℕ → Tokens → Outcome
 outcome_of end tokens = outcome_from end [] phase.Value tokens.tokens tokens.stop

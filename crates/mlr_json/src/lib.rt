@@ -2,8 +2,21 @@
 //! has its first fault. Texts are read by lexemes, which a reader of streams can share, with a stack of frames.
 #![tactic(auto)]
 
+mod escape;
 mod frame;
 mod laws;
+mod lexeme;
+mod machine;
+mod steps;
+mod string;
+mod word;
+mod write;
 
+pub use escape::append_json_string;
 pub use frame::{Frame, Phase};
 pub use laws::{one_outcome, written_is_read};
+pub use lexeme::{Front, Lexeme, front_of};
+pub use machine::{Machine, Went};
+pub use string::StringBuilder;
+pub use word::word_value;
+pub use write::{append_json_field, append_json_value, json_text};

@@ -1,0 +1,32 @@
+-- The types of the code as the definitions have them: lexemes, and what stands at the front of a text.
+use Rattle.std.specs.Prelude.{◌≡◌, ℕ, ◌≤◌, List, [], ◌∷◌, Option, MatchOption}
+use Rattle.std.specs.Borrow.{Bor}
+use Rattle.mlr_spec.specs.JsonTokens as text
+use Rattle.mlr_spec.specs.JsonTokens.{raw, unit, escape_of}
+use Rattle.mlr_json.specs.declared.lexeme.Lexeme.{Lexeme}
+use Rattle.mlr_json.specs.declared.lexeme.Lexeme.TheVariants as lexeme
+use Rattle.mlr_json.specs.declared.lexeme.Front.{Front}
+use Rattle.mlr_json.specs.declared.lexeme.Front.TheVariants.{Found, Begun, Bad}
+
+abbrev pub lexeme_seen : Lexeme → text.Lexeme
+lexeme_seen lexeme.Blank = text.blank
+lexeme_seen (lexeme.Mark m) = text.mark m
+lexeme_seen (lexeme.Word bytes) = text.word bytes.now
+lexeme_seen lexeme.Quote = text.quote
+lexeme_seen (lexeme.Raw bytes) = text.piece (raw bytes.now)
+lexeme_seen (lexeme.Unit u) = text.piece (unit u)
+
+abbrev pub front_seen : Front → text.Front
+front_seen (Found l len) = text.found (lexeme_seen l) len
+front_seen Begun = text.begun
+front_seen (Bad offset) = text.bad offset
+
+-- a lexeme has at least one byte, and no more than the text
+abbrev pub IsWithin : ℕ → Front → Type 0
+IsWithin n (Found l len) = (1 ≤ len) × (len ≤ n)
+IsWithin n Begun = Unit {0}
+IsWithin n (Bad offset) = Unit {0}
+
+-- the byte of an escape, or none where its letter stands for none
+abbrev pub EscapeIs : ℕ → Option (Bor (List ℕ)) → Type 0
+EscapeIs letter byte = MatchOption byte (escape_of letter ≡ 0) (λ b. (b.now ≡ escape_of letter ∷ []) × (1 ≤ escape_of letter))

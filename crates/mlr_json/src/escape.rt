@@ -1,0 +1,149 @@
+ghost use Rattle.std.specs.Prelude.{◌≡◌, ◌<◌, ◌≤◌, ◌++◌, true, length, IfOk, OnOk, OnErr};
+ghost use Rattle.std.specs.List.{flat_map, position_or_len};
+ghost use Rattle.mlr_spec.specs.Json.{json_string, escaped, escape_letter, hex_digit};
+ghost use Rattle.mlr_json.specs.Escapes.{is_escaped, StandsBefore};
+
+use mlr_spec::NoMemory;
+use mlr_value::Bytes;
+
+/// Puts a text as a JSON string behind `into`. Quotes, backslashes and the bytes below 0x20 are escaped; every
+/// other byte stands, also one that is no UTF-8. Without memory a front of it may have been put there.
+#[inline]
+pub fn append_json_string(text: &[u8], into: &mut Bytes) -> Result<(), NoMemory>
+    ensures ok { OnOk result (into.new ≡ into.old ++ json_string text.now) }
+    ensures err { OnErr result (StandsBefore into.old into.new) }
+{
+    into.append(b"\"")?;
+    append_escaped(text, into)?;
+    into.append(b"\"")
+}
+
+/// Goes from one byte that wants an escape to the next.
+fn append_escaped(text: &[u8], into: &mut Bytes) -> Result<(), NoMemory>
+    ensures ok { OnOk result (into.new ≡ into.old ++ flat_map escaped text.now) }
+    ensures err { OnErr result (StandsBefore into.old into.new) }
+{
+    let mut rest = text;
+    while !rest.is_empty() {
+        rest = append_run(rest, into)?;
+    }
+    Ok(())
+}
+
+/// Copies what stands before the first byte that wants an escape, and escapes that byte. Answers what is left.
+#[inline(always)]
+fn append_run<'a>(text: &'a [u8], into: &mut Bytes) -> Result<&'a [u8], NoMemory>
+    requires { 0 < length text.now }
+    ensures ok { IfOk result (λ rest. into.new ++ flat_map escaped rest.now ≡ into.old ++ flat_map escaped text.now) }
+    ensures shorter { IfOk result (λ rest. length rest.now < length text.now) }
+    ensures front { StandsBefore into.old into.new }
+{
+    let plain = plain_front(text);
+    let (front, behind) = text.split_at(plain);
+    into.append(front)?;
+    match behind {
+        [] => Ok(behind),
+        [byte, rest @ ..] => {
+            append_escape(*byte, into)?;
+            Ok(rest)
+        }
+    }
+}
+
+/// How many bytes come before the first that wants an escape.
+#[inline(always)]
+fn plain_front(text: &[u8]) -> usize
+    ensures place { result ≡ position_or_len is_escaped text.now }
+    ensures within { result ≤ length text.now }
+{
+    for (place, byte) in text.iter().enumerate() {
+        if wants_escape(*byte) {
+            return place;
+        }
+    }
+    text.len()
+}
+
+#[inline(always)]
+fn wants_escape(byte: u8) -> bool
+    ensures { result ≡ is_escaped byte }
+{
+    byte < 0x20 || byte == b'"' || byte == b'\\'
+}
+
+fn append_escape(byte: u8, into: &mut Bytes) -> Result<(), NoMemory>
+    requires { is_escaped byte ≡ true }
+    ensures ok { OnOk result (into.new ≡ into.old ++ escaped byte) }
+    ensures err { OnErr result (into.new ≡ into.old) }
+{
+    let letter = letter_of(byte);
+    if letter != 0 {
+        into.append(&[b'\\', letter])
+    } else {
+        into.append(&[
+            b'\\',
+            b'u',
+            b'0',
+            b'0',
+            digit_of(byte / 16),
+            digit_of(byte % 16),
+        ])
+    }
+}
+
+/// The letter behind the backslash, or 0 for a byte that is escaped by its number.
+fn letter_of(byte: u8) -> u8
+    ensures { result ≡ escape_letter byte }
+{
+    match byte {
+        b'"' => b'"',
+        b'\\' => b'\\',
+        8 => b'b',
+        b'\t' => b't',
+        b'\n' => b'n',
+        12 => b'f',
+        b'\r' => b'r',
+        _ => 0,
+    }
+}
+
+/// A lower-case hexadecimal digit.
+fn digit_of(number: u8) -> u8
+    requires { number < 16 }
+    ensures { result ≡ hex_digit number }
+{
+    if number < 10 {
+        b'0' + number
+    } else {
+        b'a' + (number - 10)
+    }
+}
+
+#[cfg(test)]
+mod tests {
+    use super::*;
+
+    #[test]
+    fn strings_with_escapes(rt: HostRuntime) -> Result<(), NoMemory> {
+        let table: [(&[u8], &[u8]); 11] = [
+            (b"", br#""""#),
+            (b"a/b", br#""a/b""#),
+            (b"\"", br#""\"""#),
+            (b"\\", br#""\\""#),
+            (b"a\tb\nc\rd", br#""a\tb\nc\rd""#),
+            (&[8, 12], br#""\b\f""#),
+            (&[0, 1], br#""\u0000\u0001""#),
+            (&[27, 31], br#""\u001b\u001f""#),
+            (b" \x7f", b"\" \x7f\""),
+            (&[195, 169], b"\"\xc3\xa9\""),
+            (&[255, b'"', 255], b"\"\xff\\\"\xff\""),
+        ];
+        for (i, row) in table.iter().enumerate() {
+            let (text, want) = *row;
+            let mut json = Bytes::copy_of(rt.alloc(), b"[")?;
+            append_json_string(text, &mut json)?;
+            assert_eq!(rt; &json.as_slice()[1..], want, "at {i}");
+        }
+        Ok(())
+    }
+}

@@ -1,0 +1,260 @@
+ghost use Rattle.std.specs.Prelude.{◌≡◌, ◌+◌, ◌*◌, ◌<◌, ◌≤◌, ◌==◌, ◌&&◌, not, nat_lt, length, take};
+ghost use Rattle.std.specs.List.{prefix_len};
+ghost use Rattle.mlr_spec.specs.Infer.{digit, number};
+ghost use Rattle.mlr_spec.specs.JsonTokens.{is_blank, is_word_byte, is_raw, is_hex, mark_of, escape_of, front_unmarked, front_outside, front_inside, front_escape, front_unit, front_of};
+ghost use Rattle.mlr_json.specs.Seen.{front_seen, IsWithin, EscapeIs};
+
+use mlr_spec::JsonMark;
+
+/// What a JSON text is read as, byte by byte. It borrows from the text.
+#[derive(Clone, Copy, Debug, PartialEq, Eq)]
+pub enum Lexeme<'a> {
+    /// Spaces, tabs and line ends.
+    Blank,
+    /// One of the six marks.
+    Mark(JsonMark),
+    /// Bytes of a word: a number, or a name such as `true`.
+    Word(&'a [u8]),
+    /// The quote that begins a string or ends it.
+    Quote,
+    /// Bytes that a string holds.
+    Raw(&'a [u8]),
+    /// A code unit of UTF-16 that a string names by an escape.
+    Unit(u16),
+}
+
+/// What stands at the front of a text.
+#[derive(Clone, Copy, Debug, PartialEq, Eq)]
+pub enum Front<'a> {
+    /// A lexeme of so many bytes. A blank, a word or raw bytes that reach the text's end may go on behind it.
+    Found(Lexeme<'a>, usize),
+    /// No bytes, or an escape that isn't whole.
+    Begun,
+    /// A byte at this offset that can't stand there.
+    Bad(usize),
+}
+
+/// The lexeme at the front of a text, within a string or outside. It takes no memory.
+#[inline]
+pub fn front_of(inside: bool, text: &[u8]) -> Front<'_>
+    ensures front { front_seen result ≡ front_of inside text.now }
+    ensures within { IsWithin (length text.now) result }
+{
+    if inside {
+        front_inside(text)
+    } else {
+        front_outside(text)
+    }
+}
+
+#[inline]
+#[tactic(auto, unfolding(mlr_spec::specs::JsonTokens::front_outside))]
+fn front_outside(text: &[u8]) -> Front<'_>
+    ensures front { front_seen result ≡ front_outside text.now }
+    ensures within { IsWithin (length text.now) result }
+{
+    match text {
+        [] => Front::Begun,
+        [byte, ..] => match mark_of(*byte) {
+            Some(mark) => Front::Found(Lexeme::Mark(mark), 1),
+            None => front_unmarked(text),
+        },
+    }
+}
+
+#[inline(always)]
+fn mark_of(byte: u8) -> Option<JsonMark>
+    ensures { result ≡ mark_of byte }
+{
+    match byte {
+        b'{' => Some(JsonMark::BeginMap),
+        b'}' => Some(JsonMark::EndMap),
+        b'[' => Some(JsonMark::BeginArray),
+        b']' => Some(JsonMark::EndArray),
+        b':' => Some(JsonMark::Colon),
+        b',' => Some(JsonMark::Comma),
+        _ => None,
+    }
+}
+
+/// What stands between marks.
+fn front_unmarked(text: &[u8]) -> Front<'_>
+    requires { 0 < length text.now }
+    ensures front { front_seen result ≡ front_unmarked text.now }
+    ensures within { IsWithin (length text.now) result }
+{
+    let first = text[0];
+    if is_blank(first) {
+        return Front::Found(Lexeme::Blank, blank_len(text));
+    }
+    if first == b'"' {
+        return Front::Found(Lexeme::Quote, 1);
+    }
+    if is_word_byte(first) {
+        let len = word_len(text);
+        return Front::Found(Lexeme::Word(&text[..len]), len);
+    }
+    Front::Bad(0)
+}
+
+#[inline(always)]
+fn is_blank(byte: u8) -> bool
+    ensures { result ≡ is_blank byte }
+{
+    byte == b' ' || byte == b'\t' || byte == b'\n' || byte == b'\r'
+}
+
+#[inline(always)]
+fn is_word_byte(byte: u8) -> bool
+    ensures { result ≡ is_word_byte byte }
+{
+    matches!(byte, b'a'..=b'z' | b'A'..=b'Z' | b'0'..=b'9' | b'+' | b'-' | b'.' | b'_')
+}
+
+#[inline(always)]
+fn is_raw(byte: u8) -> bool
+    ensures { result ≡ is_raw byte }
+{
+    byte != b'"' && byte != b'\\'
+}
+
+/// How many blanks a text begins with.
+#[inline(always)]
+fn blank_len(text: &[u8]) -> usize
+    ensures { result ≡ prefix_len is_blank text.now }
+{
+    for (place, byte) in text.iter().enumerate() {
+        if !is_blank(*byte) {
+            return place;
+        }
+    }
+    text.len()
+}
+
+/// How many bytes of a word a text begins with.
+#[inline(always)]
+fn word_len(text: &[u8]) -> usize
+    ensures { result ≡ prefix_len is_word_byte text.now }
+{
+    for (place, byte) in text.iter().enumerate() {
+        if !is_word_byte(*byte) {
+            return place;
+        }
+    }
+    text.len()
+}
+
+/// How many bytes come before the first quote or backslash.
+#[inline(always)]
+fn raw_len(text: &[u8]) -> usize
+    ensures { result ≡ prefix_len is_raw text.now }
+{
+    for (place, byte) in text.iter().enumerate() {
+        if !is_raw(*byte) {
+            return place;
+        }
+    }
+    text.len()
+}
+
+#[inline]
+#[tactic(auto, unfolding(mlr_spec::specs::JsonTokens::front_inside))]
+fn front_inside(text: &[u8]) -> Front<'_>
+    ensures front { front_seen result ≡ front_inside text.now }
+    ensures within { IsWithin (length text.now) result }
+{
+    match text {
+        [] => Front::Begun,
+        [b'"', ..] => Front::Found(Lexeme::Quote, 1),
+        [b'\\', behind @ ..] => front_escape(behind),
+        _ => {
+            let len = raw_len(text);
+            Front::Found(Lexeme::Raw(&text[..len]), len)
+        }
+    }
+}
+
+/// What stands behind a backslash. The lengths count the backslash too.
+fn front_escape(text: &[u8]) -> Front<'_>
+    ensures front { front_seen result ≡ front_escape text.now }
+    ensures within { IsWithin (1 + length text.now) result }
+{
+    match text {
+        [] => Front::Begun,
+        [b'u', digits @ ..] => front_unit(digits),
+        [letter, ..] => match escape_of(*letter) {
+            Some(byte) => Front::Found(Lexeme::Raw(byte), 2),
+            None => Front::Bad(1),
+        },
+    }
+}
+
+/// The byte that a letter behind a backslash stands for.
+fn escape_of(letter: u8) -> Option<&'static [u8]>
+    ensures { EscapeIs letter result }
+{
+    match letter {
+        b'"' => Some(b"\""),
+        b'\\' => Some(b"\\"),
+        b'/' => Some(b"/"),
+        b'b' => Some(&[8]),
+        b'f' => Some(&[12]),
+        b'n' => Some(b"\n"),
+        b'r' => Some(b"\r"),
+        b't' => Some(b"\t"),
+        _ => None,
+    }
+}
+
+/// What stands behind `\u`. The lengths count these two bytes too.
+fn front_unit(text: &[u8]) -> Front<'_>
+    ensures front { front_seen result ≡ front_unit text.now }
+    ensures within { IsWithin (2 + length text.now) result }
+{
+    let digits = hex_len(text);
+    if digits >= 4 {
+        return Front::Found(Lexeme::Unit(unit_of(&text[..4])), 6);
+    }
+    if digits == text.len() {
+        Front::Begun
+    } else {
+        Front::Bad(2 + digits)
+    }
+}
+
+/// How many hexadecimal digits a text begins with.
+fn hex_len(text: &[u8]) -> usize
+    ensures { result ≡ prefix_len is_hex text.now }
+{
+    for (place, byte) in text.iter().enumerate() {
+        if digit_of(*byte) >= 16 {
+            return place;
+        }
+    }
+    text.len()
+}
+
+/// The worth of a hexadecimal digit, and 16 for a byte that is none.
+#[inline(always)]
+fn digit_of(byte: u8) -> u16
+    ensures { result ≡ digit byte }
+{
+    match byte {
+        b'0'..=b'9' => u16::from(byte - b'0'),
+        b'a'..=b'f' => u16::from(byte - b'a' + 10),
+        b'A'..=b'F' => u16::from(byte - b'A' + 10),
+        _ => 16,
+    }
+}
+
+/// The number of four hexadecimal digits.
+fn unit_of(digits: &[u8]) -> u16
+    requires len { length digits.now ≡ 4 }
+    requires hex { prefix_len is_hex digits.now ≡ 4 }
+    ensures { result ≡ number 16 digits.now }
+{
+    digit_of(digits[0]) * 4096
+        + digit_of(digits[1]) * 256
+        + digit_of(digits[2]) * 16
+        + digit_of(digits[3])
+}

@@ -1,0 +1,227 @@
+ghost use Rattle.std.specs.Prelude.{◌≡◌, ◌∷◌, [], List, if◌then◌else◌, IfOk};
+ghost use Rattle.mlr_spec.specs.JsonTokens.{sign, text_token, word_token};
+ghost use Rattle.mlr_spec.specs.JsonGrammar.{text_value};
+ghost use Rattle.mlr_value.specs.Value.{tree_of};
+ghost use Rattle.mlr_json.specs.declared.frame.Frame.{Frame};
+ghost use Rattle.mlr_json.specs.Machine.{step, on, wrong, with_value, with_key, map_ended, array_ended, comma_read, colon_read, takes_value, takes_key};
+ghost use Rattle.mlr_json.specs.Steps.{frames_of, Stands, IsStep, is_in_map, takes_text};
+
+use crate::{Frame, Machine, Phase, Went};
+use mlr_spec::{JsonMark, NoMemory};
+use mlr_value::{ArrayValue, Bytes, MapValue, Value};
+use std::alloc::Global;
+
+/// How many brackets may be open at once.
+const MOST_FRAMES: usize = 100;
+
+impl Machine {
+    /// A machine before a value. It takes no memory.
+    pub fn new(alloc: Global) -> Self
+        ensures { Stands result [] Phase.Value }
+    {
+        Machine {
+            alloc,
+            frames: Vec::new(alloc),
+            phase: Phase::Value,
+        }
+    }
+
+    /// Whether a string may come next.
+    pub fn takes_text(&self) -> bool
+        ensures { result ≡ takes_text (frames_of self.now) self.now.phase }
+    {
+        self.takes_value() || self.takes_key() && self.is_in_map()
+    }
+
+    /// Reads a mark. It takes memory for a bracket that opens.
+    #[tactic(auto, unfolding(crate::specs::Machine::step))]
+    pub fn mark(&mut self, mark: JsonMark) -> Result<Went, NoMemory>
+        ensures { IfOk result
+            (λ went. IsStep (step (frames_of self.old) self.old.phase (sign mark)) went self.new) }
+    {
+        match mark {
+            JsonMark::BeginMap => {
+                let pairs = MapValue::new(self.alloc)?;
+                self.open(Frame::Map(pairs, Bytes::new(self.alloc)), Phase::FirstKey)
+            }
+            JsonMark::BeginArray => self.open(
+                Frame::Array(ArrayValue::new(self.alloc)),
+                Phase::FirstItem,
+            ),
+            JsonMark::EndMap => self.end_map(),
+            JsonMark::EndArray => self.end_array(),
+            JsonMark::Colon => Ok(self.colon()),
+            JsonMark::Comma => Ok(self.comma()),
+        }
+    }
+
+    /// Reads a word that has this value.
+    #[tactic(auto, unfolding(crate::specs::Machine::step))]
+    pub fn word(&mut self, value: Value) -> Result<Went, NoMemory>
+        ensures { IfOk result
+            (λ went. IsStep (step (frames_of self.old) self.old.phase (word_token (tree_of value))) went self.new) }
+    {
+        if self.takes_value() {
+            self.value(value)
+        } else {
+            Ok(Went::Wrong)
+        }
+    }
+
+    /// Reads a string that has this text: a key or a value.
+    #[tactic(auto, unfolding(crate::specs::Machine::step))]
+    pub fn text(&mut self, text: Bytes) -> Result<Went, NoMemory>
+        ensures { IfOk result
+            (λ went. IsStep (step (frames_of self.old) self.old.phase (text_token text)) went self.new) }
+    {
+        if self.takes_key() {
+            self.key(text)
+        } else if self.takes_value() {
+            self.value(text_value(text))
+        } else {
+            Ok(Went::Wrong)
+        }
+    }
+
+    fn takes_value(&self) -> bool
+        ensures { result ≡ takes_value self.now.phase }
+    {
+        matches!(self.phase, Phase::Value | Phase::FirstItem)
+    }
+
+    fn takes_key(&self) -> bool
+        ensures { result ≡ takes_key self.now.phase }
+    {
+        matches!(self.phase, Phase::FirstKey | Phase::Key)
+    }
+
+    /// Whether the innermost bracket is that of a map.
+    fn is_in_map(&self) -> bool
+        ensures { result ≡ is_in_map (frames_of self.now) }
+    {
+        matches!(self.frames.last(), Some(Frame::Map(..)))
+    }
+
+    /// Takes a value: as the next item, as the value of the key before it, or as the whole value.
+    fn value(&mut self, value: Value) -> Result<Went, NoMemory>
+        ensures { IfOk result (λ went. IsStep (with_value (tree_of value) (frames_of self.old)) went self.new) }
+    {
+        match self.frames.pop() {
+            None => {
+                self.phase = Phase::Value;
+                Ok(Went::Whole(value))
+            }
+            Some(frame) => {
+                let frame = frame_with(frame, value)?;
+                self.frames.push(frame)?;
+                self.phase = Phase::Later;
+                Ok(Went::On)
+            }
+        }
+    }
+
+    /// Takes the key of the next pair.
+    fn key(&mut self, key: Bytes) -> Result<Went, NoMemory>
+        ensures { IfOk result (λ went. IsStep (with_key key (frames_of self.old)) went self.new) }
+    {
+        match self.frames.pop() {
+            Some(Frame::Map(pairs, _)) => {
+                self.frames.push(Frame::Map(pairs, key))?;
+                self.phase = Phase::Colon;
+                Ok(Went::On)
+            }
+            _ => Ok(Went::Wrong),
+        }
+    }
+
+    fn open(&mut self, frame: Frame, phase: Phase) -> Result<Went, NoMemory>
+        ensures { IfOk result
+            (λ went. IsStep (if takes_value self.old.phase then on (frame ∷ frames_of self.old) phase else wrong) went self.new) }
+    {
+        if !self.takes_value() {
+            return Ok(Went::Wrong);
+        }
+        if self.frames.len() >= MOST_FRAMES {
+            return Ok(Went::Deep);
+        }
+        self.frames.push(frame)?;
+        self.phase = phase;
+        Ok(Went::On)
+    }
+
+    fn end_map(&mut self) -> Result<Went, NoMemory>
+        ensures { IfOk result (λ went. IsStep (map_ended (frames_of self.old) self.old.phase) went self.new) }
+    {
+        if !matches!(self.phase, Phase::FirstKey | Phase::Later) {
+            return Ok(Went::Wrong);
+        }
+        match self.frames.pop() {
+            Some(Frame::Map(pairs, _)) => self.value(Value::Map(pairs)),
+            _ => Ok(Went::Wrong),
+        }
+    }
+
+    fn end_array(&mut self) -> Result<Went, NoMemory>
+        ensures { IfOk result (λ went. IsStep (array_ended (frames_of self.old) self.old.phase) went self.new) }
+    {
+        if !matches!(self.phase, Phase::FirstItem | Phase::Later) {
+            return Ok(Went::Wrong);
+        }
+        match self.frames.pop() {
+            Some(Frame::Array(items)) => self.value(Value::Array(items)),
+            _ => Ok(Went::Wrong),
+        }
+    }
+
+    fn colon(&mut self) -> Went
+        ensures { IsStep (colon_read (frames_of self.old) self.old.phase) result self.new }
+    {
+        if self.phase != Phase::Colon {
+            return Went::Wrong;
+        }
+        self.phase = Phase::Value;
+        Went::On
+    }
+
+    fn comma(&mut self) -> Went
+        ensures { IsStep (comma_read (frames_of self.old) self.old.phase) result self.new }
+    {
+        if self.phase != Phase::Later || self.frames.is_empty() {
+            return Went::Wrong;
+        }
+        self.phase = if self.is_in_map() {
+            Phase::Key
+        } else {
+            Phase::Value
+        };
+        Went::On
+    }
+}
+
+/// An open bracket with one value more.
+fn frame_with(frame: Frame, value: Value) -> Result<Frame, NoMemory>
+    ensures { IfOk result
+        (λ more. (frames : List Frame) → with_value (tree_of value) (frame ∷ frames) ≡ on (more ∷ frames) Phase.Later) }
+{
+    match frame {
+        Frame::Array(mut items) => {
+            items.push(value)?;
+            Ok(Frame::Array(items))
+        }
+        Frame::Map(mut pairs, key) => {
+            pairs.put(key.as_slice(), value)?;
+            Ok(Frame::Map(pairs, key))
+        }
+    }
+}
+
+/// A string without bytes is the empty value.
+fn text_value(text: Bytes) -> Value
+    ensures { tree_of result ≡ text_value text }
+{
+    if text.is_empty() {
+        Value::Empty
+    } else {
+        Value::Str(text)
+    }
+}

@@ -1,0 +1,273 @@
+ghost use Rattle.std.specs.Prelude.{◌≡◌, ℕ, ◌+◌, ◌*◌, ◌==◌, ◌&&◌, ◌++◌, ◌∷◌, [], List, map, true, false, IfOk, OnOk, OnErr};
+ghost use Rattle.std.specs.List.{list_any};
+ghost use Rattle.mlr_spec.specs.Tree.{map_of, array_of, is_collection};
+ghost use Rattle.mlr_spec.specs.Json.{json_string, json_at, json_text, json_field, is_stacked, new_line};
+ghost use Rattle.mlr_value.specs.Value.{tree_of};
+ghost use Rattle.mlr_json.specs.Escapes.{StandsBefore};
+ghost use Rattle.mlr_json.specs.Writing.{gap, line_end, led};
+
+use crate::escape::append_json_string;
+use mlr_spec::{JsonStyle, NoMemory};
+use mlr_value::{ArrayValue, Bytes, MapValue, Value, append_text};
+use std::alloc::Global;
+
+/// Puts a value as JSON text behind `into` (RFC 8259): numbers in their spelling, other texts in quotes. Without
+/// memory a front of the text may have been put there.
+#[inline]
+pub fn append_json_value(value: &Value, style: JsonStyle, into: &mut Bytes) -> Result<(), NoMemory>
+    ensures ok { OnOk result (into.new ≡ into.old ++ json_text style (tree_of value.now)) }
+    ensures err { OnErr result (StandsBefore into.old into.new) }
+{
+    append_at(value, style, 0, into)
+}
+
+/// Puts a field of a record, as it stands between the record's braces. Without memory a front of it may have been put
+/// there.
+#[inline]
+pub fn append_json_field(
+    key: &[u8],
+    value: &Value,
+    style: JsonStyle,
+    into: &mut Bytes,
+) -> Result<(), NoMemory>
+    ensures ok { OnOk result (into.new ≡ into.old ++ json_field style 1 (key.now, tree_of value.now)) }
+    ensures err { OnErr result (StandsBefore into.old into.new) }
+{
+    append_field(key, value, style, 1, into)
+}
+
+/// The JSON text of a value.
+pub fn json_text(alloc: Global, value: &Value, style: JsonStyle) -> Result<Bytes, NoMemory>
+    ensures { IfOk result (λ text. text ≡ json_text style (tree_of value.now)) }
+{
+    let mut text = Bytes::new(alloc);
+    append_json_value(value, style, &mut text)?;
+    Ok(text)
+}
+
+/// A value whose first line stands at this level.
+#[cycle(write)]
+fn append_at(
+    value: &Value,
+    style: JsonStyle,
+    level: usize,
+    into: &mut Bytes,
+) -> Result<(), NoMemory>
+    ensures ok { OnOk result (into.new ≡ into.old ++ json_at style level (tree_of value.now)) }
+    ensures err { OnErr result (StandsBefore into.old into.new) }
+{
+    match value {
+        Value::Map(pairs) => append_map(pairs, style, level, into),
+        Value::Array(items) => append_array(items, style, level, into),
+        Value::Absent | Value::Empty => append_json_string(b"", into),
+        Value::Str(text) => append_json_string(text.as_slice(), into),
+        _ => append_text(value, into),
+    }
+}
+
+/// A key with its value.
+#[cycle(write)]
+fn append_field(
+    key: &[u8],
+    value: &Value,
+    style: JsonStyle,
+    level: usize,
+    into: &mut Bytes,
+) -> Result<(), NoMemory>
+    ensures ok { OnOk result (into.new ≡ into.old ++ json_field style level (key.now, tree_of value.now)) }
+    ensures err { OnErr result (StandsBefore into.old into.new) }
+{
+    append_json_string(key, into)?;
+    into.append(b": ")?;
+    append_at(value, style, level, into)
+}
+
+#[cycle(write)]
+fn append_map(
+    pairs: &MapValue,
+    style: JsonStyle,
+    level: usize,
+    into: &mut Bytes,
+) -> Result<(), NoMemory>
+    ensures ok { OnOk result (into.new ≡ into.old ++ json_at style level (map_of pairs.now)) }
+    ensures err { OnErr result (StandsBefore into.old into.new) }
+{
+    if pairs.len() == 0 {
+        return into.append(b"{}");
+    }
+    let inner = deeper(level)?;
+    into.append(b"{")?;
+    append_pairs(pairs, style, inner, into)?;
+    append_line_end(is_stacked(style), level, into)?;
+    into.append(b"}")
+}
+
+/// The pairs of a map, each behind its gap.
+#[cycle(write)]
+fn append_pairs(
+    pairs: &MapValue,
+    style: JsonStyle,
+    level: usize,
+    into: &mut Bytes,
+) -> Result<(), NoMemory>
+    ensures ok { OnOk result (into.new ≡ into.old ++ led (is_stacked style) true level (map (json_field style level) pairs.now)) }
+    ensures err { OnErr result (StandsBefore into.old into.new) }
+{
+    for place in 0..pairs.len() {
+        append_gap(is_stacked(style), place == 0, level, into)?;
+        let (key, value) = pairs.entry(place);
+        append_field(key, value, style, level, into)?;
+    }
+    Ok(())
+}
+
+/// An array stands on lines only if a map or an array stands in it.
+#[cycle(write)]
+fn append_array(
+    items: &ArrayValue,
+    style: JsonStyle,
+    level: usize,
+    into: &mut Bytes,
+) -> Result<(), NoMemory>
+    ensures ok { OnOk result (into.new ≡ into.old ++ json_at style level (array_of items.now)) }
+    ensures err { OnErr result (StandsBefore into.old into.new) }
+{
+    if items.len() == 0 {
+        return into.append(b"[]");
+    }
+    let lines = is_stacked(style) && has_collection(items);
+    let inner = deeper(level)?;
+    into.append(b"[")?;
+    append_items(items, lines, style, inner, into)?;
+    append_line_end(lines, level, into)?;
+    into.append(b"]")
+}
+
+/// The items of an array, each behind its gap.
+#[cycle(write)]
+fn append_items(
+    items: &ArrayValue,
+    lines: bool,
+    style: JsonStyle,
+    level: usize,
+    into: &mut Bytes,
+) -> Result<(), NoMemory>
+    ensures ok { OnOk result (into.new ≡ into.old ++ led lines true level (map (json_at style level) items.now)) }
+    ensures err { OnErr result (StandsBefore into.old into.new) }
+{
+    for place in 0..items.len() {
+        append_gap(lines, place == 0, level, into)?;
+        append_at(items.item(place), style, level, into)?;
+    }
+    Ok(())
+}
+
+/// One level more. A value of more levels than a `usize` counts takes more memory than there is.
+fn deeper(level: usize) -> Result<usize, NoMemory>
+    ensures { IfOk result (λ more. more ≡ level + 1) }
+{
+    level.checked_add(1).ok_or(NoMemory)
+}
+
+fn is_stacked(style: JsonStyle) -> bool
+    ensures { result ≡ is_stacked style }
+{
+    matches!(style, JsonStyle::Stacked)
+}
+
+fn is_collection(value: &Value) -> bool
+    ensures { result ≡ is_collection (tree_of value.now) }
+{
+    matches!(value, Value::Map(_) | Value::Array(_))
+}
+
+/// Whether a map or an array stands in it.
+fn has_collection(items: &ArrayValue) -> bool
+    ensures { result ≡ list_any is_collection items.now }
+{
+    for place in 0..items.len() {
+        if is_collection(items.item(place)) {
+            return true;
+        }
+    }
+    false
+}
+
+/// What stands before a text between brackets.
+fn append_gap(lines: bool, first: bool, level: usize, into: &mut Bytes) -> Result<(), NoMemory>
+    ensures ok { OnOk result (into.new ≡ into.old ++ gap lines first level) }
+    ensures err { OnErr result (StandsBefore into.old into.new) }
+{
+    if !lines {
+        return if first { Ok(()) } else { into.append(b", ") };
+    }
+    if !first {
+        into.append(b",")?;
+    }
+    append_new_line(level, into)
+}
+
+/// What stands before a closing bracket.
+fn append_line_end(lines: bool, level: usize, into: &mut Bytes) -> Result<(), NoMemory>
+    ensures ok { OnOk result (into.new ≡ into.old ++ line_end lines level) }
+    ensures err { OnErr result (StandsBefore into.old into.new) }
+{
+    if lines {
+        append_new_line(level, into)
+    } else {
+        Ok(())
+    }
+}
+
+/// A line end, and two spaces for each level.
+fn append_new_line(level: usize, into: &mut Bytes) -> Result<(), NoMemory>
+    ensures ok { OnOk result (into.new ≡ into.old ++ new_line level) }
+    ensures err { OnErr result (StandsBefore into.old into.new) }
+{
+    into.append(b"\n")?;
+    for _done in 0..level {
+        into.append(b"  ")?;
+    }
+    Ok(())
+}
+
+#[cfg(test)]
+mod tests {
+    use super::*;
+    use mlr_spec::InferOpts;
+    use mlr_value::{IntValue, from_data};
+
+    #[test]
+    fn texts_bare_and_in_quotes(rt: HostRuntime) -> Result<(), NoMemory> {
+        let table: [(&[u8], &[u8]); 6] = [
+            (b"", br#""""#),
+            (b"abc", br#""abc""#),
+            (br#"say "hi""#, br#""say \"hi\"""#),
+            (b"0x0F", b"0x0F"),
+            (b"0.50", b"0.50"),
+            (b"9223372036854775808", b"9223372036854775808"),
+        ];
+        for (i, row) in table.iter().enumerate() {
+            let (text, want) = *row;
+            let value = from_data(rt.alloc(), text, InferOpts::plain())?;
+            let json = json_text(rt.alloc(), &value, JsonStyle::Stacked)?;
+            assert_eq!(rt; json.as_slice(), want, "at {i}");
+        }
+        Ok(())
+    }
+
+    #[test]
+    fn values_without_a_text(rt: HostRuntime) -> Result<(), NoMemory> {
+        let int = Value::Int(IntValue {
+            n: -7,
+            spelling: Bytes::new(rt.alloc()),
+        });
+        let mut json = Bytes::new(rt.alloc());
+        append_json_field(b"a", &int, JsonStyle::Single, &mut json)?;
+        append_json_value(&Value::Bool(false), JsonStyle::Single, &mut json)?;
+        append_json_value(&Value::Absent, JsonStyle::Single, &mut json)?;
+        append_json_value(&Value::Error, JsonStyle::Single, &mut json)?;
+        assert_eq!(rt; json.as_slice(), b"\"a\": -7false\"\"(error)".as_slice());
+        Ok(())
+    }
+}
