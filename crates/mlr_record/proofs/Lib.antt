@@ -1,4 +1,3 @@
 pub mod Places
-pub mod Escaping
 mod Edits
 mod Finding
