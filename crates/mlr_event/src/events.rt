@@ -14,9 +14,13 @@ pub struct Events {
 
 impl Model for Events {
     ghost use Rattle.std.specs.Prelude.{List};
+    ghost use Rattle.std.specs.Coded.{codes};
+    ghost use Rattle.mlr_spec.specs.TreeCode.{coded_tree};
     ghost use Rattle.mlr_event.specs.declared.event.Event.{Event};
 
     ghost Value = { List Event };
+
+    ghost coded = { Prim.hlevel (codes, coded_tree) };
 
     ghost view = { λ e. e.events.items };
 }

@@ -11,13 +11,28 @@ pub enum Fault {
         have: u64,
     },
     /// A quote that is open at the end of the file. The line is that on which its row begins.
-    Quote { file: FileRef, line: u64 },
+    Quote {
+        file: FileRef,
+        line: u64,
+    },
     /// A line of a table in another form than bars and cells.
-    Table { file: FileRef, line: u64 },
+    Table {
+        file: FileRef,
+        line: u64,
+    },
     /// The text no longer begins any JSON text.
-    JsonSyntax { file: FileRef, byte: u64 },
+    JsonSyntax {
+        file: FileRef,
+        byte: u64,
+    },
     /// A bracket opens level 101.
-    JsonDeep { file: FileRef, byte: u64 },
+    JsonDeep {
+        file: FileRef,
+        byte: u64,
+    },
     /// A JSON value that is no map stands where a record must stand.
-    JsonKind { file: FileRef, byte: u64 },
+    JsonKind {
+        file: FileRef,
+        byte: u64,
+    },
 }
