@@ -1,5 +1,5 @@
 -- DKVP: a line is a record of pieces, each a key and a value.
-use Rattle.std.specs.Prelude.{ℕ, ◌+◌, if◌then◌else◌, Bool, true, false, List, [], ◌∷◌, map, length, take, drop, Option, Some, None}
+use Rattle.std.specs.Prelude.{ℕ, ◌+◌, if◌then◌else◌, List, [], ◌∷◌, length, take, drop, Some, None}
 use Rattle.std.specs.Fmt.{decimal}
 use Rattle.mlr_spec.specs.Infer.{tree_of_data}
 use Rattle.mlr_spec.specs.Split.{place_in, split_by}

@@ -1,10 +1,8 @@
 -- Markdown tables: blocks of lines of cells between bars.
-use Rattle.std.specs.Prelude.{ℕ, ◌+◌, ◌-◌, if◌then◌else◌, Bool, true, false, not, ◌&&◌, ◌||◌, ◌==◌, nat_lt, nat_le, List, [], ◌∷◌, ◌++◌, map, length, take, drop, Option, Some, None}
+use Rattle.std.specs.Prelude.{ℕ, ◌+◌, ◌-◌, if◌then◌else◌, Bool, not, ◌&&◌, ◌==◌, nat_lt, List, [], ◌∷◌, ◌++◌, map, length, take, drop, Option, Some, None}
 use Rattle.std.specs.List.{list_all, onto_first, prefix_len, suffix_len}
 use Rattle.mlr_spec.specs.Infer.{tree_of_data}
-use Rattle.mlr_spec.specs.Tree.{Tree}
 use Rattle.mlr_event.specs.declared.names.FileRef.{FileRef}
-use Rattle.mlr_event.specs.declared.fault.Fault.{Fault}
 use Rattle.mlr_event.specs.declared.fault.Fault.TheVariants.{Length, Table}
 use Rattle.mlr_event.specs.declared.options.ReadOpts.{ReadOpts}
 use Rattle.mlr_event.specs.Reading.{Item, fields, fault, is_comment, comment_items, record_of}
@@ -45,9 +43,9 @@ cells_behind (part ∷ next ∷ parts) = closed (part ∷ next ∷ parts)
 
 abbrev pub cells_of : List ℕ → Option (List (List ℕ))
 cells_of line = elim (bar_parts 0 line) [
-    | [] ↦ None
-    | first ∷ parts ↦ if length first == 0 then cells_behind parts else None
-  ]
+  | [] ↦ None
+  | first ∷ parts ↦ if length first == 0 then cells_behind parts else None
+]
 
 -- one or more dashes, with or without a colon at either end
 abbrev pub without_colons : List ℕ → List ℕ

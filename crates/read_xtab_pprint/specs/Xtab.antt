@@ -1,5 +1,5 @@
 -- XTAB: a record is a run of lines, each a key and a value; empty lines stand between records.
-use Rattle.std.specs.Prelude.{ℕ, ◌+◌, if◌then◌else◌, Bool, true, false, not, ◌==◌, List, [], ◌∷◌, ◌++◌, map, length, take, drop}
+use Rattle.std.specs.Prelude.{ℕ, if◌then◌else◌, Bool, ◌==◌, List, [], ◌∷◌, ◌++◌, map, length, drop}
 use Rattle.std.specs.List.{prefix_len, before_first}
 use Rattle.mlr_spec.specs.Infer.{tree_of_data}
 use Rattle.mlr_event.specs.declared.options.ReadOpts.{ReadOpts}
