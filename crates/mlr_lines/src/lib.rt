@@ -1,6 +1,13 @@
-//! Scratch.
+//! The lines of a file whose bytes come in pieces that are cut anywhere. A format says what whole lines give; `Lines`
+//! hands them to it.
 #![tactic(auto)]
 
-pub fn one() -> u8 {
-    1
-}
+mod cut;
+mod format;
+mod lines;
+#[cfg(test)]
+mod lines_tests;
+mod stage;
+
+pub use format::LineFormat;
+pub use lines::Lines;
