@@ -1,4 +1,4 @@
-ghost use Rattle.std.specs.Prelude.{◌≡◌, ◌+◌, ◌^◌, ◌<◌, ◌≤◌, ℕ, List, ◌++◌, OnOk};
+ghost use Rattle.std.specs.Prelude.{◌≡◌, ◌+◌, ◌^◌, ◌<◌, ◌≤◌, ℕ, List, ◌++◌, length, OnOk};
 ghost use Rattle.mlr_event.specs.declared.event.Event.{Event};
 
 use mlr_event::Events;
@@ -24,14 +24,16 @@ pub trait LineFormat {
 
     /// Takes an ended line, and puts its events behind `out`. A refusal leaves any format and any events.
     fn line(&mut self, line: &[u8], out: &mut Events) -> Result<(), NoMemory>
-        requires { count self.old < 2 ^ 63 }
+        requires count { count self.old < 2 ^ 63 }
+        requires length { length line.now < 2 ^ 63 }
         ensures state { OnOk result (self.new ≡ after self.old line.now) }
         ensures events { OnOk result (out.new ≡ out.old ++ gives self.old line.now) };
 
     /// Takes what is left at the end of the file, and puts its events behind `out`. It comes once, after all ended
     /// lines, and may be empty. A refusal leaves any format and any events.
     fn last(&mut self, line: &[u8], out: &mut Events) -> Result<(), NoMemory>
-        requires { count self.old < 2 ^ 63 }
+        requires count { count self.old < 2 ^ 63 }
+        requires length { length line.now < 2 ^ 63 }
         ensures state { OnOk result (self.new ≡ after_last self.old line.now) }
         ensures events { OnOk result (out.new ≡ out.old ++ gives_last self.old line.now) };
 

@@ -104,7 +104,8 @@ impl<F: LineFormat> Lines<F> {
     /// Hands on the line that has begun and ends with this part.
     #[inline]
     fn end_line(&mut self, part: &[u8], out: &mut Events) -> Result<(), NoMemory>
-        requires { F.count self.old.format < 2 ^ 63 }
+        requires count { F.count self.old.format < 2 ^ 63 }
+        requires length { length part.now < 2 ^ 63 }
         ensures state { OnOk result (self.new.format ≡ F.after self.old.format (unmarked_line self.old.first (self.old.begun.items ++ part.now))) }
         ensures events { OnOk result (out.new ≡ out.old ++ F.gives self.old.format (unmarked_line self.old.first (self.old.begun.items ++ part.now))) }
         ensures begun { OnOk result (self.new.begun.items ≡ []) }

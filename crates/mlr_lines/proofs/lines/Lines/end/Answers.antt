@@ -10,7 +10,7 @@ returns-clause-stands g c =
     let old = c.args.self.now in
     on_ok_weaker c.last-ended.result
     (λ is format bytes stands. record {
-      state = is ∙ ap₂ f.after_last stands.state (c.unmarked.ensures ∙ ap (unmarked_line old.first) c.as_slice.ensures.value ∙ left-is f.after old format bytes stands);
+      state = is ∙ ap₂ f.after_last stands.state (c.unmarked.ensures.text ∙ ap (unmarked_line old.first) c.as_slice.ensures.value ∙ left-is f.after old format bytes stands);
     })
     c.last-ended.ensures.state
 
@@ -20,5 +20,5 @@ returns-clause-adds g c =
     let old = c.args.self.now in
     on_ok_weaker c.last-ended.result
     (λ is format bytes stands. is
-    ∙ ap₂ (λ state line. c.args.out.now ++ f.gives_last state line) stands.state (c.unmarked.ensures ∙ ap (unmarked_line old.first) c.as_slice.ensures.value ∙ left-is f.after old format bytes stands))
+    ∙ ap₂ (λ state line. c.args.out.now ++ f.gives_last state line) stands.state (c.unmarked.ensures.text ∙ ap (unmarked_line old.first) c.as_slice.ensures.value ∙ left-is f.after old format bytes stands))
     c.last-ended.ensures.events
