@@ -7,6 +7,9 @@ mod events;
 mod fault;
 mod names;
 mod options;
+pub mod rows;
+#[cfg(test)]
+mod rows_tests;
 
 pub use event::{Body, Ctx, Event, Piece};
 pub use events::Events;
