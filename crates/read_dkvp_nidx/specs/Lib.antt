@@ -2,3 +2,5 @@ pub mod Dkvp
 pub mod Nidx
 pub mod Markdown
 pub mod Lines
+pub mod Pieces
+pub mod Row

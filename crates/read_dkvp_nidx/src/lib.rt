@@ -1,6 +1,8 @@
-//! Scratch.
+//! Readers of DKVP, NIDX and Markdown: formats in which each line is a record, or a row of a table.
 #![tactic(auto)]
 
-pub fn one() -> u8 {
-    1
-}
+mod block;
+mod dkvp;
+mod nidx;
+mod options;
+mod row;
