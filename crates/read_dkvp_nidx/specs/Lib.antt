@@ -4,3 +4,6 @@ pub mod Markdown
 pub mod Lines
 pub mod Pieces
 pub mod Row
+pub mod Usable
+pub mod Rules
+pub mod Counting

@@ -3,6 +3,9 @@
 
 mod block;
 mod dkvp;
+mod markdown;
 mod nidx;
 mod options;
 mod row;
+mod rules;
+mod take;
