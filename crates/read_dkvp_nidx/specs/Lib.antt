@@ -7,3 +7,4 @@ pub mod Row
 pub mod Usable
 pub mod Rules
 pub mod Counting
+pub mod Standing

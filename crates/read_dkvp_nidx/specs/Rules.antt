@@ -52,7 +52,7 @@ behind_row rules line =
     record rules {
       block = place_of (plain_block rules.opts.format (block_of rules.block) line);
       at = ctx_after rules.at items;
-      stopped = has_fault items
+      stopped = has_fault items;
     }
 
 -- the rules behind a line without its end, and its events
@@ -63,7 +63,7 @@ behind_line rules line =
       number = rules.number + 1;
       block = place_of (line_block rules.opts (block_of rules.block) line);
       at = ctx_after rules.at (items_by rules line);
-      stopped = has_fault (items_by rules line)
+      stopped = has_fault (items_by rules line);
     }
 
 abbrev pub line_events : LineRules → List ℕ → List Event

@@ -6,6 +6,9 @@ mod dkvp;
 mod markdown;
 mod nidx;
 mod options;
+mod reader;
 mod row;
 mod rules;
 mod take;
+
+pub use reader::LineReader;
