@@ -1,2 +1,3 @@
 pub mod Piecewise
 pub mod Whole
+pub mod Tables

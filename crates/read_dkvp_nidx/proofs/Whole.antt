@@ -5,10 +5,9 @@ use Rattle.std.proofs.lemmas.Bool.{true≢false}
 use Rattle.std.proofs.lemmas.List.{append-nil}
 use Rattle.std.proofs.lemmas.List.Sums.{fold-append}
 use Rattle.mlr_lines.specs.Lines.{ended_lines, begun_line, fixed_lines, whole_lines, last_line, without_return}
-use Rattle.mlr_lines.specs.Standing.{Adds, behind, given}
+use Rattle.mlr_lines.specs.Standing.{behind, given}
 use Rattle.mlr_lines.proofs.Feeding.{given-append}
 use Rattle.mlr_event.specs.declared.event.Ctx.{Ctx}
-use Rattle.mlr_event.specs.declared.event.Event.{Event}
 use Rattle.mlr_event.specs.declared.names.FileRef.{FileRef}
 use Rattle.mlr_event.specs.declared.options.Format.{Format}
 use Rattle.mlr_event.specs.declared.options.Format.TheVariants as format

@@ -8,3 +8,4 @@ pub mod Usable
 pub mod Rules
 pub mod Counting
 pub mod Standing
+pub mod Cells

@@ -1,5 +1,5 @@
 -- Line by line: what a line gives, and what is known behind it.
-use Rattle.std.specs.Prelude.{◌≡◌, ℕ, ◌+◌, true, false, if◌then◌else◌, List, [], ◌∷◌, ◌++◌, max}
+use Rattle.std.specs.Prelude.{◌≡◌, ℕ, ◌+◌, false, if◌then◌else◌, List, [], ◌∷◌, ◌++◌, max}
 use Rattle.mlr_lines.specs.Lines.{without_return}
 use Rattle.mlr_event.specs.declared.event.Ctx.{Ctx}
 use Rattle.mlr_event.specs.declared.event.Event.{Event}
@@ -9,7 +9,6 @@ use Rattle.mlr_event.specs.declared.options.Format.TheVariants as format
 use Rattle.mlr_event.specs.declared.options.ReadOpts.{ReadOpts}
 use Rattle.mlr_event.specs.Reading.{Item, is_comment, comment_items, events_of, ctx_after}
 use Rattle.mlr_event.specs.Stream.{has_fault}
-use Rattle.read_dkvp_nidx.specs.declared.block.Block.{Block}
 use Rattle.read_dkvp_nidx.specs.declared.block.Block.TheVariants.{Outside}
 use Rattle.read_dkvp_nidx.specs.declared.rules.LineRules.{LineRules}
 use Rattle.read_dkvp_nidx.specs.Dkvp.{dkvp_record}

@@ -1,5 +1,5 @@
 -- When a reader stands for a front of a file, or for the whole.
-use Rattle.std.specs.Prelude.{◌≡◌, ℕ, ◌+◌, ◌^◌, ◌<◌, List}
+use Rattle.std.specs.Prelude.{ℕ, ◌+◌, ◌^◌, ◌<◌, List}
 use Rattle.mlr_lines.specs.Lines.{fixed_lines, whole_lines}
 use Rattle.mlr_lines.specs.Standing as lines
 use Rattle.mlr_event.specs.declared.event.Ctx.{Ctx}

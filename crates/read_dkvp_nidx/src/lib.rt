@@ -2,6 +2,7 @@
 #![tactic(auto)]
 
 mod block;
+mod cells;
 mod dkvp;
 mod markdown;
 mod nidx;

@@ -5,7 +5,7 @@ ghost use Rattle.read_dkvp_nidx.specs.Row.{block_of, place_of, row_items};
 ghost use Rattle.read_dkvp_nidx.specs.Rules.{after_last, after_line, behind_line, behind_row, count_of, gives_last, gives_line, line_events, plain_block, plain_items};
 
 use crate::dkvp::dkvp_row;
-use crate::markdown::markdown_row;
+use crate::markdown::{Place, markdown_row};
 use crate::nidx::nidx_row;
 use crate::row::Row;
 use crate::rules::LineRules;
@@ -95,8 +95,10 @@ impl LineRules {
             Format::Markdown => markdown_row(
                 self.alloc,
                 &self.opts,
-                self.file,
-                self.number,
+                Place {
+                    file: self.file,
+                    line: self.number,
+                },
                 &mut self.block,
                 line,
             ),

@@ -1,6 +1,5 @@
 use Rattle.std.proofs.Common.{◌++◌, ap, sym, ◌∙◌}
 use Rattle.std.proofs.lemmas.Result.{on_ok_weaker}
-use Rattle.mlr_event.specs.declared.event.Event.{Event}
 use Rattle.read_dkvp_nidx.proofs.Whole.{fed-is}
 use Rattle.read_dkvp_nidx.proofs.reader.LineReader.feed.Goals as goal
 
