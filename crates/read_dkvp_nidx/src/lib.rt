@@ -11,5 +11,7 @@ mod reader;
 mod row;
 mod rules;
 mod take;
+#[cfg(test)]
+mod tests;
 
-pub use reader::LineReader;
+pub use reader::{LineReader, can_read};

@@ -10,7 +10,7 @@ ghost use Rattle.read_dkvp_nidx.specs.Usable.{is_usable};
 use crate::block::Block;
 use crate::options::copy_options;
 use crate::rules::LineRules;
-use mlr_event::{Ctx, Events, FileRef, ReadOpts};
+use mlr_event::{Ctx, Events, FileRef, Format, ReadOpts};
 use mlr_lines::Lines;
 use mlr_spec::NoMemory;
 use std::alloc::Global;
@@ -19,6 +19,18 @@ use std::alloc::Global;
 #[derive(Drop)]
 pub struct LineReader {
     lines: Lines<LineRules>,
+}
+
+/// Whether a reader can read by these options: a format of lines, whose separators have bytes.
+pub fn can_read(opts: &ReadOpts) -> bool
+    ensures { result ≡ is_usable opts.now }
+{
+    match opts.format {
+        Format::Dkvp => !opts.ifs.is_empty() && !opts.ips.is_empty(),
+        Format::Nidx => !opts.ifs.is_empty(),
+        Format::Markdown => true,
+        _ => false,
+    }
 }
 
 impl LineReader {
