@@ -1,4 +1,4 @@
-use crate::{Mode, StyleId, Target};
+use crate::{Fault, Mode, StyleId, Target};
 use mlr_record::Record;
 use mlr_value::Bytes;
 
@@ -28,7 +28,7 @@ pub struct Piece {
     pub body: Body,
 }
 
-/// One event of a stream. An end is the last event of its stream.
+/// One event of a stream. An end or a fault is the last event of its stream.
 #[derive(Drop)]
 pub enum Event {
     /// A record.
@@ -39,4 +39,6 @@ pub enum Event {
     Out(Target, Piece),
     /// The end, with the context of the last record, the count of the last file's records and that of the files.
     End(Ctx),
+    /// A fault in the data. Nothing that was held back comes out before it.
+    Fault(Fault),
 }

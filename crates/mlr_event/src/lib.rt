@@ -3,7 +3,16 @@
 #![tactic(auto)]
 
 mod event;
+mod events;
+mod fault;
 mod names;
+mod options;
+pub mod rows;
+#[cfg(test)]
+mod rows_tests;
 
 pub use event::{Body, Ctx, Event, Piece};
+pub use events::Events;
+pub use fault::Fault;
 pub use names::{FileRef, InputName, Mode, StyleId, Target};
+pub use options::{Comments, Format, ReadOpts};

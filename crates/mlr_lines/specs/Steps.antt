@@ -1,0 +1,29 @@
+-- How a text goes on behind a line that has begun.
+use Rattle.std.specs.Prelude.{◌≡◌, ℕ, ◌+◌, Bool, true, false, List, [], ◌∷◌, ◌++◌, length}
+use Rattle.mlr_lines.specs.Lines.{ended_behind, begun_behind, without_mark}
+
+-- whether there are no lines
+abbrev pub are_none : List (List ℕ) → Bool
+are_none [] = true
+are_none (line ∷ lines) = false
+
+-- a line, which in the first place of a file has lost its byte order mark
+abbrev pub unmarked_line : Bool → List ℕ → List ℕ
+unmarked_line true line = without_mark line
+unmarked_line false line = line
+
+-- the lines of which the first is the first of the file, or isn't
+abbrev pub unmarked_lines : Bool → List (List ℕ) → List (List ℕ)
+unmarked_lines first [] = []
+unmarked_lines first (line ∷ lines) = unmarked_line first line ∷ lines
+
+-- the text goes on with the line that has begun, whatever that is
+pub record EndsNoLine (text : List ℕ) : Type 0 where
+  pub ended : (begun : List ℕ) → ended_behind begun text ≡ []
+  pub begun : (begun : List ℕ) → begun_behind begun text ≡ begun ++ text
+
+-- the text ends that line, and goes on behind it
+pub record EndsLine (text line rest : List ℕ) : Type 0 where
+  pub ended : (begun : List ℕ) → ended_behind begun text ≡ (begun ++ line) ∷ ended_behind [] rest
+  pub begun : (begun : List ℕ) → begun_behind begun text ≡ begun_behind [] rest
+  pub parts : length line + length rest + 1 ≡ length text

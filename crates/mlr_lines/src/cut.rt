@@ -1,0 +1,34 @@
+ghost use Rattle.std.specs.Prelude.{◌≡◌, ◌+◌, ◌≤◌, length, MatchOption};
+ghost use Rattle.mlr_lines.specs.Lines.{without_mark};
+ghost use Rattle.mlr_lines.specs.Steps.{EndsNoLine, EndsLine, unmarked_line};
+
+use memchr::memchr;
+
+/// The first line that ends in the text, without its LF, and what stands behind the LF.
+#[inline]
+pub(crate) fn first_line(text: &[u8]) -> Option<(&[u8], &[u8])>
+    ensures { MatchOption result (EndsNoLine text.now) (λ cut. EndsLine text.now cut.0.now cut.1.now) }
+{
+    let place = memchr(b'\n', text)?;
+    Some((&text[..place], &text[place + 1..]))
+}
+
+/// The line, which in the first place of a file has lost its byte order mark.
+#[inline]
+pub(crate) fn unmarked(first: bool, line: &[u8]) -> &[u8]
+    ensures text { result.now ≡ unmarked_line first line.now }
+    ensures length { length result.now ≤ length line.now }
+{
+    if first { without_mark(line) } else { line }
+}
+
+/// The text without the byte order mark of UTF-8 at its start.
+fn without_mark(text: &[u8]) -> &[u8]
+    ensures text { result.now ≡ without_mark text.now }
+    ensures length { length result.now ≤ length text.now }
+{
+    match text {
+        [0xef, 0xbb, 0xbf, rest @ ..] => rest,
+        _ => text,
+    }
+}

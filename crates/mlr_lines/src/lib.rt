@@ -1,0 +1,13 @@
+//! The lines of a file whose bytes come in pieces that are cut anywhere. A format says what whole lines give; `Lines`
+//! hands them to it.
+#![tactic(auto)]
+
+mod cut;
+mod format;
+mod lines;
+#[cfg(test)]
+mod lines_tests;
+mod stage;
+
+pub use format::LineFormat;
+pub use lines::Lines;

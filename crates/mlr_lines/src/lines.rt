@@ -1,0 +1,126 @@
+ghost use Rattle.std.specs.Prelude.{◌≡◌, ◌↔◌, ◌+◌, ◌^◌, ◌<◌, ◌≤◌, ℕ, List, [], ◌++◌, false, length, IsTrue, OnOk, OnErr};
+ghost use Rattle.mlr_lines.specs.Lines.{ended_lines, begun_line};
+ghost use Rattle.mlr_lines.specs.Steps.{unmarked_line};
+ghost use Rattle.mlr_lines.specs.Standing.{Adds, CanTake, IsBroken, IsEnded, IsOpen, Stands, StandsAtEnd, Takes, behind, given};
+
+use crate::LineFormat;
+use crate::cut::{first_line, unmarked};
+use crate::stage::Stage;
+use mlr_event::Events;
+use mlr_spec::NoMemory;
+use std::alloc::Global;
+
+/// Takes the bytes of one file in pieces and hands each line to a format: as a slice of its piece, or, where a cut
+/// split the line, out of a buffer that is kept for the next one. The byte order mark of UTF-8 at the start of the
+/// file is dropped.
+#[derive(Drop)]
+pub struct Lines<F: LineFormat> {
+    format: F,
+    begun: Vec<u8>,
+    first: bool,
+    stage: Stage,
+}
+
+impl<F: LineFormat> Lines<F> {
+    /// No bytes yet. It takes no memory.
+    pub fn new(alloc: Global, format: F) -> Self
+        ensures stands { Stands F.after result format [] }
+        ensures open { IsOpen result }
+        ensures format { result.format ≡ format }
+    {
+        Lines {
+            format,
+            begun: Vec::new(alloc),
+            first: true,
+            stage: Stage::Open,
+        }
+    }
+
+    /// Takes the next piece of the file, and puts the events of the lines that it ends behind `out`. It takes memory
+    /// for a line that has begun and for events.
+    pub fn feed(&mut self, piece: &[u8], out: &mut Events) -> Result<(), NoMemory>
+        requires { CanTake F.count self.old (length piece.now) }
+        ensures stands { OnOk result ((format : F) (bytes : List ℕ) → Stands F.after self.old format bytes → Stands F.after self.new format (bytes ++ piece.now)) }
+        ensures adds { OnOk result ((format : F) (bytes : List ℕ) → Stands F.after self.old format bytes → Adds out.old out.new (given F.after F.gives format (ended_lines bytes)) (given F.after F.gives format (ended_lines (bytes ++ piece.now)))) }
+        ensures room { OnOk result (F.count self.new.format ≤ F.count self.old.format + length piece.now) }
+        ensures open { OnOk result (IsOpen self.new) }
+        ensures err { OnErr result (IsBroken self.new) }
+    {
+        let taken = self.take(piece, out);
+        if taken.is_err() {
+            self.stage = Stage::Broken;
+        }
+        taken
+    }
+
+    /// Takes the end of the file, and puts the events of what is left behind `out`.
+    pub fn end(&mut self, out: &mut Events) -> Result<(), NoMemory>
+        requires { CanTake F.count self.old 0 }
+        ensures stands { OnOk result ((format : F) (bytes : List ℕ) → Stands F.after self.old format bytes → StandsAtEnd F.after F.after_last self.new format bytes) }
+        ensures adds { OnOk result ((format : F) (bytes : List ℕ) → Stands F.after self.old format bytes → out.new ≡ out.old ++ F.gives_last (behind F.after format (ended_lines bytes)) (begun_line bytes)) }
+        ensures ended { OnOk result (IsEnded self.new) }
+        ensures err { OnErr result (IsBroken self.new) }
+    {
+        let ended = self
+            .format
+            .last(unmarked(self.first, self.begun.as_slice()), out);
+        self.stage = if ended.is_ok() {
+            Stage::Ended
+        } else {
+            Stage::Broken
+        };
+        ended
+    }
+
+    /// Whether a call found no memory. Then nothing more may be asked of it.
+    pub fn is_broken(&self) -> bool
+        ensures { IsTrue result ↔ IsBroken self.now }
+    {
+        self.stage == Stage::Broken
+    }
+
+    /// The format, behind the lines so far.
+    pub fn format(&self) -> &F
+        ensures { result.now ≡ self.now.format }
+    {
+        &self.format
+    }
+
+    fn take(&mut self, piece: &[u8], out: &mut Events) -> Result<(), NoMemory>
+        requires { F.count self.old.format + length piece.now < 2 ^ 63 }
+        ensures takes { OnOk result (Takes F.after F.gives self.old self.new piece.now out.old out.new) }
+        ensures room { OnOk result (F.count self.new.format ≤ F.count self.old.format + length piece.now) }
+        ensures stage { self.new.stage ≡ self.old.stage }
+    {
+        let mut rest = piece;
+        while let Some((line, behind)) = first_line(rest) {
+            self.end_line(line, out)?;
+            rest = behind;
+        }
+        self.begun.extend_from_slice(rest)?;
+        Ok(())
+    }
+
+    /// Hands on the line that has begun and ends with this part.
+    #[inline]
+    fn end_line(&mut self, part: &[u8], out: &mut Events) -> Result<(), NoMemory>
+        requires count { F.count self.old.format < 2 ^ 63 }
+        requires length { length part.now < 2 ^ 63 }
+        ensures state { OnOk result (self.new.format ≡ F.after self.old.format (unmarked_line self.old.first (self.old.begun.items ++ part.now))) }
+        ensures events { OnOk result (out.new ≡ out.old ++ F.gives self.old.format (unmarked_line self.old.first (self.old.begun.items ++ part.now))) }
+        ensures begun { OnOk result (self.new.begun.items ≡ []) }
+        ensures first { OnOk result (self.new.first ≡ false) }
+        ensures stage { self.new.stage ≡ self.old.stage }
+    {
+        if self.begun.is_empty() {
+            self.format.line(unmarked(self.first, part), out)?;
+        } else {
+            self.begun.extend_from_slice(part)?;
+            self.format
+                .line(unmarked(self.first, self.begun.as_slice()), out)?;
+            self.begun.clear();
+        }
+        self.first = false;
+        Ok(())
+    }
+}

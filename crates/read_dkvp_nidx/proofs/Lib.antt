@@ -1,0 +1,3 @@
+pub mod Piecewise
+pub mod Whole
+pub mod Tables

@@ -1,0 +1,11 @@
+pub mod Dkvp
+pub mod Nidx
+pub mod Markdown
+pub mod Lines
+pub mod Pieces
+pub mod Row
+pub mod Usable
+pub mod Rules
+pub mod Counting
+pub mod Standing
+pub mod Cells

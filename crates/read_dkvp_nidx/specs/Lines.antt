@@ -1,0 +1,27 @@
+-- What a file gives in DKVP, NIDX and Markdown: from its whole lines, and from those that have ended.
+use Rattle.std.specs.Prelude.{ℕ, List, []}
+use Rattle.std.specs.List.{flat_map}
+use Rattle.mlr_lines.specs.Lines.{fixed_lines, whole_lines}
+use Rattle.mlr_event.specs.declared.event.Ctx.{Ctx}
+use Rattle.mlr_event.specs.declared.event.Event.{Event}
+use Rattle.mlr_event.specs.declared.names.FileRef.{FileRef}
+use Rattle.mlr_event.specs.declared.options.Format.{Format}
+use Rattle.mlr_event.specs.declared.options.Format.TheVariants as format
+use Rattle.mlr_event.specs.declared.options.ReadOpts.{ReadOpts}
+use Rattle.mlr_event.specs.Reading.{Item, events_of}
+use Rattle.read_dkvp_nidx.specs.Dkvp.{dkvp_line}
+use Rattle.read_dkvp_nidx.specs.Nidx.{nidx_line}
+use Rattle.read_dkvp_nidx.specs.Markdown.{markdown_lines, outside}
+
+-- the items of lines without their ends
+abbrev pub items_of_lines : ReadOpts → FileRef → Format → List (List ℕ) → List Item
+items_of_lines opts file format.Dkvp lines = flat_map (dkvp_line opts) lines
+items_of_lines opts file format.Nidx lines = flat_map (nidx_line opts) lines
+items_of_lines opts file format.Markdown lines = markdown_lines opts file 1 outside lines
+items_of_lines opts file _ lines = []
+
+abbrev pub line_read : ReadOpts → FileRef → Ctx → List ℕ → List Event
+line_read opts file start bytes = events_of start (items_of_lines opts file opts.format (whole_lines bytes))
+
+abbrev pub line_fed : ReadOpts → FileRef → Ctx → List ℕ → List Event
+line_fed opts file start bytes = events_of start (items_of_lines opts file opts.format (fixed_lines bytes))

@@ -1,0 +1,109 @@
+ghost use Rattle.std.specs.Prelude.{◌≡◌, ◌^◌, ◌<◌, [], length, IfOk, OnOk};
+ghost use Rattle.mlr_spec.specs.Infer.{tree_of_data};
+ghost use Rattle.mlr_spec.specs.Split.{split_by};
+ghost use Rattle.mlr_event.specs.Reading.{record_of};
+ghost use Rattle.mlr_event.specs.Rows.{with_field};
+ghost use Rattle.read_dkvp_nidx.specs.Dkvp.{dkvp_record, keys_from, values_from};
+ghost use Rattle.read_dkvp_nidx.specs.Pieces.{with_piece};
+ghost use Rattle.read_dkvp_nidx.specs.Row.{row_items};
+
+use crate::row::Row;
+use itoa::Buffer;
+use mlr_event::ReadOpts;
+use mlr_event::rows::put_field;
+use mlr_record::Record;
+use mlr_record::split::{next_part, separator_place};
+use mlr_spec::NoMemory;
+use mlr_value::from_data;
+use std::alloc::Global;
+
+/// The record of a line, if the line isn't empty.
+pub(crate) fn dkvp_row(alloc: Global, opts: &ReadOpts, line: &[u8]) -> Result<Row, NoMemory>
+    requires ifs { 0 < length opts.now.ifs }
+    requires ips { 0 < length opts.now.ips }
+    requires length { length line.now < 2 ^ 63 }
+    ensures { IfOk result (λ row. row_items row ≡ dkvp_record opts.now line.now) }
+{
+    if line.is_empty() {
+        return Ok(Row::Nothing);
+    }
+    let mut record = Record::new(alloc)?;
+    put_pieces(alloc, opts, line, &mut record)?;
+    Ok(Row::Fields(record))
+}
+
+/// Puts the fields of a line into an empty record.
+fn put_pieces(
+    alloc: Global,
+    opts: &ReadOpts,
+    line: &[u8],
+    record: &mut Record,
+) -> Result<(), NoMemory>
+    requires ifs { 0 < length opts.now.ifs }
+    requires ips { 0 < length opts.now.ips }
+    requires length { length line.now < 2 ^ 63 }
+    requires empty { record.old ≡ [] }
+    ensures { OnOk result (record.new ≡ record_of opts.now.dedupe (keys_from opts.now.ips 1 (split_by opts.now.ifs line.now)) (values_from opts.now (split_by opts.now.ifs line.now))) }
+{
+    let mut position = 1;
+    let mut left = line;
+    loop {
+        let (piece, rest) = next_part(opts.ifs.as_slice(), left);
+        put_piece(alloc, opts, position, piece, record)?;
+        match rest {
+            None => return Ok(()),
+            Some(rest) => left = rest,
+        }
+        position += 1;
+    }
+}
+
+/// Puts the field of a piece into the record, if the piece isn't empty.
+#[inline]
+fn put_piece(
+    alloc: Global,
+    opts: &ReadOpts,
+    position: u64,
+    piece: &[u8],
+    record: &mut Record,
+) -> Result<(), NoMemory>
+    requires ips { 0 < length opts.now.ips }
+    requires room { length record.old < 2 ^ 63 }
+    ensures { OnOk result (record.new ≡ with_piece opts.now position piece.now record.old) }
+{
+    if piece.is_empty() {
+        return Ok(());
+    }
+    match separator_place(opts.ips.as_slice(), piece) {
+        Some(place) => {
+            let value = &piece[place + opts.ips.len()..];
+            put_text(alloc, opts, &piece[..place], value, record)
+        }
+        None => {
+            let mut buffer = Buffer::new();
+            put_text(
+                alloc,
+                opts,
+                buffer.format(position).as_bytes(),
+                piece,
+                record,
+            )
+        }
+    }
+}
+
+/// Puts a field of this text into the record.
+#[inline]
+pub(crate) fn put_text(
+    alloc: Global,
+    opts: &ReadOpts,
+    key: &[u8],
+    text: &[u8],
+    record: &mut Record,
+) -> Result<(), NoMemory>
+    requires { length record.old < 2 ^ 63 }
+    ensures { OnOk result (record.new ≡ with_field opts.now.dedupe key.now (tree_of_data opts.now.infer text.now) record.old) }
+{
+    let value = from_data(alloc, text, opts.infer)?;
+    put_field(alloc, record, key, value, opts.dedupe)
+}

@@ -1,0 +1,17 @@
+//! Readers of DKVP, NIDX and Markdown: formats in which each line is a record, or a row of a table.
+#![tactic(auto)]
+
+mod block;
+mod cells;
+mod dkvp;
+mod markdown;
+mod nidx;
+mod options;
+mod reader;
+mod row;
+mod rules;
+mod take;
+#[cfg(test)]
+mod tests;
+
+pub use reader::{LineReader, can_read};

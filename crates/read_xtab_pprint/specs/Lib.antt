@@ -1,0 +1,3 @@
+pub mod Xtab
+pub mod Pprint
+pub mod Blocks
