@@ -1,3 +1,0 @@
-pub mod Xtab
-pub mod Pprint
-pub mod Blocks
