@@ -4,6 +4,7 @@
 mod block;
 mod cells;
 mod dkvp;
+mod laws;
 mod markdown;
 mod nidx;
 mod options;
@@ -14,4 +15,5 @@ mod take;
 #[cfg(test)]
 mod tests;
 
+pub use laws::front_laws;
 pub use reader::{LineReader, can_read};
