@@ -15,7 +15,7 @@ use Rattle.read_dkvp_nidx.specs.declared.rules.LineRules.{LineRules}
 use Rattle.read_dkvp_nidx.specs.Dkvp.{dkvp_record}
 use Rattle.read_dkvp_nidx.specs.Nidx.{nidx_record, words_of}
 use Rattle.read_dkvp_nidx.specs.Markdown as markdown
-use Rattle.read_dkvp_nidx.specs.Rules.{after_line, behind_line, count_of, items_by, line_items, plain_items}
+use Rattle.read_dkvp_nidx.specs.Rules.{after_last, after_line, behind_line, count_of, items_by, line_items, plain_items}
 
 few-either : (test : Bool) (items more : List Item) → length items ≤ 1 → length more ≤ 1 → length (if test then items else more) ≤ 1
 few-either true items more few few_more = few
@@ -71,3 +71,7 @@ count-behind false rules line is =
 
 pub count-line : (rules : LineRules) (line : List ℕ) → count_of (after_line rules line) ≤ count_of rules + 1
 count-line rules line = count-behind rules.stopped rules (without_return line) refl
+
+pub count-last : (rules : LineRules) (line : List ℕ) → count_of (after_last rules line) ≤ count_of rules + 1
+count-last rules [] = omega arith
+count-last rules (b ∷ line) = count-behind rules.stopped rules (b ∷ line) refl
