@@ -1,0 +1,3 @@
+pub mod Quoting
+pub mod Readings
+pub mod Escaping

@@ -1,2 +1,5 @@
 pub mod Fields
 pub mod Rows
+pub mod Taking
+pub mod Quotes
+pub mod Escapes

@@ -1,6 +1,7 @@
-//! Scratch.
+//! The reader of CSV (RFC 4180) and TSV.
 #![tactic(auto)]
 
-pub fn one() -> u8 {
-    1
-}
+mod escapes;
+mod fields;
+mod quotes;
+mod row;
