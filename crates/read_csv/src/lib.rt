@@ -3,5 +3,14 @@
 
 mod escapes;
 mod fields;
+mod given;
+mod header;
+mod options;
 mod quotes;
+mod reader;
+mod records;
 mod row;
+mod rules;
+mod take;
+
+pub use reader::{CsvReader, can_read};

@@ -1,8 +1,14 @@
-ghost use Rattle.std.specs.Prelude.{◌≡◌, ◌↔◌, OnOk, IsTrue, is_some};
+ghost use Rattle.std.specs.Prelude.{◌≡◌, OnOk, IfOk, is_some, None, length, map};
 ghost use Rattle.mlr_spec.specs.Infer.{tree_of_data};
+ghost use Rattle.mlr_event.specs.Reading.{record_of};
+ghost use Rattle.read_csv.specs.Headers.{source_of};
+ghost use Rattle.read_csv.specs.Rows.{row_keys};
 ghost use Rattle.read_csv.specs.Fields.{quoted_value};
 ghost use Rattle.read_csv.specs.Taking.{in_quotes, no_row, with_text, with_value};
 
+use crate::header::Header;
+use crate::records::{record_of_row, texts};
+use mlr_record::Record;
 use mlr_spec::{InferOpts, NoMemory};
 use mlr_value::{Bytes, Value, from_data};
 use std::alloc::Global;
@@ -96,5 +102,43 @@ impl Row {
         self.quoted = false;
         self.text.clear();
         Ok(())
+    }
+
+    /// How many fields have ended.
+    #[inline]
+    pub(crate) fn len(&self) -> usize
+        ensures { result ≡ length self.now.values }
+    {
+        self.values.len()
+    }
+
+    /// Drops all fields.
+    pub(crate) fn clear(&mut self)
+        ensures { self.new ≡ no_row }
+    {
+        self.values.clear();
+        self.quoted = false;
+        self.text.clear();
+    }
+
+    /// The texts of the fields that have ended.
+    pub(crate) fn texts(&self, alloc: Global) -> Result<Vec<Bytes>, NoMemory>
+        ensures { IfOk result (λ made. made.items ≡ map source_of self.now.values) }
+    {
+        texts(alloc, self.values.as_slice())
+    }
+
+    /// Takes the fields out, as a record.
+    pub(crate) fn record(
+        &mut self,
+        alloc: Global,
+        dedupe: bool,
+        header: &Header,
+    ) -> Result<Record, NoMemory>
+        requires { self.old.quotes ≡ None }
+        ensures made { IfOk result (λ made. made ≡ record_of dedupe (row_keys header.now (length self.old.values)) self.old.values) }
+        ensures empty { OnOk result (self.new ≡ no_row) }
+    {
+        record_of_row(alloc, dedupe, header, &mut self.values)
     }
 }
