@@ -3,3 +3,8 @@ pub mod Readings
 pub mod Escaping
 pub mod Recording
 pub mod Opening
+pub mod Ends
+pub mod Whole
+pub mod Headings
+pub mod Walk
+pub mod Files

@@ -1,14 +1,15 @@
 -- What a text fixes that leaves quotes open: behind it, a text is read as if it stood behind a quote.
-use Rattle.std.proofs.Common.{◌≡◌, ℕ, zero, suc, ◌+◌, ◌-◌, ◌<◌, ◌≤◌, Bool, true, false, cond, eqb, List, [], ◌∷◌, ◌++◌, map, length, take, drop, Option, Some, None, refl, ap, ap₂, sym, ◌∙◌, append_assoc, arith, inl, inr, add-one, length-drop}
+use Rattle.std.proofs.Common.{◌≡◌, ℕ, zero, suc, ◌+◌, ◌-◌, ◌<◌, ◌≤◌, Bool, true, false, cond, eqb, List, [], ◌∷◌, ◌++◌, map, length, take, drop, Option, Some, None, refl, ap, ap₂, sym, subst, ◌∙◌, append_assoc, arith, inl, inr, add-one, length-drop}
 use Rattle.std.specs.Option.{option_map}
 use Rattle.std.proofs.lemmas.Bool.{cases_Bool}
-use Rattle.std.proofs.lemmas.List.{append-nil, take-append-le}
+use Rattle.std.proofs.lemmas.List.{take-append-le, drop-append-le}
+use Rattle.std.proofs.lemmas.Bool.Decides.{nat_tests}
 use Rattle.std.specs.Str.{bytes_eq}
 use Rattle.mlr_spec.specs.Split.{place_in, begins_with}
 use Rattle.mlr_spec.proofs.Splitting.{cases_Option, place_in-fits, begins_with-fits}
 use Rattle.read_csv.specs.Fields.{Field, First, Quoted, quoted_at, with_byte, before_next, behind_next, first_plain, first_quoted, first_field, fields_from, csv_fields}
 use Rattle.read_csv.specs.Taking.{Reading, open_text, reading_from, csv_reading}
-use Rattle.read_csv.proofs.Readings.{rest_of, rest-shorter, reading-is, reading_at}
+use Rattle.read_csv.proofs.Readings.{rest_of, rest-shorter, next-shorter, reading-is, reading_at, reading_behind}
 
 -- more content before what stands in quotes
 abbrev pub behind_text : List ℕ → Quoted → Quoted
@@ -31,7 +32,7 @@ map-byte : (b : ℕ) (content : List ℕ) (found : Option Quoted) → with_byte 
 map-byte b content None = refl
 map-byte b content (Some q) = refl
 
-quoted-other : (b : ℕ) (text : List ℕ) → eqb b 34 ≡ false → quoted_at (b ∷ text) ≡ with_byte b (quoted_at text)
+pub quoted-other : (b : ℕ) (text : List ℕ) → eqb b 34 ≡ false → quoted_at (b ∷ text) ≡ with_byte b (quoted_at text)
 quoted-other b [] other = rw other refl
 quoted-other b (c ∷ text) other = rw other refl
 
@@ -161,8 +162,7 @@ next-more separator text more rest is =
           let fits = place_in-fits separator text place found.1 in
           let later = place-more separator text more place found.1 in
           let e : Some (drop (place + length separator) text) ≡ Some rest = sym (ap (next_at separator text) found.1) ∙ is in
-          let same : drop (place + length separator) text ≡ rest = cc in
-          (
+          let same : drop (place + length separator) text ≡ rest = cc in (
             ap (before_at (text ++ more)) later ∙ take-append-le place text more (omega arith) ∙ sym (ap (before_at text) found.1),
             ap (next_at separator (text ++ more)) later ∙ ap Some (drop-append-le (place + length separator) text more (omega arith) ∙ ap (λ t. t ++ more) same),
           )
@@ -181,7 +181,7 @@ quoted-first-more separator text more rest first (Some q) some found is behind =
     let same : made ≡ first = cc in
     let next : behind_next separator q.behind ≡ Some rest = ap (λ (f : First). f.behind) same ∙ behind in
     let cut = next-more separator q.behind more rest next in
-    let some_behind : 0 < length q.behind = next-some separator q.behind rest some next in
+    let some_behind : 0 < length q.behind = omega (arith, next-shorter separator q.behind rest some next) in
     ap (first_quoted separator) (quoted-closed text more q found some_behind ∙ ap (option_map (longer more)) found)
     ∙ ap₂ (λ before behind. Some (record { field = record { quoted = true; text = q.content ++ before }; behind = behind })) cut.0 cut.1
     ∙ ap (λ (f : First). Some (firstly (rest ++ more) f)) same
@@ -250,6 +250,11 @@ read-behind field more =
       | inr some ↦ rw some.1 refl
     ]
 
+fields-read-first : (behind : Option (List ℕ)) (field : Field) (more : List ℕ → Option (List Field)) (more_2 : List ℕ → Reading) → ((rest : List ℕ) → more rest ≡ fields_read (more_2 rest))
+    → fields_behind field more behind ≡ fields_read (reading_behind field more_2 behind)
+fields-read-first None field more more_2 same = refl
+fields-read-first (Some rest) field more more_2 same = ap (option_map (λ fields. field ∷ fields)) (same rest) ∙ read-behind field (more_2 rest)
+
 fields-read : (n : ℕ) (separator text : List ℕ) → fields_from n separator text ≡ fields_read (reading_from n separator text)
 fields-read zero separator text = refl
 fields-read (suc n) separator text =
@@ -257,7 +262,6 @@ fields-read (suc n) separator text =
       | inl none ↦ ap (fields_at (fields_from n separator)) none ∙ sym (ap (λ f. fields_read (reading_at (reading_from n separator) text f)) none)
       | inr some ↦
           let first = some.0 in
-          let found = λ (behind : Option (List ℕ)) (is : first.behind ≡ behind). is in
           ap (fields_at (fields_from n separator)) some.1
           ∙ fields-read-first first.behind first.field (fields_from n separator) (reading_from n separator) (λ rest. fields-read n separator rest)
           ∙ sym (ap (λ f. fields_read (reading_at (reading_from n separator) text f)) some.1)
@@ -267,12 +271,64 @@ pub csv-read : (separator text : List ℕ) → csv_fields separator text ≡ fie
 csv-read separator text = fields-read (length text + 1) separator text
 
 -- quotes with more content before them
+joined-more : (content text : List ℕ) (found : Option (List Field))
+    → option_map (λ fields. record { quoted = true; text = content ++ text } ∷ fields) found ≡ option_map (joined [] content) (option_map (λ fields. record { quoted = true; text = text } ∷ fields) found)
+joined-more content text None = refl
+joined-more content text (Some fields) = refl
+
+joined-behind : (content text : List ℕ) (more : List ℕ → Option (List Field)) (behind : Option (List ℕ))
+    → fields_behind (record { quoted = true; text = content ++ text }) more behind ≡ option_map (joined [] content) (fields_behind (record { quoted = true; text = text }) more behind)
+joined-behind content text more None = refl
+joined-behind content text more (Some rest) = joined-more content text (more rest)
+
 joined-first : (separator content : List ℕ) (more : List ℕ → Option (List Field)) (found : Option Quoted)
     → fields_at more (first_quoted separator (option_map (behind_text content) found)) ≡ option_map (joined [] content) (fields_at more (first_quoted separator found))
 joined-first separator content more None = refl
 joined-first separator content more (Some q) =
     ap (λ t. fields_behind (record { quoted = true; text = t }) more (behind_next separator q.behind)) (append_assoc content q.content (before_next separator q.behind))
     ∙ joined-behind content (q.content ++ before_next separator q.behind) more (behind_next separator q.behind)
+
+-- fields that are done, and then more
+joined-cons : (field : Field) (done : List Field) (content : List ℕ) (found : Option (List Field))
+    → option_map (λ fields. field ∷ fields) (option_map (joined done content) found) ≡ option_map (joined (field ∷ done) content) found
+joined-cons field done content None = refl
+joined-cons field done content (Some []) = refl
+joined-cons field done content (Some (f ∷ fields)) = refl
+
+-- a text whose first field is open begins with a quote
+first_quoted-none : (separator : List ℕ) (found : Option Quoted) → first_quoted separator found ≡ None → found ≡ None
+first_quoted-none separator None is = refl
+first_quoted-none separator (Some q) is = absurd (cc)
+
+first-none : (separator text : List ℕ) → first_field separator text ≡ None → (rest : List ℕ) × (text ≡ 34 ∷ rest) × (quoted_at rest ≡ None)
+first-none separator [] is = absurd (cc)
+first-none separator (b ∷ text) is =
+    let at = λ (t : Bool) (quoted plain : Option First). cond t quoted plain in
+    elim (cases_Bool (eqb b 34)) as (λ _. (rest : List ℕ) × (b ∷ text ≡ 34 ∷ rest) × (quoted_at rest ≡ None)) [
+      | inl here ↦
+          let same : b ≡ 34 = grind (arith, nat_tests) in
+          (text, ap (λ c. c ∷ text) same, first_quoted-none separator (quoted_at text) (sym (ap (λ t. at t (first_quoted separator (quoted_at text)) (first_plain separator (b ∷ text))) here) ∙ is))
+      | inr other ↦ absurd (let e : first_plain separator (b ∷ text) ≡ None = sym (ap (λ t. at t (first_quoted separator (quoted_at text)) (first_plain separator (b ∷ text))) other) ∙ is in cc)
+    ]
+
+joined-twice : (done : List Field) (content end : List ℕ) (found : Option (List Field)) → option_map (joined done content) (option_map (joined [] end) found) ≡ option_map (joined done (content ++ end)) found
+joined-twice done content end None = refl
+joined-twice done content end (Some []) = refl
+joined-twice done content end (Some (f ∷ fields)) = ap (λ t. Some (done ++ record { quoted = true; text = t } ∷ fields)) (sym (append_assoc content end f.text))
+
+-- what stands in the quotes behind more fields
+abbrev pub grown : List ℕ → List Field → List ℕ → List ℕ
+grown content [] more = content ++ more
+grown content (field ∷ fields) more = more
+
+joined-joined : (done : List Field) (content : List ℕ) (more : List Field) (more_content : List ℕ) (found : Option (List Field))
+    → option_map (joined done content) (option_map (joined more more_content) found) ≡ option_map (joined (joined done content more) (grown content more more_content)) found
+joined-joined done content more more_content None = refl
+joined-joined done content [] more_content (Some []) = refl
+joined-joined done content (g ∷ more) more_content (Some []) = refl
+joined-joined done content [] more_content (Some (f ∷ fields)) = ap (λ t. Some (done ++ record { quoted = true; text = t } ∷ fields)) (sym (append_assoc content more_content f.text))
+joined-joined done content (g ∷ more) more_content (Some (f ∷ fields)) =
+    ap Some (sym (append_assoc done (record { quoted = true; text = content ++ g.text } ∷ more) (record { quoted = true; text = more_content ++ f.text } ∷ fields)))
 
 -- what is read behind an open quote
 module _ (separator : List ℕ) (some : 0 < length separator) where
@@ -283,11 +339,62 @@ module _ (separator : List ℕ) (some : 0 < length separator) where
       ∙ joined-first separator content (csv_fields separator) (quoted_at more)
       ∙ ap (option_map (joined [] content)) (sym (csv-is separator (34 ∷ more) some))
 
+  opens-none : (text content : List ℕ) → first_field separator text ≡ None → Some (open_text (drop 1 text)) ≡ Some content → Opens separator text [] content
+  opens-none text content is left =
+      let quoted = first-none separator text is in
+      let rest = quoted.0 in
+      let same : open_text rest ≡ content = (let e : open_text (drop 1 text) ≡ content = cc in ap (λ t. open_text (drop 1 t)) (sym quoted.1) ∙ e) in
+      record {
+        goes_on = λ more. ap (λ t. csv_fields separator (t ++ more)) quoted.1
+            ∙ quotes-go_on (open_text rest) rest more (quoted-open rest more quoted.2)
+            ∙ ap (λ c. option_map (joined [] c) (csv_fields separator (34 ∷ more))) same;
+      }
+
+  opens-some : (text rest content : List ℕ) (first : First) → first_field separator text ≡ Some first → first.behind ≡ Some rest → Opens separator rest (csv_reading separator rest).fields content
+      → Opens separator text (first.field ∷ (csv_reading separator rest).fields) content
+  opens-some text rest content first is behind more_is = record {
+    goes_on = λ more. csv-is separator (text ++ more) some
+        ∙ ap (fields_at (csv_fields separator)) (first-more separator text more rest first some is behind)
+        ∙ ap (option_map (λ fields. first.field ∷ fields)) (more_is.goes_on more)
+        ∙ joined-cons first.field (csv_reading separator rest).fields content (csv_fields separator (34 ∷ more));
+  }
+
+  opens-behind : (text content : List ℕ) (first : First) (behind : Option (List ℕ)) → first_field separator text ≡ Some first → first.behind ≡ behind
+      → (reading_behind first.field (csv_reading separator) behind).left_open ≡ Some content
+      → ((rest : List ℕ) → rest_of (first_field separator text) ≡ Some rest → (csv_reading separator rest).left_open ≡ Some content → Opens separator rest (csv_reading separator rest).fields content)
+      → Opens separator text (reading_behind first.field (csv_reading separator) behind).fields content
+  opens-behind text content first None is behind left more = absurd (let e : None ≡ Some content = left in cc)
+  opens-behind text content first (Some rest) is behind left more = opens-some text rest content first is behind (more rest (ap rest_of is ∙ behind) left)
+
+  opens-at : (text : List ℕ) (found : Option First) (content : List ℕ) → first_field separator text ≡ found → (reading_at (csv_reading separator) text found).left_open ≡ Some content
+      → ((rest : List ℕ) → rest_of (first_field separator text) ≡ Some rest → (csv_reading separator rest).left_open ≡ Some content → Opens separator rest (csv_reading separator rest).fields content)
+      → Opens separator text (reading_at (csv_reading separator) text found).fields content
+  opens-at text None content is left more = opens-none text content is left
+  opens-at text (Some first) content is left more = opens-behind text content first first.behind is refl left more
+
   pub opens : (n : ℕ) (text : List ℕ) → length text < n → (content : List ℕ) → (csv_reading separator text).left_open ≡ Some content
       → Opens separator text (csv_reading separator text).fields content
   opens zero text less content is = absurd (omega arith)
   opens (suc n) text less content is =
       let reading = reading-is separator text some in
       let left : (reading_at (csv_reading separator) text (first_field separator text)).left_open ≡ Some content = sym (ap (λ (r : Reading). r.left_open) reading) ∙ is in
-      subst (λ done. Opens separator text done content) (sym (ap (λ (r : Reading). r.fields) reading)) (opens-at text (first_field separator text) refl content left
-      (λ rest here. opens n rest (omega (arith, rest-shorter separator text rest some here))))
+      subst (λ done. Opens separator text done content) (sym (ap (λ (r : Reading). r.fields) reading)) (opens-at text (first_field separator text) content refl left
+      (λ rest here left. opens n rest (omega (arith, rest-shorter separator text rest some here)) content left))
+
+  -- text without quotes goes on in open quotes
+  pub opens-text : (text : List ℕ) (done : List Field) (content end : List ℕ) → Opens separator text done content → ((more : List ℕ) → quoted_at (end ++ more) ≡ option_map (behind_text end) (quoted_at more))
+      → Opens separator (text ++ end) done (content ++ end)
+  opens-text text done content end open_row plain = record {
+    goes_on = λ more. ap (csv_fields separator) (append_assoc text end more) ∙ open_row.goes_on (end ++ more)
+        ∙ ap (option_map (joined done content)) (quotes-go_on end end more (plain more))
+        ∙ joined-twice done content end (csv_fields separator (34 ∷ more));
+  }
+
+  -- a row that is open, and a further text that leaves it open
+  pub opens-more : (text more_text : List ℕ) (done : List Field) (content : List ℕ) (more_done : List Field) (more_content : List ℕ) → Opens separator text done content → Opens separator (34 ∷ more_text) more_done more_content
+      → Opens separator (text ++ more_text) (joined done content more_done) (grown content more_done more_content)
+  opens-more text more_text done content more_done more_content open_row more_row = record {
+    goes_on = λ more. ap (csv_fields separator) (append_assoc text more_text more) ∙ open_row.goes_on (more_text ++ more)
+        ∙ ap (option_map (joined done content)) (more_row.goes_on more)
+        ∙ joined-joined done content more_done more_content (csv_fields separator (34 ∷ more));
+  }

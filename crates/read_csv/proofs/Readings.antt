@@ -119,7 +119,7 @@ rest-shorter separator (b ∷ text) rest some is =
     ]
 
 -- a field, and what follows
-abbrev reading_behind : Field → (List ℕ → Reading) → Option (List ℕ) → Reading
+abbrev pub reading_behind : Field → (List ℕ → Reading) → Option (List ℕ) → Reading
 reading_behind field more behind = elim behind [ None ↦ record { fields = field ∷ []; left_open = None } | Some rest ↦ behind_field field (more rest) ]
 
 -- a text as its first field, and what follows

@@ -42,7 +42,7 @@ behind_row rules row = record rules {
   header = header_behind_row rules row;
   row = row_behind_row row;
   at = ctx_after rules.at (row_gives rules row);
-  stopped = has_fault (row_gives rules row)
+  stopped = has_fault (row_gives rules row);
 }
 
 abbrev pub behind_text : RowRules → List ℕ → RowRules

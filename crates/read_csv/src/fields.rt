@@ -7,9 +7,9 @@ ghost use Rattle.read_csv.specs.Taking.{behind_quoted, behind_row_field, csv_rea
 use crate::escapes::unescape;
 use crate::quotes::{behind, starts_quoted, unquote};
 use crate::row::Row;
+use memchr::memchr;
 use mlr_event::{Format, ReadOpts};
 use mlr_record::split::next_part;
-use memchr::memchr;
 use mlr_spec::{InferOpts, NoMemory};
 
 /// Takes a text of a row without the line end behind it: a line, or a further line of a row whose quotes are open.
@@ -44,7 +44,11 @@ fn take_fields(opts: &ReadOpts, row: &mut Row, text: &[u8]) -> Result<(), NoMemo
 
 /// Takes the first field of a text, and says what stands behind the separator, if there is one.
 #[inline]
-fn take_field<'t>(opts: &ReadOpts, row: &mut Row, text: &'t [u8]) -> Result<Option<&'t [u8]>, NoMemory>
+fn take_field<'t>(
+    opts: &ReadOpts,
+    row: &mut Row,
+    text: &'t [u8],
+) -> Result<Option<&'t [u8]>, NoMemory>
     requires ifs { 0 < length opts.now.ifs }
     requires closed { row.old.quotes ≡ None }
     ensures row { OnOk result (row.new ≡ field_row opts.now row.old text.now) }
@@ -61,7 +65,11 @@ fn take_field<'t>(opts: &ReadOpts, row: &mut Row, text: &'t [u8]) -> Result<Opti
 
 /// Takes the rest of a field from behind its opening quote on, and says what stands behind the separator, if there is
 /// one.
-fn take_quoted<'t>(opts: &ReadOpts, row: &mut Row, text: &'t [u8]) -> Result<Option<&'t [u8]>, NoMemory>
+fn take_quoted<'t>(
+    opts: &ReadOpts,
+    row: &mut Row,
+    text: &'t [u8],
+) -> Result<Option<&'t [u8]>, NoMemory>
     requires { 0 < length opts.now.ifs }
     ensures row { OnOk result (row.new ≡ quoted_row opts.now.ifs row.old text.now) }
     ensures behind { IfOk result (λ found. option_map (λ rest. rest.now) found ≡ behind_quoted opts.now.ifs text.now) }

@@ -1,7 +1,6 @@
 use Rattle.std.proofs.Common.{◌≡◌, List, ℕ, Some, Bor, ap, sym, ◌∙◌}
 use Rattle.std.specs.Option.{option_map}
 use Rattle.mlr_record.specs.Parts.{first_part, behind_first}
-use Rattle.read_csv.specs.Fields.{before_next}
 use Rattle.read_csv.specs.Taking.{behind_quotes, with_text}
 use Rattle.read_csv.proofs.Readings.{closed-row-is, closed-behind-is, part-is, behind-is}
 use Rattle.read_csv.proofs.fields.take_quoted.Goals as goal

@@ -1,6 +1,5 @@
 use Rattle.std.proofs.Common.{◌≡◌, ◌+◌, ◌++◌, ◌∷◌, [], ap, ap₂, sym, ◌∙◌, arith}
 use Rattle.std.specs.Fmt.{decimal}
-use Rattle.read_csv.specs.Rows.{positions_from}
 use Rattle.read_csv.proofs.Recording.{positions-more}
 use Rattle.read_csv.proofs.records.positions.Goals as goal
 

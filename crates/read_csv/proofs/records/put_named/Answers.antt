@@ -1,5 +1,5 @@
-use Rattle.std.proofs.Common.{◌≡◌, ◌+◌, ◌<◌, ◌∷◌, [], ℕ, List, length, map, drop, get_or, ap, sym, ◌∙◌, arith}
-use Rattle.mlr_spec.specs.Tree.{Tree, empty}
+use Rattle.std.proofs.Common.{◌+◌, ◌<◌, [], length, map, drop, get_or, ap, sym, ◌∙◌, arith}
+use Rattle.mlr_spec.specs.Tree.{empty}
 use Rattle.mlr_event.specs.Rows.{with_field}
 use Rattle.mlr_value.specs.Value.{tree_of}
 use Rattle.std.proofs.lemmas.List.{length-map}

@@ -1,4 +1,4 @@
-use Rattle.std.proofs.Common.{◌≡◌, ◌+◌, ◌-◌, ◌≤◌, [], length, map, take, drop}
+use Rattle.std.proofs.Common.{◌≡◌, ◌+◌, ◌-◌, ◌≤◌, length, map, drop}
 use Rattle.mlr_event.specs.Rows.{with_fields}
 use Rattle.mlr_value.specs.Value.{tree_of}
 use Rattle.std.specs.Vec.{vec_len}

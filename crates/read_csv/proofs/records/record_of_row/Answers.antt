@@ -1,7 +1,7 @@
-use Rattle.std.proofs.Common.{rules, ◌≡◌, ◌+◌, ◌-◌, ◌<◌, ◌≤◌, [], ◌∷◌, length, map, take, drop, ap, ap₂, sym, ◌∙◌, arith, length-take}
+use Rattle.std.proofs.Common.{rules, ◌≡◌, ◌+◌, ◌-◌, [], length, map, take, ap, ap₂, sym, ◌∙◌, arith, length-take}
 use Rattle.std.proofs.lemmas.List.{length-map}
 use Rattle.std.specs.Vec.{vec_len}
-use Rattle.mlr_event.specs.Rows.{with_field, with_fields}
+use Rattle.mlr_event.specs.Rows.{with_fields}
 use Rattle.mlr_event.specs.Reading.{record_of}
 use Rattle.mlr_value.specs.Value.{tree_of}
 use Rattle.read_csv.specs.Rows.{positions_from, row_keys}
@@ -13,8 +13,15 @@ put_surplus-requires-clause-record c =
     let header = c.args.header.now in
     let values = map tree_of c.args.values.now.items in
     let named = c.min-named.result in
-    omega (arith, ap length c.in_ok-put_named.ensures.fields, length-take named header, length-take named values, c.min-named.ensures, length-map c.args.values.now.items tree_of,
-      length-with_fields c.args.dedupe [] (take named header) (take named values) (omega (arith, length-take named header, length-take named values, c.min-named.ensures, length-map c.args.values.now.items tree_of)))
+    omega (
+      arith,
+      ap length c.in_ok-put_named.ensures.fields,
+      length-take named header,
+      length-take named values,
+      c.min-named.ensures,
+      length-map c.args.values.now.items tree_of,
+      length-with_fields c.args.dedupe [] (take named header) (take named values) (omega (arith, length-take named header, length-take named values, c.min-named.ensures, length-map c.args.values.now.items tree_of)),
+    )
 
 pub returns-clause-made : goal.returns-clause-made
 returns-clause-made c =

@@ -1,4 +1,4 @@
-use Rattle.std.proofs.Common.{◌≡◌, [], length, ap, sym, ◌∙◌, arith}
+use Rattle.std.proofs.Common.{[], length, ap, arith}
 use Rattle.read_csv.proofs.Recording.{length-distinct}
 use Rattle.read_csv.proofs.header.Header.key.Goals as goal
 

@@ -1,6 +1,6 @@
 use Rattle.std.proofs.Common.{ap, ◌∙◌}
 use Rattle.read_csv.specs.declared.rules.RowRules.{RowRules}
-use Rattle.read_csv.proofs.Whole.{ctx_fed-is, ctx_read-is}
+use Rattle.read_csv.proofs.Files.{ctx_fed-is, ctx_read-is}
 use Rattle.read_csv.proofs.reader.CsvReader.ctx.Goals as goal
 
 pub returns-clause-fed : goal.returns-clause-fed

@@ -4,7 +4,7 @@ use Rattle.mlr_lines.specs.Lines.{ended_lines, begun_line}
 use Rattle.mlr_lines.specs.Standing.{behind}
 use Rattle.read_csv.specs.Rules.{after_line, count_of, gives_last}
 use Rattle.read_csv.specs.Counting.{count-last}
-use Rattle.read_csv.proofs.Whole.{read-is}
+use Rattle.read_csv.proofs.Files.{read-is}
 use Rattle.read_csv.proofs.reader.CsvReader.end.Goals as goal
 
 pub returns-clause-stands : goal.returns-clause-stands

@@ -1,6 +1,6 @@
 use Rattle.std.proofs.Common.{◌++◌, ap, sym, ◌∙◌}
 use Rattle.std.proofs.lemmas.Result.{on_ok_weaker}
-use Rattle.read_csv.proofs.Whole.{fed-is}
+use Rattle.read_csv.proofs.Files.{fed-is}
 use Rattle.read_csv.proofs.reader.CsvReader.feed.Goals as goal
 
 pub returns-clause-stands : goal.returns-clause-stands
