@@ -1,3 +1,4 @@
 pub mod Lines
 pub mod Steps
 pub mod Standing
+pub mod Fronts

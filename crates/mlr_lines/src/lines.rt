@@ -58,6 +58,7 @@ impl<F: LineFormat> Lines<F> {
         requires { CanTake F.count self.old 0 }
         ensures stands { OnOk result ((format : F) (bytes : List ℕ) → Stands F.after self.old format bytes → StandsAtEnd F.after F.after_last self.new format bytes) }
         ensures adds { OnOk result ((format : F) (bytes : List ℕ) → Stands F.after self.old format bytes → out.new ≡ out.old ++ F.gives_last (behind F.after format (ended_lines bytes)) (begun_line bytes)) }
+        ensures step { OnOk result ((line : List ℕ) × (self.new.format ≡ F.after_last self.old.format line)) }
         ensures ended { OnOk result (IsEnded self.new) }
         ensures err { OnErr result (IsBroken self.new) }
     {

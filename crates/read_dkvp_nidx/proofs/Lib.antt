@@ -1,1 +1,4 @@
 pub mod Piecewise
+pub mod Whole
+pub mod Tables
+pub mod Fronts

@@ -1,13 +1,13 @@
 -- Records put together piece by piece and word by word.
 use Rattle.std.proofs.Common.{◌≡◌, ℕ, ◌+◌, ◌^◌, ◌<◌, ◌≤◌, Bool, true, false, cond, not, ◌||◌, eqb, Bor, List, [], ◌∷◌, ◌++◌, length, Option, Some, None, IfSome, refl, ap, sym, subst, ◌∙◌, append_assoc, arith, inl, inr}
 use Rattle.std.specs.Fmt.{decimal}
-use Rattle.std.specs.List.{filter, list_any}
+use Rattle.std.specs.List.{filter}
 use Rattle.std.specs.Option.{option_map}
 use Rattle.std.specs.Str.{bytes_eq}
 use Rattle.std.proofs.lemmas.Bool.{cases_Bool}
 use Rattle.std.proofs.lemmas.Bool.Decides.{nat_tests}
 use Rattle.std.proofs.lemmas.Fmt.{decimal_injective}
-use Rattle.std.proofs.lemmas.List.{append-nil, length-append, map-append}
+use Rattle.std.proofs.lemmas.List.{length-append, map-append}
 use Rattle.std.proofs.lemmas.List.Folds.{list_any-append}
 use Rattle.std.proofs.lemmas.Slice.Eq.{bytes_eq-Decides}
 use Rattle.mlr_spec.specs.Infer.{tree_of_data}
@@ -40,7 +40,7 @@ length-put_at key value (pair ∷ pairs) =
       | inr other ↦ rw other (omega (arith, length-put_at key value pairs))
     ]
 
-length-with_field : (dedupe : Bool) (key : List ℕ) (value : Tree) (pairs : List (List ℕ × Tree)) → length (with_field dedupe key value pairs) ≤ length pairs + 1
+pub length-with_field : (dedupe : Bool) (key : List ℕ) (value : Tree) (pairs : List (List ℕ × Tree)) → length (with_field dedupe key value pairs) ≤ length pairs + 1
 length-with_field true key value pairs = omega (arith, length-append pairs ((free_name (keys_of pairs) key, value) ∷ []))
 length-with_field false key value pairs = length-put_at key value pairs
 

@@ -4,3 +4,8 @@ pub mod Markdown
 pub mod Lines
 pub mod Pieces
 pub mod Row
+pub mod Usable
+pub mod Rules
+pub mod Counting
+pub mod Standing
+pub mod Cells

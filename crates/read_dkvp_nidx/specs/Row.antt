@@ -1,5 +1,7 @@
 -- What a row gives, and where the line behind it stands in its block.
 use Rattle.std.specs.Prelude.{ℕ, List, [], ◌∷◌}
+use Rattle.std.specs.declared.vec.Vec.{Vec}
+use Rattle.std.specs.declared.alloc.Global.{Global}
 use Rattle.mlr_event.specs.Reading.{Item, fields, fault}
 use Rattle.read_dkvp_nidx.specs.declared.block.Block.{Block}
 use Rattle.read_dkvp_nidx.specs.declared.block.Block.TheVariants as place
@@ -21,3 +23,7 @@ abbrev pub place_of : markdown.Block → Block
 place_of markdown.outside = place.Outside
 place_of (markdown.under header) = place.Under header
 place_of (markdown.within header) = place.Within header
+
+-- the cells of a vector
+abbrev pub cells_in : Vec (List ℕ) Global → List (List ℕ)
+cells_in cells = cells.items

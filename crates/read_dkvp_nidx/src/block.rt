@@ -1,10 +1,12 @@
+ghost use Rattle.std.specs.Prelude.{◌≡◌};
+
 use mlr_value::Bytes;
 use std::marker::Model;
 
 /// The cells of a header.
 #[derive(Drop)]
 pub(crate) struct Header {
-    pub(crate) names: Vec<Bytes>,
+    cells: Vec<Bytes>,
 }
 
 impl Model for Header {
@@ -12,7 +14,21 @@ impl Model for Header {
 
     ghost Value = { List (List ℕ) };
 
-    ghost view = { λ header. header.names.items };
+    ghost view = { λ header. header.cells.items };
+}
+
+impl Header {
+    pub(crate) fn new(cells: Vec<Bytes>) -> Self
+        ensures { result ≡ cells.items }
+    {
+        Header { cells }
+    }
+
+    pub(crate) fn cells(&self) -> &[Bytes]
+        ensures { result.now ≡ self.now }
+    {
+        self.cells.as_slice()
+    }
 }
 
 /// Where a line of a Markdown file stands.

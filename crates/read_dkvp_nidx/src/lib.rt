@@ -2,7 +2,18 @@
 #![tactic(auto)]
 
 mod block;
+mod cells;
 mod dkvp;
+mod laws;
+mod markdown;
 mod nidx;
 mod options;
+mod reader;
 mod row;
+mod rules;
+mod take;
+#[cfg(test)]
+mod tests;
+
+pub use laws::front_laws;
+pub use reader::{LineReader, can_read};

@@ -22,3 +22,6 @@ returns-clause-adds g c =
     (λ is format bytes stands. is
     ∙ ap₂ (λ state line. c.args.out.now ++ f.gives_last state line) stands.state (c.unmarked.ensures.text ∙ ap (unmarked_line old.first) c.as_slice.ensures.value ∙ left-is f.after old format bytes stands))
     c.last-ended.ensures.events
+
+pub returns-clause-step : goal.returns-clause-step
+returns-clause-step g c = on_ok_weaker c.last-ended.result (λ is. (c.unmarked.result.now, is)) c.last-ended.ensures.state

@@ -1,0 +1,167 @@
+-- What lines come to one by one is what the file stands for.
+use Rattle.std.proofs.Common.{◌≡◌, ℕ, ◌+◌, Bool, true, false, if◌then◌else◌, List, [], ◌∷◌, ◌++◌, map, refl, ap, ap₂, sym, ◌∙◌}
+use Rattle.std.specs.List.{flat_map}
+use Rattle.std.proofs.lemmas.Bool.{true≢false}
+use Rattle.std.proofs.lemmas.List.{append-nil}
+use Rattle.std.proofs.lemmas.List.Sums.{fold-append}
+use Rattle.mlr_lines.specs.Lines.{ended_lines, begun_line, fixed_lines, whole_lines, last_line, without_return}
+use Rattle.mlr_lines.specs.Standing.{behind, given}
+use Rattle.mlr_lines.proofs.Feeding.{given-append}
+use Rattle.mlr_event.specs.declared.event.Ctx.{Ctx}
+use Rattle.mlr_event.specs.declared.names.FileRef.{FileRef}
+use Rattle.mlr_event.specs.declared.options.Format.{Format}
+use Rattle.mlr_event.specs.declared.options.Format.TheVariants as format
+use Rattle.mlr_event.specs.declared.options.ReadOpts.{ReadOpts}
+use Rattle.mlr_event.specs.Reading.{Item, comment_items, ctx_after, events_of, is_comment}
+use Rattle.mlr_event.specs.Stream.{has_fault, events_behind, ctx_behind}
+use Rattle.mlr_event.proofs.Streams.{events_of-append, ctx_after-append}
+use Rattle.read_dkvp_nidx.specs.declared.rules.LineRules.{LineRules}
+use Rattle.read_dkvp_nidx.specs.Dkvp.{dkvp_line}
+use Rattle.read_dkvp_nidx.specs.Nidx.{nidx_line}
+use Rattle.read_dkvp_nidx.specs.Lines.{items_of_lines, line_fed, line_read}
+use Rattle.read_dkvp_nidx.specs.Markdown as markdown
+use Rattle.read_dkvp_nidx.specs.Row.{block_of, place_of}
+use Rattle.read_dkvp_nidx.specs.Rules.{Begins, after_last, after_line, behind_line, gives_last, gives_line, items_by, items_from, line_block, line_events, plain_items, plain_block}
+use Rattle.read_dkvp_nidx.specs.Standing.{ctx_fed, ctx_read}
+use Rattle.read_dkvp_nidx.specs.Usable.{is_usable_as}
+
+block_of-place : (block : markdown.Block) → block_of (place_of block) ≡ block
+block_of-place markdown.outside = refl
+block_of-place (markdown.under header) = refl
+block_of-place (markdown.within header) = refl
+
+-- the items of lines without their ends, by the rules
+abbrev all_by : LineRules → List (List ℕ) → List Item
+all_by rules texts = items_from rules.opts rules.file rules.number (block_of rules.block) texts
+
+-- behind a line without a fault so far, the items of the others
+abbrev others : LineRules → List ℕ → List (List ℕ) → List Item
+others rules text texts = items_from rules.opts rules.file (rules.number + 1) (line_block rules.opts (block_of rules.block) text) texts
+
+-- behind a fault
+stays : (rules : LineRules) (text : List ℕ) → rules.stopped ≡ true → behind_line rules text ≡ rules
+stays rules text is =
+    let next : LineRules = record rules { number = rules.number + 1; block = place_of (line_block rules.opts (block_of rules.block) text); at = ctx_after rules.at (items_by rules text); stopped = has_fault (items_by rules text) } in
+    ap (λ s. if s then rules else next) is
+
+gives-nothing : (rules : LineRules) (text : List ℕ) → rules.stopped ≡ true → line_events rules text ≡ []
+gives-nothing rules text is = ap (λ s. if s then [] else events_of rules.at (items_by rules text)) is
+
+events-by : (texts : List (List ℕ)) (rules : LineRules) (stopped : Bool) → rules.stopped ≡ stopped → given behind_line line_events rules texts ≡ events_behind stopped rules.at (all_by rules texts)
+events-by [] rules true is = refl
+events-by [] rules false is = refl
+events-by (text ∷ texts) rules true is =
+    ap₂ (λ events r. events ++ given behind_line line_events r texts) (gives-nothing rules text is) (stays rules text is) ∙ events-by texts rules true is
+events-by (text ∷ texts) rules false is =
+    let items = items_by rules text in
+    let block = line_block rules.opts (block_of rules.block) text in
+    let next : LineRules = record rules { number = rules.number + 1; block = place_of block; at = ctx_after rules.at items; stopped = has_fault items } in
+    rw is (
+    ap (λ events. events_of rules.at items ++ events) (
+    events-by texts next (has_fault items) refl
+    ∙ ap (λ b. events_behind (has_fault items) (ctx_after rules.at items) (items_from rules.opts rules.file (rules.number + 1) b texts)) (block_of-place block)
+    )
+    ∙ sym (events_of-append rules.at items (others rules text texts))
+    )
+
+ctx-by : (texts : List (List ℕ)) (rules : LineRules) (stopped : Bool) → rules.stopped ≡ stopped → (behind behind_line rules texts).at ≡ ctx_behind stopped rules.at (all_by rules texts)
+ctx-by [] rules true is = refl
+ctx-by [] rules false is = refl
+ctx-by (text ∷ texts) rules true is = ap (λ r. (behind behind_line r texts).at) (stays rules text is) ∙ ctx-by texts rules true is
+ctx-by (text ∷ texts) rules false is =
+    let items = items_by rules text in
+    let block = line_block rules.opts (block_of rules.block) text in
+    let next : LineRules = record rules { number = rules.number + 1; block = place_of block; at = ctx_after rules.at items; stopped = has_fault items } in
+    rw is (
+    ctx-by texts next (has_fault items) refl
+    ∙ ap (λ b. ctx_behind (has_fault items) (ctx_after rules.at items) (items_from rules.opts rules.file (rules.number + 1) b texts)) (block_of-place block)
+    ∙ sym (ctx_after-append rules.at items (others rules text texts))
+    )
+
+-- lines with their ends
+given-ended : (lines : List (List ℕ)) (rules : LineRules) → given after_line gives_line rules lines ≡ given behind_line line_events rules (map without_return lines)
+given-ended [] rules = refl
+given-ended (line ∷ lines) rules = ap (λ events. gives_line rules line ++ events) (given-ended lines (after_line rules line))
+
+behind-ended : (lines : List (List ℕ)) (rules : LineRules) → behind after_line rules lines ≡ behind behind_line rules (map without_return lines)
+behind-ended [] rules = refl
+behind-ended (line ∷ lines) rules = behind-ended lines (after_line rules line)
+
+gives-last : (line : List ℕ) (rules : LineRules) → gives_last rules line ≡ given behind_line line_events rules (last_line line)
+gives-last [] rules = refl
+gives-last (b ∷ line) rules = sym (append-nil (line_events rules (b ∷ line)))
+
+after-last : (line : List ℕ) (rules : LineRules) → after_last rules line ≡ behind behind_line rules (last_line line)
+after-last [] rules = refl
+after-last (b ∷ line) rules = refl
+
+-- The definitions of the formats say the same by their own words.
+module _ (opts : ReadOpts) (file : FileRef) where
+  dkvp-items : (lines : List (List ℕ)) (n : ℕ) (block : markdown.Block) → opts.format ≡ format.Dkvp → items_from opts file n block lines ≡ flat_map (dkvp_line opts) lines
+  dkvp-items [] n block is = refl
+  dkvp-items (line ∷ lines) n block is =
+      ap₂ (λ f rest. (if is_comment opts.comments line then comment_items opts.comments line else plain_items f opts file n block line) ++ rest) is
+      (dkvp-items lines (n + 1) (line_block opts block line) is)
+
+  nidx-items : (lines : List (List ℕ)) (n : ℕ) (block : markdown.Block) → opts.format ≡ format.Nidx → items_from opts file n block lines ≡ flat_map (nidx_line opts) lines
+  nidx-items [] n block is = refl
+  nidx-items (line ∷ lines) n block is =
+      ap₂ (λ f rest. (if is_comment opts.comments line then comment_items opts.comments line else plain_items f opts file n block line) ++ rest) is
+      (nidx-items lines (n + 1) (line_block opts block line) is)
+
+  markdown-items : (lines : List (List ℕ)) (n : ℕ) (block : markdown.Block) → opts.format ≡ format.Markdown → items_from opts file n block lines ≡ markdown.markdown_lines opts file n block lines
+  markdown-items [] n block is = refl
+  markdown-items (line ∷ lines) n block is =
+      ap₂ (λ f rest. (if is_comment opts.comments line then comment_items opts.comments line else plain_items f opts file n block line) ++ rest) is
+      (markdown-items lines (n + 1) (line_block opts block line) is
+      ∙ ap (λ f. markdown.markdown_lines opts file (n + 1) (if is_comment opts.comments line then block else plain_block f block line) lines) is)
+
+  items-as : (as_format : Format) → opts.format ≡ as_format → is_usable_as as_format opts ≡ true → (lines : List (List ℕ)) → items_from opts file 1 markdown.outside lines ≡ items_of_lines opts file as_format lines
+  items-as format.Dkvp is usable lines = dkvp-items lines 1 markdown.outside is
+  items-as format.Nidx is usable lines = nidx-items lines 1 markdown.outside is
+  items-as format.Markdown is usable lines = markdown-items lines 1 markdown.outside is
+  items-as format.Csv is usable lines = absurd (true≢false (sym usable))
+  items-as format.Tsv is usable lines = absurd (true≢false (sym usable))
+  items-as format.Json is usable lines = absurd (true≢false (sym usable))
+  items-as format.Jsonl is usable lines = absurd (true≢false (sym usable))
+  items-as format.Xtab is usable lines = absurd (true≢false (sym usable))
+  items-as format.Pprint is usable lines = absurd (true≢false (sym usable))
+
+module _ (opts : ReadOpts) (file : FileRef) (start : Ctx) (rules : LineRules) (begins : Begins rules opts file start) where
+  usable-is : is_usable_as opts.format opts ≡ true
+  usable-is = ap (λ o. is_usable_as o.format o) (sym begins.opts_are) ∙ rules.usable
+
+  all-is : (texts : List (List ℕ)) → all_by rules texts ≡ items_of_lines opts file opts.format texts
+  all-is texts =
+      ap (λ o. items_from o rules.file rules.number (block_of rules.block) texts) begins.opts_are
+      ∙ ap (λ f. items_from opts f rules.number (block_of rules.block) texts) begins.file_is
+      ∙ ap₂ (λ n b. items_from opts file n (block_of b) texts) begins.number_is begins.block_is
+      ∙ items-as opts file opts.format refl usable-is texts
+
+  texts-give : (texts : List (List ℕ)) → given behind_line line_events rules texts ≡ events_of start (items_of_lines opts file opts.format texts)
+  texts-give texts = events-by texts rules false begins.goes_on ∙ ap₂ events_of begins.at_is (all-is texts)
+
+  texts-stand : (texts : List (List ℕ)) → (behind behind_line rules texts).at ≡ ctx_after start (items_of_lines opts file opts.format texts)
+  texts-stand texts = ctx-by texts rules false begins.goes_on ∙ ap₂ ctx_after begins.at_is (all-is texts)
+
+  pub fed-is : (bytes : List ℕ) → given after_line gives_line rules (ended_lines bytes) ≡ line_fed opts file start bytes
+  fed-is bytes = given-ended (ended_lines bytes) rules ∙ texts-give (fixed_lines bytes)
+
+  pub ctx_fed-is : (bytes : List ℕ) → (behind after_line rules (ended_lines bytes)).at ≡ ctx_fed opts file start bytes
+  ctx_fed-is bytes = ap (λ r. r.at) (behind-ended (ended_lines bytes) rules) ∙ texts-stand (fixed_lines bytes)
+
+  pub read-is : (bytes : List ℕ) → line_fed opts file start bytes ++ gives_last (behind after_line rules (ended_lines bytes)) (begun_line bytes) ≡ line_read opts file start bytes
+  read-is bytes =
+      let fixed = fixed_lines bytes in
+      let last = last_line (begun_line bytes) in
+      ap₂ (λ events r. events ++ gives_last r (begun_line bytes)) (sym (texts-give fixed)) (behind-ended (ended_lines bytes) rules)
+      ∙ ap (λ events. given behind_line line_events rules fixed ++ events) (gives-last (begun_line bytes) (behind behind_line rules fixed))
+      ∙ sym (given-append behind_line line_events rules fixed last) ∙ texts-give (whole_lines bytes)
+
+  pub ctx_read-is : (bytes : List ℕ) → (after_last (behind after_line rules (ended_lines bytes)) (begun_line bytes)).at ≡ ctx_read opts file start bytes
+  ctx_read-is bytes =
+      let fixed = fixed_lines bytes in
+      let last = last_line (begun_line bytes) in
+      ap (λ r. (after_last r (begun_line bytes)).at) (behind-ended (ended_lines bytes) rules)
+      ∙ ap (λ r. r.at) (after-last (begun_line bytes) (behind behind_line rules fixed) ∙ sym (fold-append behind_line rules fixed last))
+      ∙ texts-stand (whole_lines bytes)

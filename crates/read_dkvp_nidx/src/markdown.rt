@@ -1,0 +1,138 @@
+ghost use Rattle.std.specs.Prelude.{◌≡◌, ◌^◌, ◌<◌, [], length, map, IfOk, OnOk};
+ghost use Rattle.mlr_spec.specs.Infer.{tree_of_data};
+ghost use Rattle.mlr_event.specs.Reading.{record_of};
+ghost use Rattle.read_dkvp_nidx.specs.Markdown.{block_behind, markdown_row, row, row_block, row_items as items_in_block, under};
+ghost use Rattle.read_dkvp_nidx.specs.Row.{block_of, place_of, row_items};
+ghost use Rattle.std.specs.Prelude.{Some};
+
+use crate::block::{Block, Header};
+use crate::cells::{are_rules, cells_of};
+use crate::dkvp::put_text;
+use crate::row::Row;
+use mlr_event::{Fault, FileRef, ReadOpts};
+use mlr_record::Record;
+use mlr_spec::NoMemory;
+use mlr_value::Bytes;
+use std::alloc::Global;
+use std::mem;
+
+/// Where a row stands in its file.
+#[derive(Clone, Copy)]
+pub(crate) struct Place {
+    pub(crate) file: FileRef,
+    pub(crate) line: u64,
+}
+
+/// What a line of a table gives, and where the next line stands then.
+pub(crate) fn markdown_row(
+    alloc: Global,
+    opts: &ReadOpts,
+    place: Place,
+    block: &mut Block,
+    line: &[u8],
+) -> Result<Row, NoMemory>
+    ensures items { IfOk result (λ row. row_items row ≡ markdown_row opts.now place.file place.line (block_of block.old) line.now) }
+    ensures block { OnOk result (block.new ≡ place_of (block_behind (block_of block.old) line.now)) }
+{
+    if line.is_empty() {
+        *block = Block::Outside;
+        return Ok(Row::Nothing);
+    }
+    match cells_of(alloc, line)? {
+        None => Ok(Row::Fault(Fault::Table {
+            file: place.file,
+            line: place.line,
+        })),
+        Some(cells) => table_row(alloc, opts, place, block, cells),
+    }
+}
+
+fn table_row(
+    alloc: Global,
+    opts: &ReadOpts,
+    place: Place,
+    block: &mut Block,
+    cells: Vec<Bytes>,
+) -> Result<Row, NoMemory>
+    ensures items { IfOk result (λ row. row_items row ≡ items_in_block opts.now place.file place.line (block_of block.old) (Some cells.items)) }
+    ensures block { OnOk result (block.new ≡ place_of (row_block (block_of block.old) (Some cells.items))) }
+{
+    let (row, next) = match mem::replace(block, Block::Outside) {
+        Block::Outside => (Row::Nothing, Block::Under(Header::new(cells))),
+        Block::Under(header) => (
+            rule_row(opts, place, header.cells(), cells.as_slice()),
+            Block::Within(header),
+        ),
+        Block::Within(header) => (
+            cells_row(alloc, opts, place, header.cells(), cells.as_slice())?,
+            Block::Within(header),
+        ),
+    };
+    *block = next;
+    Ok(row)
+}
+
+/// What the line under a header gives: nothing, or a fault.
+fn rule_row(opts: &ReadOpts, place: Place, header: &[Bytes], cells: &[Bytes]) -> Row
+    ensures { row_items result ≡ items_in_block opts.now place.file place.line (under header.now) (Some cells.now) }
+{
+    if !are_rules(cells) {
+        return Row::Fault(Fault::Table {
+            file: place.file,
+            line: place.line,
+        });
+    }
+    if cells.len() == header.len() {
+        Row::Nothing
+    } else {
+        Row::Fault(length_fault(place, header, cells))
+    }
+}
+
+/// What a line of cells gives: a record, or a fault.
+fn cells_row(
+    alloc: Global,
+    opts: &ReadOpts,
+    place: Place,
+    header: &[Bytes],
+    cells: &[Bytes],
+) -> Result<Row, NoMemory>
+    requires { length cells.now < 2 ^ 63 }
+    ensures { IfOk result (λ made. row_items made ≡ row opts.now place.file place.line header.now cells.now) }
+{
+    if cells.len() != header.len() {
+        return Ok(Row::Fault(length_fault(place, header, cells)));
+    }
+    let mut record = Record::new(alloc)?;
+    put_cells(alloc, opts, header, cells, &mut record)?;
+    Ok(Row::Fields(record))
+}
+
+fn put_cells(
+    alloc: Global,
+    opts: &ReadOpts,
+    header: &[Bytes],
+    cells: &[Bytes],
+    record: &mut Record,
+) -> Result<(), NoMemory>
+    requires length { length cells.now < 2 ^ 63 }
+    requires same { length cells.now ≡ length header.now }
+    requires empty { record.old ≡ [] }
+    ensures { OnOk result (record.new ≡ record_of opts.now.dedupe header.now (map (tree_of_data opts.now.infer) cells.now)) }
+{
+    for (i, cell) in cells.iter().enumerate() {
+        put_text(alloc, opts, header[i].as_slice(), cell.as_slice(), record)?;
+    }
+    Ok(())
+}
+
+fn length_fault(place: Place, header: &[Bytes], cells: &[Bytes]) -> Fault
+    ensures { result ≡ Fault.Length place.file place.line (length header.now) (length cells.now) }
+{
+    Fault::Length {
+        file: place.file,
+        line: place.line,
+        want: header.len() as u64,
+        have: cells.len() as u64,
+    }
+}

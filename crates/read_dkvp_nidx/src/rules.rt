@@ -1,0 +1,22 @@
+ghost use Rattle.read_dkvp_nidx.specs.Usable.{is_usable};
+ghost use Rattle.std.specs.Prelude.{◌≡◌, true};
+
+use crate::block::Block;
+use mlr_event::{Ctx, FileRef, ReadOpts};
+use std::alloc::Global;
+
+/// How the lines of a file are read, and what came before the next one.
+#[derive(Drop)]
+pub(crate) struct LineRules {
+    pub(crate) alloc: Global,
+    pub(crate) opts: ReadOpts,
+    pub(crate) file: FileRef,
+    /// The number of the next line.
+    pub(crate) number: u64,
+    pub(crate) block: Block,
+    /// The context of the last record.
+    pub(crate) at: Ctx,
+    /// A fault came, and nothing comes behind it.
+    pub(crate) stopped: bool,
+    ghost usable: { is_usable opts ≡ true },
+}
