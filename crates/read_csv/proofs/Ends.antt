@@ -1,11 +1,11 @@
 -- The CR before a line end.
-use Rattle.std.proofs.Common.{◌≡◌, ℕ, zero, suc, ◌+◌, ◌-◌, ◌<◌, Bool, true, false, cond, eqb, List, [], ◌∷◌, ◌++◌, length, take, drop, get_or, Option, Some, None, ◌⊎◌, refl, ap, ap₂, sym, subst, ◌∙◌, append_assoc, arith, inl, inr, add-one}
+use Rattle.std.proofs.Common.{◌≡◌, ℕ, suc, ◌-◌, false, cond, eqb, List, [], ◌∷◌, ◌++◌, length, take, drop, get_or, ◌⊎◌, refl, ap, ap₂, sym, subst, ◌∙◌, append_assoc, arith, inl, inr}
 use Rattle.std.specs.Option.{option_map}
 use Rattle.std.proofs.Math.Seq.{drop-append_seam, drop-length}
 use Rattle.std.proofs.lemmas.Bool.{cases_Bool}
 use Rattle.std.proofs.lemmas.Bool.Decides.{nat_tests}
 use Rattle.mlr_lines.specs.Lines.{without_return}
-use Rattle.read_csv.specs.Fields.{Quoted, quoted_at}
+use Rattle.read_csv.specs.Fields.{quoted_at}
 use Rattle.read_csv.specs.Rules.{line_end}
 use Rattle.read_csv.proofs.Opening.{behind_text, quoted-open, quoted-other}
 

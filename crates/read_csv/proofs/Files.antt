@@ -1,18 +1,18 @@
 -- What a reader has given is what the definition of the format says of the bytes so far.
-use Rattle.std.proofs.Common.{◌≡◌, ℕ, Bool, true, false, cond, List, [], ◌∷◌, ◌++◌, Option, Some, None, refl, ap, ap₂, sym, subst, ◌∙◌, append_assoc}
+use Rattle.std.proofs.Common.{◌≡◌, ℕ, Bool, true, false, cond, List, [], ◌∷◌, ◌++◌, Option, Some, None, refl, ap, ap₂, sym, ◌∙◌, append_assoc}
 use Rattle.mlr_event.specs.declared.event.Ctx.{Ctx}
 use Rattle.mlr_event.specs.declared.event.Event.{Event}
 use Rattle.mlr_event.specs.declared.names.FileRef.{FileRef}
 use Rattle.mlr_event.specs.declared.options.ReadOpts.{ReadOpts}
-use Rattle.mlr_event.specs.Reading.{Item, ctx_after, events_of}
+use Rattle.mlr_event.specs.Reading.{ctx_after, events_of}
 use Rattle.mlr_event.specs.Stream.{has_fault, events_behind, ctx_behind}
 use Rattle.mlr_event.proofs.Streams.{events_of-append, ctx_after-append}
-use Rattle.mlr_lines.specs.Lines.{ended_lines, begun_line, without_return}
+use Rattle.mlr_lines.specs.Lines.{ended_lines, begun_line}
 use Rattle.mlr_lines.specs.Standing.{behind, given}
 use Rattle.std.proofs.lemmas.List.{append-nil}
 use Rattle.read_csv.specs.declared.rules.RowRules.{RowRules}
 use Rattle.read_csv.specs.Rows.{Begun, csv_fed, csv_read, rows_from}
-use Rattle.read_csv.specs.Rules.{after_last, after_line, behind_text, gives_last, gives_line, last_items, text_items}
+use Rattle.read_csv.specs.Rules.{after_last, after_line, behind_text, gives_last, gives_line, last_items}
 use Rattle.read_csv.specs.Standing.{Begins, ctx_fed, ctx_read}
 use Rattle.read_csv.proofs.Walk.{last-step, step}
 use Rattle.read_csv.proofs.Whole.{Fits}

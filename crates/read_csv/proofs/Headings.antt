@@ -1,5 +1,5 @@
 -- Rows of values and rows of fields.
-use Rattle.std.proofs.Common.{◌≡◌, ℕ, zero, suc, Bool, true, false, cond, ◌||◌, eqb, List, [], ◌∷◌, ◌++◌, map, length, drop, Option, Some, None, refl, ap, ap₂, sym, ◌∙◌, inl, inr}
+use Rattle.std.proofs.Common.{◌≡◌, ℕ, Bool, true, false, cond, ◌||◌, eqb, List, [], ◌∷◌, map, length, drop, Option, Some, None, refl, ap, ap₂, ◌∙◌, inl, inr}
 use Rattle.std.specs.Prelude.{nat_le, nat_lt, neg_ℤ, pos, ◌-ℤ◌, ◌^◌, not, ◌&&◌}
 use Rattle.std.proofs.lemmas.Bool.{cases_Bool, true≢false}
 use Rattle.std.proofs.lemmas.List.{length-map}
@@ -7,14 +7,13 @@ use Rattle.mlr_spec.specs.declared.infer.InferOpts.{InferOpts}
 use Rattle.mlr_spec.specs.declared.infer.Kind.{Kind}
 use Rattle.mlr_spec.specs.declared.infer.Kind.TheVariants.{Empty, Str, Int, Frac, Wide}
 use Rattle.mlr_spec.specs.Infer.{kind_of, kind_behind_sign, tree_of_kind, whole, word, is_octal, are_digits, is_based, is_fraction, number, base_of, is_negative, unsigned}
-use Rattle.mlr_spec.specs.Tree.{Tree}
 use Rattle.mlr_event.specs.declared.names.FileRef.{FileRef}
 use Rattle.mlr_event.specs.declared.options.ReadOpts.{ReadOpts}
 use Rattle.mlr_event.specs.declared.fault.Fault.TheVariants.{Length}
-use Rattle.mlr_event.specs.Reading.{Item, fields, fault, record_of}
+use Rattle.mlr_event.specs.Reading.{fields, fault, record_of}
 use Rattle.read_csv.specs.Fields.{Field, quoted_value, value_of}
 use Rattle.read_csv.specs.Headers.{source_of, header_of, values_items, closed_values, values_header}
-use Rattle.read_csv.specs.Rows.{positions_from, row_keys, row_items, first_header, first_items, closed_items, header_behind}
+use Rattle.read_csv.specs.Rows.{positions_from, row_keys, row_items, first_header, closed_items, header_behind}
 
 abbrev is_empty_kind : Kind → Bool
 is_empty_kind Empty = true

@@ -1,12 +1,12 @@
 -- What a text fixes that leaves quotes open: behind it, a text is read as if it stood behind a quote.
-use Rattle.std.proofs.Common.{◌≡◌, ℕ, zero, suc, ◌+◌, ◌-◌, ◌<◌, ◌≤◌, Bool, true, false, cond, eqb, List, [], ◌∷◌, ◌++◌, map, length, take, drop, Option, Some, None, refl, ap, ap₂, sym, subst, ◌∙◌, append_assoc, arith, inl, inr, add-one, length-drop}
+use Rattle.std.proofs.Common.{◌≡◌, ℕ, zero, suc, ◌+◌, ◌<◌, ◌≤◌, Bool, true, false, cond, eqb, List, [], ◌∷◌, ◌++◌, length, take, drop, Option, Some, None, refl, ap, ap₂, sym, subst, ◌∙◌, append_assoc, arith, inl, inr, add-one}
 use Rattle.std.specs.Option.{option_map}
 use Rattle.std.proofs.lemmas.Bool.{cases_Bool}
 use Rattle.std.proofs.lemmas.List.{take-append-le, drop-append-le}
 use Rattle.std.proofs.lemmas.Bool.Decides.{nat_tests}
 use Rattle.std.specs.Str.{bytes_eq}
 use Rattle.mlr_spec.specs.Split.{place_in, begins_with}
-use Rattle.mlr_spec.proofs.Splitting.{cases_Option, place_in-fits, begins_with-fits}
+use Rattle.mlr_spec.proofs.Splitting.{cases_Option, place_in-fits}
 use Rattle.read_csv.specs.Fields.{Field, First, Quoted, quoted_at, with_byte, before_next, behind_next, first_plain, first_quoted, first_field, fields_from, csv_fields}
 use Rattle.read_csv.specs.Taking.{Reading, open_text, reading_from, csv_reading}
 use Rattle.read_csv.proofs.Readings.{rest_of, rest-shorter, next-shorter, reading-is, reading_at, reading_behind}

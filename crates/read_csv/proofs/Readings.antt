@@ -1,17 +1,16 @@
 -- A text of a row, field by field.
-use Rattle.std.proofs.Common.{◌≡◌, ℕ, zero, suc, ◌+◌, ◌<◌, ◌≤◌, Bool, true, false, cond, eqb, List, [], ◌∷◌, ◌++◌, map, length, take, drop, Option, Some, None, refl, ap, ap₂, sym, ◌∙◌, append_assoc, arith, inl, inr, add-one, length-drop}
+use Rattle.std.proofs.Common.{◌≡◌, ℕ, zero, suc, ◌+◌, ◌<◌, ◌≤◌, true, false, eqb, List, [], ◌∷◌, ◌++◌, map, length, drop, Option, Some, None, refl, ap, ap₂, sym, ◌∙◌, append_assoc, arith, inl, inr, add-one, length-drop}
 use Rattle.std.specs.Option.{option_map, unwrap_or, is_some}
 use Rattle.std.proofs.lemmas.Bool.{cases_Bool}
 use Rattle.std.proofs.lemmas.List.{append-nil}
 use Rattle.mlr_spec.specs.declared.infer.InferOpts.{InferOpts}
 use Rattle.mlr_spec.specs.Split.{place_in}
-use Rattle.mlr_spec.specs.Tree.{Tree}
 use Rattle.mlr_spec.proofs.Splitting.{cases_Option, place_in-fits}
 use Rattle.mlr_event.specs.declared.options.ReadOpts.{ReadOpts}
-use Rattle.read_csv.specs.Fields.{Field, First, Quoted, quoted_at, with_byte, before_next, behind_next, first_plain, first_quoted, first_field, fields_from, csv_fields, quoted_value, value_of}
+use Rattle.read_csv.specs.Fields.{Field, First, Quoted, quoted_at, with_byte, before_next, behind_next, first_quoted, first_field, quoted_value, value_of}
 use Rattle.mlr_record.specs.Parts.{first_part, behind_first}
 use Rattle.read_csv.proofs.Quoting.{with_text-twice}
-use Rattle.read_csv.specs.Taking.{Reading, RowState, open_text, inside, behind_quotes, starts_quoted, behind_field, reading_from, csv_reading, in_quotes, with_value, with_text, quoted_row, behind_quoted, field_row, behind_row_field, row_with, row_on, row_reading, row_taken}
+use Rattle.read_csv.specs.Taking.{Reading, RowState, open_text, inside, behind_quotes, behind_field, reading_from, csv_reading, in_quotes, with_value, with_text, quoted_row, behind_quoted, field_row, behind_row_field, row_with, row_on, row_reading, row_taken}
 
 -- a found first field: what it leaves
 abbrev pub rest_of : Option First → Option (List ℕ)

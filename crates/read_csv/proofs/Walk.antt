@@ -1,24 +1,19 @@
 -- The events of a file, line by line, are those of its rows.
-use Rattle.std.proofs.Common.{◌≡◌, ℕ, ◌+◌, ◌<◌, Bool, true, false, cond, not, ◌&&◌, ◌||◌, eqb, List, [], ◌∷◌, ◌++◌, map, length, Option, Some, None, refl, ap, ap₂, sym, subst, ◌∙◌, append_assoc, inl, inr}
+use Rattle.std.proofs.Common.{◌≡◌, ℕ, ◌+◌, ◌<◌, Bool, true, false, cond, not, ◌&&◌, ◌||◌, eqb, List, [], ◌∷◌, ◌++◌, map, length, Option, Some, None, refl, ap, ap₂, sym, ◌∙◌, inl, inr}
 use Rattle.std.specs.Option.{option_map, is_some}
 use Rattle.std.proofs.lemmas.Bool.{cases_Bool, true≢false}
 use Rattle.std.proofs.lemmas.List.{append-nil}
 use Rattle.mlr_event.specs.declared.event.Ctx.{Ctx}
-use Rattle.mlr_event.specs.declared.event.Event.{Event}
 use Rattle.mlr_event.specs.declared.fault.Fault.TheVariants.{Quote}
-use Rattle.mlr_event.specs.declared.names.FileRef.{FileRef}
-use Rattle.mlr_event.specs.declared.options.Comments.{Comments}
 use Rattle.mlr_event.specs.declared.options.ReadOpts.{ReadOpts}
 use Rattle.mlr_event.specs.Reading.{Item, fault, comment_items, ctx_after, events_of, is_comment}
-use Rattle.mlr_event.specs.Stream.{has_fault, events_behind, ctx_behind}
-use Rattle.mlr_event.proofs.Streams.{events_of-append, ctx_after-append, has_fault-comment, ctx_after-comment}
-use Rattle.mlr_lines.specs.Lines.{ended_lines, begun_line, without_return}
-use Rattle.mlr_lines.specs.Standing.{behind, given}
+use Rattle.mlr_event.specs.Stream.{has_fault}
+use Rattle.mlr_event.proofs.Streams.{has_fault-comment, ctx_after-comment}
+use Rattle.mlr_lines.specs.Lines.{without_return}
 use Rattle.read_csv.specs.declared.rules.RowRules.{RowRules}
 use Rattle.read_csv.specs.Fields.{Field, csv_fields, value_of}
-use Rattle.read_csv.specs.Rows.{Begun, begins_at, closed_items, csv_fed, csv_read, end_items, goes_on, header_behind, is_skipped, row_fields, rows_from, skipped_items}
-use Rattle.read_csv.specs.Rules.{after_last, after_line, begins_now, behind_row, behind_text, gives_last, gives_line, is_passed, last_items, line_end, open_items, row_gives, text_items, with_end}
-use Rattle.read_csv.specs.Standing.{Begins, ctx_fed, ctx_read}
+use Rattle.read_csv.specs.Rows.{Begun, begins_at, closed_items, end_items, goes_on, header_behind, is_skipped, row_fields, rows_from, skipped_items}
+use Rattle.read_csv.specs.Rules.{after_line, begins_now, behind_row, behind_text, gives_line, is_passed, last_items, line_end, open_items, row_gives, text_items, with_end}
 use Rattle.read_csv.specs.Taking.{RowState, no_row, row_taken}
 use Rattle.read_csv.proofs.Headings.{closed-are, header-behind}
 use Rattle.read_csv.proofs.Opening.{joined}

@@ -1,19 +1,15 @@
 -- What rows come to line by line is what the file stands for.
-use Rattle.std.proofs.Common.{◌≡◌, ℕ, ◌+◌, ◌<◌, Bool, true, false, cond, not, ◌&&◌, ◌||◌, eqb, List, [], ◌∷◌, ◌++◌, map, length, drop, Option, Some, None, ◌⊎◌, refl, ap, ap₂, sym, subst, ◌∙◌, append_assoc, arith, inl, inr}
-use Rattle.std.specs.Option.{option_map, is_some}
-use Rattle.std.proofs.lemmas.Bool.{cases_Bool, true≢false}
-use Rattle.std.proofs.lemmas.List.{append-nil, length-map, map-append}
-use Rattle.mlr_spec.specs.declared.infer.InferOpts.{InferOpts}
-use Rattle.mlr_spec.specs.Tree.{Tree}
-use Rattle.mlr_spec.proofs.Splitting.{cases_Option}
+use Rattle.std.proofs.Common.{◌≡◌, ℕ, ◌+◌, ◌<◌, true, List, [], ◌∷◌, ◌++◌, map, length, Option, Some, None, ◌⊎◌, refl, ap, ap₂, sym, subst, ◌∙◌, append_assoc, arith, inl, inr}
+use Rattle.std.specs.Option.{option_map}
+use Rattle.std.proofs.lemmas.Bool.{true≢false}
+use Rattle.std.proofs.lemmas.List.{map-append}
 use Rattle.mlr_event.specs.declared.options.Format.{Format}
 use Rattle.mlr_event.specs.declared.options.Format.TheVariants as format
 use Rattle.mlr_event.specs.declared.options.ReadOpts.{ReadOpts}
 use Rattle.mlr_lines.specs.Lines.{without_return}
-use Rattle.read_csv.specs.declared.rules.RowRules.{RowRules}
-use Rattle.read_csv.specs.Fields.{Field, csv_fields, tsv_fields, quoted_value, value_of}
-use Rattle.read_csv.specs.Rows.{Begun, begins_at, goes_on, row_fields}
-use Rattle.read_csv.specs.Rules.{line_end, with_end}
+use Rattle.read_csv.specs.Fields.{Field, csv_fields, tsv_fields, value_of}
+use Rattle.read_csv.specs.Rows.{Begun, goes_on, row_fields}
+use Rattle.read_csv.specs.Rules.{line_end}
 use Rattle.read_csv.specs.Taking.{Reading, RowState, csv_reading, no_row, row_on, row_reading, row_taken, row_with, with_text}
 use Rattle.read_csv.specs.Usable.{is_usable, is_usable_as, has_bytes}
 use Rattle.read_csv.proofs.Ends.{line_end-is, return-behind}

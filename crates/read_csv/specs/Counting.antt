@@ -1,5 +1,5 @@
 -- A line counts one at most: it gives one item at most.
-use Rattle.std.specs.Prelude.{◌≡◌, ℕ, ◌+◌, ◌≤◌, ◌||◌, ◌==◌, Bool, true, false, if◌then◌else◌, List, [], ◌∷◌, length, max, Option, Some, None, is_some}
+use Rattle.std.specs.Prelude.{ℕ, ◌+◌, ◌≤◌, ◌||◌, ◌==◌, Bool, true, false, if◌then◌else◌, List, [], ◌∷◌, length, Option, Some, None, is_some}
 use Rattle.std.proofs.Common.{arith}
 use Rattle.mlr_lines.specs.Lines.{without_return}
 use Rattle.mlr_spec.specs.Tree.{Tree}
@@ -7,10 +7,11 @@ use Rattle.mlr_event.specs.declared.event.Ctx.{Ctx}
 use Rattle.mlr_event.specs.declared.names.FileRef.{FileRef}
 use Rattle.mlr_event.specs.declared.options.ReadOpts.{ReadOpts}
 use Rattle.mlr_event.specs.Reading.{Item, comment, fields, fault, ctx_after}
+use Rattle.mlr_event.specs.Stream.{has_fault}
 use Rattle.read_csv.specs.declared.rules.RowRules.{RowRules}
 use Rattle.read_csv.specs.Taking.{RowState, row_taken}
 use Rattle.read_csv.specs.Headers.{closed_values, header_of, values_items}
-use Rattle.read_csv.specs.Rules.{after_line, begins_now, behind_row, behind_text, count_of, is_passed, line_end, row_gives, with_end}
+use Rattle.read_csv.specs.Rules.{after_last, after_line, begins_now, behind_row, behind_text, count_of, is_passed, last_items, line_end, row_gives, with_end}
 
 few-either : (test : Bool) (items more : List Item) → length items ≤ 1 → length more ≤ 1 → length (if test then items else more) ≤ 1
 few-either true items more few few_more = few
@@ -57,3 +58,9 @@ count-line rules line =
     let next = behind_text rules (without_return line) in
     let one = next-text rules (without_return line) in
     count-either rules.stopped rules (record next { number = next.number + 1; row = with_end next.row (line_end line) }) (omega (arith, one.0, one.1, one.2))
+
+pub count-last : (rules : RowRules) (line : List ℕ) → count_of (after_last rules line) ≤ count_of rules + 1
+count-last rules line =
+    let next = behind_text rules line in
+    let one = next-text rules line in
+    count-either rules.stopped rules (record next { stopped = has_fault (last_items rules line) }) (omega (arith, one.0, one.1, one.2))

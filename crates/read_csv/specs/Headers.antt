@@ -1,5 +1,5 @@
 -- A row of values as a header, and under one.
-use Rattle.std.specs.Prelude.{ℕ, ◌+◌, if◌then◌else◌, Bool, ◌||◌, ◌==◌, List, [], ◌∷◌, map, length, Option, Some, None}
+use Rattle.std.specs.Prelude.{ℕ, if◌then◌else◌, Bool, ◌||◌, ◌==◌, List, [], ◌∷◌, map, length, Option, Some, None}
 use Rattle.mlr_spec.specs.Tree.{Tree, string, int, fraction, wide}
 use Rattle.mlr_event.specs.declared.fault.Fault.TheVariants.{Length}
 use Rattle.mlr_event.specs.declared.names.FileRef.{FileRef}

@@ -1,11 +1,8 @@
 -- Line by line: what a line gives, and what is known behind it.
-use Rattle.std.specs.Prelude.{◌≡◌, ℕ, ◌+◌, not, ◌&&◌, ◌||◌, ◌==◌, Bool, true, false, if◌then◌else◌, List, [], ◌∷◌, ◌++◌, length, drop, max, Option, Some, None, is_some}
+use Rattle.std.specs.Prelude.{ℕ, ◌+◌, not, ◌&&◌, ◌||◌, ◌==◌, Bool, if◌then◌else◌, List, [], ◌∷◌, ◌++◌, length, drop, max, Option, is_some}
 use Rattle.mlr_lines.specs.Lines.{without_return}
-use Rattle.mlr_event.specs.declared.event.Ctx.{Ctx}
 use Rattle.mlr_event.specs.declared.event.Event.{Event}
 use Rattle.mlr_event.specs.declared.fault.Fault.TheVariants.{Quote}
-use Rattle.mlr_event.specs.declared.names.FileRef.{FileRef}
-use Rattle.mlr_event.specs.declared.options.ReadOpts.{ReadOpts}
 use Rattle.mlr_event.specs.Reading.{Item, fault, is_comment, events_of, ctx_after}
 use Rattle.mlr_event.specs.Stream.{has_fault}
 use Rattle.read_csv.specs.declared.rules.RowRules.{RowRules}

@@ -5,7 +5,7 @@ use Rattle.mlr_spec.specs.declared.infer.InferOpts.{InferOpts}
 use Rattle.mlr_spec.specs.Tree.{Tree}
 use Rattle.mlr_event.specs.declared.options.Format.TheVariants as format
 use Rattle.mlr_event.specs.declared.options.ReadOpts.{ReadOpts}
-use Rattle.read_csv.specs.Fields.{Field, First, quoted_at, before_next, behind_next, first_field, tsv_fields, quoted_value, value_of}
+use Rattle.read_csv.specs.Fields.{Field, quoted_at, before_next, behind_next, first_field, tsv_fields, quoted_value, value_of}
 
 -- what stands in quotes that no quote closes
 abbrev pub open_text : List ℕ → List ℕ
