@@ -12,5 +12,7 @@ mod records;
 mod row;
 mod rules;
 mod take;
+#[cfg(test)]
+mod tests;
 
 pub use reader::{CsvReader, can_read};
