@@ -1,0 +1,10 @@
+pub mod Quoting
+pub mod Readings
+pub mod Escaping
+pub mod Recording
+pub mod Opening
+pub mod Ends
+pub mod Whole
+pub mod Headings
+pub mod Walk
+pub mod Files

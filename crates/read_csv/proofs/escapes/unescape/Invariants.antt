@@ -1,0 +1,10 @@
+use Rattle.std.proofs.Common.{◌≡◌, ◌++◌, length}
+use Rattle.read_csv.specs.Fields.{unescaped}
+use Rattle.read_csv.proofs.escapes.unescape.Given as goal
+
+-- what is left comes to what the whole text comes to
+abbrev pub invariant-loop-byte : goal.invariant-loop-byte
+invariant-loop-byte l = l.made.items ++ unescaped l.left ≡ unescaped l.initial.left
+
+abbrev pub decreases-loop-byte : goal.decreases-loop-byte
+decreases-loop-byte l = length l.left

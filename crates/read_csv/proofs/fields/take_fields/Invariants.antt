@@ -1,0 +1,13 @@
+use Rattle.std.proofs.Common.{◌≡◌, None, length}
+use Rattle.read_csv.specs.Taking.{csv_reading, row_with}
+use Rattle.read_csv.proofs.fields.take_fields.Given as goal
+
+-- what is left comes to what the whole text comes to
+abbrev pub invariant-loop-rest : goal.invariant-loop-rest
+invariant-loop-rest l = record {
+  row : row_with l.opts.infer l.row (csv_reading l.opts.ifs l.left) ≡ row_with l.opts.infer l.initial.row (csv_reading l.opts.ifs l.initial.left);
+  closed : l.row.quotes ≡ None;
+}
+
+abbrev pub decreases-loop-rest : goal.decreases-loop-rest
+decreases-loop-rest l = length l.left

@@ -1,0 +1,7 @@
+-- The first byte that a text with escapes stands for.
+use Rattle.std.specs.Prelude.{◌≡◌, ℕ, ◌<◌, List, ◌∷◌, length}
+use Rattle.read_csv.specs.Fields.{unescaped}
+
+pub record Unescapes (text : List ℕ) (byte : ℕ) (rest : List ℕ) : Type 0 where
+  pub more : unescaped text ≡ byte ∷ unescaped rest
+  pub shorter : length rest < length text

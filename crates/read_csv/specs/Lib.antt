@@ -1,0 +1,11 @@
+pub mod Fields
+pub mod Rows
+pub mod Taking
+pub mod Quotes
+pub mod Escapes
+pub mod Headers
+pub mod Usable
+pub mod Given
+pub mod Rules
+pub mod Counting
+pub mod Standing

@@ -1,0 +1,18 @@
+-- Options by which a file can be read row by row.
+use Rattle.std.specs.Prelude.{ℕ, Bool, true, false, List, [], ◌∷◌}
+use Rattle.mlr_event.specs.declared.options.Format.{Format}
+use Rattle.mlr_event.specs.declared.options.Format.TheVariants as format
+use Rattle.mlr_event.specs.declared.options.ReadOpts.{ReadOpts}
+
+abbrev pub has_bytes : List ℕ → Bool
+has_bytes [] = false
+has_bytes (b ∷ text) = true
+
+-- CSV or TSV, with a separator
+abbrev pub is_usable_as : Format → ReadOpts → Bool
+is_usable_as format.Csv opts = has_bytes opts.ifs
+is_usable_as format.Tsv opts = has_bytes opts.ifs
+is_usable_as _ opts = false
+
+abbrev pub is_usable : ReadOpts → Bool
+is_usable opts = is_usable_as opts.format opts

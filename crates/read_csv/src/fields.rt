@@ -1,0 +1,119 @@
+ghost use Rattle.std.specs.Prelude.{◌≡◌, ◌^◌, ◌<◌, ◌≤◌, None, length, IfOk, OnOk, IfSome};
+ghost use Rattle.std.specs.Option.{option_map};
+ghost use Rattle.mlr_spec.specs.Infer.{tree_of_data};
+ghost use Rattle.read_csv.specs.Fields.{unescaped};
+ghost use Rattle.read_csv.specs.Taking.{behind_quoted, behind_row_field, csv_reading, field_row, quoted_row, row_taken, row_with, tsv_reading, with_value};
+
+use crate::escapes::unescape;
+use crate::quotes::{behind, starts_quoted, unquote};
+use crate::row::Row;
+use memchr::memchr;
+use mlr_event::{Format, ReadOpts};
+use mlr_record::split::next_part;
+use mlr_spec::{InferOpts, NoMemory};
+
+/// Takes a text of a row without the line end behind it: a line, or a further line of a row whose quotes are open.
+pub(crate) fn take_text(opts: &ReadOpts, row: &mut Row, text: &[u8]) -> Result<(), NoMemory>
+    requires { 0 < length opts.now.ifs }
+    ensures { OnOk result (row.new ≡ row_taken opts.now row.old text.now) }
+{
+    if row.is_open() {
+        return match take_quoted(opts, row, text)? {
+            Some(rest) => take_fields(opts, row, rest),
+            None => Ok(()),
+        };
+    }
+    match opts.format {
+        Format::Tsv => take_escaped(opts, row, text),
+        _ => take_fields(opts, row, text),
+    }
+}
+
+/// Takes the fields of a text that stands behind no open quote.
+fn take_fields(opts: &ReadOpts, row: &mut Row, text: &[u8]) -> Result<(), NoMemory>
+    requires ifs { 0 < length opts.now.ifs }
+    requires closed { row.old.quotes ≡ None }
+    ensures { OnOk result (row.new ≡ row_with opts.now.infer row.old (csv_reading opts.now.ifs text.now)) }
+{
+    let mut left = text;
+    while let Some(rest) = take_field(opts, row, left)? {
+        left = rest;
+    }
+    Ok(())
+}
+
+/// Takes the first field of a text, and says what stands behind the separator, if there is one.
+#[inline]
+fn take_field<'t>(
+    opts: &ReadOpts,
+    row: &mut Row,
+    text: &'t [u8],
+) -> Result<Option<&'t [u8]>, NoMemory>
+    requires ifs { 0 < length opts.now.ifs }
+    requires closed { row.old.quotes ≡ None }
+    ensures row { OnOk result (row.new ≡ field_row opts.now row.old text.now) }
+    ensures behind { IfOk result (λ found. option_map (λ rest. rest.now) found ≡ behind_row_field opts.now.ifs text.now) }
+    ensures shorter { IfOk result (λ found. IfSome found (λ rest. length rest.now < length text.now)) }
+{
+    if starts_quoted(text) {
+        return take_quoted(opts, row, behind(text, 1));
+    }
+    let (part, rest) = next_part(opts.ifs.as_slice(), text);
+    row.push_plain(part, opts.infer)?;
+    Ok(rest)
+}
+
+/// Takes the rest of a field from behind its opening quote on, and says what stands behind the separator, if there is
+/// one.
+fn take_quoted<'t>(
+    opts: &ReadOpts,
+    row: &mut Row,
+    text: &'t [u8],
+) -> Result<Option<&'t [u8]>, NoMemory>
+    requires { 0 < length opts.now.ifs }
+    ensures row { OnOk result (row.new ≡ quoted_row opts.now.ifs row.old text.now) }
+    ensures behind { IfOk result (λ found. option_map (λ rest. rest.now) found ≡ behind_quoted opts.now.ifs text.now) }
+    ensures shorter { IfOk result (λ found. IfSome found (λ rest. length rest.now < length text.now)) }
+{
+    match unquote(row, text)? {
+        None => Ok(None),
+        Some(behind) => {
+            let (tail, rest) = next_part(opts.ifs.as_slice(), behind);
+            row.append(tail)?;
+            row.close()?;
+            Ok(rest)
+        }
+    }
+}
+
+/// Takes the fields of a line of TSV.
+fn take_escaped(opts: &ReadOpts, row: &mut Row, text: &[u8]) -> Result<(), NoMemory>
+    requires ifs { 0 < length opts.now.ifs }
+    requires closed { row.old.quotes ≡ None }
+    ensures { OnOk result (row.new ≡ row_with opts.now.infer row.old (tsv_reading opts.now.ifs text.now)) }
+{
+    let mut left = text;
+    loop {
+        let (part, rest) = next_part(opts.ifs.as_slice(), left);
+        push_escaped(row, part, opts.infer)?;
+        match rest {
+            None => return Ok(()),
+            Some(rest) => left = rest,
+        }
+    }
+}
+
+/// Puts a field of TSV last.
+#[inline]
+fn push_escaped(row: &mut Row, text: &[u8], infer: InferOpts) -> Result<(), NoMemory>
+    requires { row.old.quotes ≡ None }
+    ensures { OnOk result (row.new ≡ with_value row.old (tree_of_data infer (unescaped text.now))) }
+{
+    match memchr(b'\\', text) {
+        None => row.push_plain(text, infer),
+        Some(_) => {
+            let plain = unescape(row.alloc(), text)?;
+            row.push_plain(plain.as_slice(), infer)
+        }
+    }
+}

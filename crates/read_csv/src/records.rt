@@ -1,0 +1,133 @@
+ghost use Rattle.std.specs.Prelude.{◌≡◌, ◌+◌, ◌-◌, ◌<◌, ◌≤◌, ◌^◌, ◌∷◌, [], length, map, take, drop, min, IfOk, OnOk, vec_len};
+ghost use Rattle.mlr_event.specs.Reading.{record_of};
+ghost use Rattle.mlr_event.specs.Rows.{with_fields};
+ghost use Rattle.mlr_value.specs.Value.{tree_of};
+ghost use Rattle.read_csv.specs.Rows.{positions_from, row_keys};
+ghost use Rattle.read_csv.specs.Headers.{source_of};
+
+use crate::header::{Header, few};
+use itoa::Buffer;
+use mlr_event::rows::put_field;
+use mlr_record::Record;
+use mlr_spec::NoMemory;
+use mlr_value::{Bytes, Value};
+use std::alloc::Global;
+use std::mem;
+
+/// The record of a row of these values, which are taken out.
+pub(crate) fn record_of_row(
+    alloc: Global,
+    dedupe: bool,
+    header: &Header,
+    values: &mut Vec<Value>,
+) -> Result<Record, NoMemory>
+    ensures made { IfOk result (λ made. made ≡ record_of dedupe (row_keys header.now (vec_len values.old)) (map tree_of values.old.items)) }
+    ensures empty { OnOk result (values.new.items ≡ []) }
+{
+    few(values.len())?;
+    let mut record = Record::new(alloc)?;
+    let named = values.len().min(header.len());
+    put_named(dedupe, header, values, named, &mut record)?;
+    put_surplus(alloc, dedupe, values, named, &mut record)?;
+    values.clear();
+    Ok(record)
+}
+
+/// Puts the first values into an empty record, under the names of the header.
+fn put_named(
+    dedupe: bool,
+    header: &Header,
+    values: &mut Vec<Value>,
+    named: usize,
+    record: &mut Record,
+) -> Result<(), NoMemory>
+    requires values { named ≤ vec_len values.old }
+    requires names { named ≤ length header.now }
+    requires few { length header.now < 2 ^ 62 }
+    requires empty { record.old ≡ [] }
+    ensures fields { OnOk result (record.new ≡ with_fields dedupe [] (take named header.now) (take named (map tree_of values.old.items))) }
+    ensures rest { OnOk result (drop named values.new.items ≡ drop named values.old.items) }
+    ensures len { OnOk result (vec_len values.new ≡ vec_len values.old) }
+{
+    for place in 0..named {
+        let value = taken(values, place);
+        if dedupe {
+            record.push(header.key(place), value)?;
+        } else {
+            record.put(header.name(place), value)?;
+        }
+    }
+    Ok(())
+}
+
+/// Puts the values from a place on into the record, each under its position.
+fn put_surplus(
+    alloc: Global,
+    dedupe: bool,
+    values: &mut Vec<Value>,
+    named: usize,
+    record: &mut Record,
+) -> Result<(), NoMemory>
+    requires few { vec_len values.old < 2 ^ 62 }
+    requires record { length record.old ≤ named }
+    ensures { OnOk result (record.new ≡ with_fields dedupe record.old (positions_from (named + 1) (vec_len values.old - named)) (map tree_of (drop named values.old.items))) }
+{
+    for place in named..values.len() {
+        let value = taken(values, place);
+        let mut buffer = Buffer::new();
+        put_field(
+            alloc,
+            record,
+            buffer.format(place + 1).as_bytes(),
+            value,
+            dedupe,
+        )?;
+    }
+    Ok(())
+}
+
+/// Takes the value at this place.
+#[inline]
+fn taken(values: &mut Vec<Value>, place: usize) -> Value
+    requires { place < vec_len values.old }
+    ensures value { drop place values.old.items ≡ result ∷ drop (place + 1) values.new.items }
+    ensures len { vec_len values.new ≡ vec_len values.old }
+{
+    mem::replace(&mut values[place], Value::Empty)
+}
+
+/// The keys 1, 2, 3 and so on.
+pub(crate) fn positions(alloc: Global, count: usize) -> Result<Vec<Bytes>, NoMemory>
+    ensures { IfOk result (λ made. made.items ≡ positions_from 1 count) }
+{
+    few(count)?;
+    let mut made = Vec::with_capacity(alloc, count)?;
+    for place in 0..count {
+        let mut buffer = Buffer::new();
+        made.push(Bytes::copy_of(alloc, buffer.format(place + 1).as_bytes())?)?;
+    }
+    Ok(made)
+}
+
+/// The texts of values from data.
+pub(crate) fn texts(alloc: Global, values: &[Value]) -> Result<Vec<Bytes>, NoMemory>
+    ensures { IfOk result (λ made. made.items ≡ map source_of (map tree_of values.now)) }
+{
+    let mut made = Vec::with_capacity(alloc, values.len())?;
+    for value in values {
+        made.push(Bytes::copy_of(alloc, source_text(value))?)?;
+    }
+    Ok(made)
+}
+
+/// The text of a value from data.
+#[inline]
+fn source_text(value: &Value) -> &[u8]
+    ensures { result.now ≡ source_of (tree_of value.now) }
+{
+    match value {
+        Value::Str(text) | Value::Frac(text) | Value::Wide(text) => text.as_slice(),
+        Value::Int(int) => int.spelling.as_slice(),
+        _ => b"",
+    }
+}

@@ -1,0 +1,144 @@
+ghost use Rattle.std.specs.Prelude.{◌≡◌, OnOk, IfOk, is_some, None, length, map};
+ghost use Rattle.mlr_spec.specs.Infer.{tree_of_data};
+ghost use Rattle.mlr_event.specs.Reading.{record_of};
+ghost use Rattle.read_csv.specs.Headers.{source_of};
+ghost use Rattle.read_csv.specs.Rows.{row_keys};
+ghost use Rattle.read_csv.specs.Fields.{quoted_value};
+ghost use Rattle.read_csv.specs.Taking.{in_quotes, no_row, with_text, with_value};
+
+use crate::header::Header;
+use crate::records::{record_of_row, texts};
+use mlr_record::Record;
+use mlr_spec::{InferOpts, NoMemory};
+use mlr_value::{Bytes, Value, from_data};
+use std::alloc::Global;
+use std::marker::Model;
+
+/// A row that is being read. It is kept for the next one, with its room.
+#[derive(Drop)]
+pub(crate) struct Row {
+    alloc: Global,
+    /// The fields that have ended.
+    values: Vec<Value>,
+    /// Whether the quotes of the next one are open.
+    quoted: bool,
+    /// What stands in them so far.
+    text: Vec<u8>,
+}
+
+impl Model for Row {
+    ghost use Rattle.std.specs.Prelude.{◌≡◌, false, [], if◌then◌else◌, map, Some, None};
+    ghost use Rattle.std.specs.Coded.{codes};
+    ghost use Rattle.mlr_spec.specs.TreeCode.{coded_tree};
+    ghost use Rattle.mlr_value.specs.Value.{tree_of};
+    ghost use Rattle.read_csv.specs.Taking.{RowState};
+
+    ghost Value = { RowState };
+
+    ghost coded = { Prim.hlevel (codes, coded_tree) };
+
+    ghost view = { λ row. record { values = map tree_of row.values.items; quotes = (if row.quoted then Some row.text.items else None) } };
+
+    ghost invariant = { λ row. row.quoted ≡ false → row.text.items ≡ [] };
+}
+
+impl Row {
+    /// A row of no fields. It takes no memory.
+    pub(crate) fn new(alloc: Global) -> Self
+        ensures { result ≡ no_row }
+    {
+        Row {
+            alloc,
+            values: Vec::new(alloc),
+            quoted: false,
+            text: Vec::new(alloc),
+        }
+    }
+
+    /// Where its memory comes from.
+    #[inline]
+    pub(crate) fn alloc(&self) -> Global {
+        self.alloc
+    }
+
+    /// Whether quotes are open.
+    #[inline]
+    pub(crate) fn is_open(&self) -> bool
+        ensures { result ≡ is_some self.now.quotes }
+    {
+        self.quoted
+    }
+
+    /// Puts a field of this text last that stands in no quotes.
+    #[inline]
+    pub(crate) fn push_plain(&mut self, text: &[u8], infer: InferOpts) -> Result<(), NoMemory>
+        requires { self.old.quotes ≡ None }
+        ensures { OnOk result (self.new ≡ with_value self.old (tree_of_data infer text.now)) }
+    {
+        self.values.push(from_data(self.alloc, text, infer)?)?;
+        Ok(())
+    }
+
+    /// Puts more text into the quotes, and opens them if they aren't.
+    #[inline]
+    pub(crate) fn append(&mut self, text: &[u8]) -> Result<(), NoMemory>
+        ensures { OnOk result (self.new ≡ with_text self.old text.now) }
+    {
+        self.quoted = true;
+        self.text.extend_from_slice(text)?;
+        Ok(())
+    }
+
+    /// Puts what stands in the quotes last, as a field, and closes them.
+    pub(crate) fn close(&mut self) -> Result<(), NoMemory>
+        ensures { OnOk result (self.new ≡ with_value self.old (quoted_value (in_quotes self.old))) }
+    {
+        let value = if self.text.is_empty() {
+            Value::Empty
+        } else {
+            Value::Str(Bytes::copy_of(self.alloc, self.text.as_slice())?)
+        };
+        self.values.push(value)?;
+        self.quoted = false;
+        self.text.clear();
+        Ok(())
+    }
+
+    /// How many fields have ended.
+    #[inline]
+    pub(crate) fn len(&self) -> usize
+        ensures { result ≡ length self.now.values }
+    {
+        self.values.len()
+    }
+
+    /// Drops all fields.
+    pub(crate) fn clear(&mut self)
+        ensures { self.new ≡ no_row }
+    {
+        self.values.clear();
+        self.quoted = false;
+        self.text.clear();
+    }
+
+    /// The texts of the fields that have ended.
+    pub(crate) fn texts(&self, alloc: Global) -> Result<Vec<Bytes>, NoMemory>
+        ensures { IfOk result (λ made. made.items ≡ map source_of self.now.values) }
+    {
+        texts(alloc, self.values.as_slice())
+    }
+
+    /// Takes the fields out, as a record.
+    pub(crate) fn record(
+        &mut self,
+        alloc: Global,
+        dedupe: bool,
+        header: &Header,
+    ) -> Result<Record, NoMemory>
+        requires { self.old.quotes ≡ None }
+        ensures made { IfOk result (λ made. made ≡ record_of dedupe (row_keys header.now (length self.old.values)) self.old.values) }
+        ensures empty { OnOk result (self.new ≡ no_row) }
+    {
+        record_of_row(alloc, dedupe, header, &mut self.values)
+    }
+}
