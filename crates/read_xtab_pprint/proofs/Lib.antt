@@ -1,0 +1,3 @@
+pub mod Wording
+pub mod Turns
+pub mod Longer

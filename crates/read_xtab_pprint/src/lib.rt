@@ -1,6 +1,13 @@
-//! Scratch.
+//! Readers of XTAB and PPRINT: formats in which an empty line ends a block of lines.
 #![tactic(auto)]
 
-pub fn one() -> u8 {
-    1
-}
+mod cells;
+mod fields;
+mod header;
+mod options;
+mod pprint;
+mod row;
+mod rules;
+mod table;
+mod words;
+mod xtab;
