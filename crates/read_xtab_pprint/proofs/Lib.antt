@@ -1,3 +1,5 @@
 pub mod Wording
 pub mod Turns
-pub mod Longer
+pub mod Pprinting
+pub mod Xtabbing
+pub mod Whole

@@ -42,10 +42,10 @@ split-of [] = record { tail = []; parts = refl; words = refl }
 split-of (b ∷ text) =
     elim (cases_Bool (is_space b)) as (λ _. Split (b ∷ text)) [
       | inl it_is ↦ record {
-          tail = slice_split is_space text;
-          parts = slice_split-cons_yes is_space b text it_is ∙ ap (λ n. take n (b ∷ text) ∷ slice_split is_space text) (sym (place-yes b text it_is));
-          words = sym (ap (λ n. words_of (drop n (b ∷ text))) (place-yes b text it_is) ∙ ap (filter is_word) (slice_split-cons_yes is_space b text it_is));
-        }
+        tail = slice_split is_space text;
+        parts = slice_split-cons_yes is_space b text it_is ∙ ap (λ n. take n (b ∷ text) ∷ slice_split is_space text) (sym (place-yes b text it_is));
+        words = sym (ap (λ n. words_of (drop n (b ∷ text))) (place-yes b text it_is) ∙ ap (filter is_word) (slice_split-cons_yes is_space b text it_is));
+      }
       | inr it_isnt ↦
           let later = split-of text in record {
             tail = later.tail;
@@ -68,7 +68,7 @@ cut-here b text it_isnt =
     let later = filter is_word all.tail in
     let word-is : word ≡ b ∷ before_first is_space text = ap (λ n. take n (b ∷ text)) (place-no b text it_isnt) in (
       ap (filter is_word) all.parts ∙ ap (λ w. cond (is_word w) (w ∷ later) later) word-is ∙ word-kept b (before_first is_space text) later
-      ∙ ap₂ (λ w words. w ∷ words) (sym word-is) (all.words ∙ ap (λ n. words_of (drop n (b ∷ text))) (sym (length-word (b ∷ text)))),
+          ∙ ap₂ (λ w words. w ∷ words) (sym word-is) (all.words ∙ ap (λ n. words_of (drop n (b ∷ text))) (sym (length-word (b ∷ text)))),
       omega (arith, length-drop (length word) (b ∷ text), ap length word-is),
     )
 

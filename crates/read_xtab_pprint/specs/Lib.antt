@@ -5,3 +5,8 @@ pub mod Words
 pub mod Cells
 pub mod PprintRules
 pub mod XtabRules
+pub mod Usable
+pub mod Last
+pub mod Rules
+pub mod Counting
+pub mod Standing

@@ -6,8 +6,12 @@ mod fields;
 mod header;
 mod options;
 mod pprint;
+mod reader;
 mod row;
 mod rules;
 mod table;
+mod take;
 mod words;
 mod xtab;
+
+pub use reader::{BlockReader, can_read};

@@ -1,5 +1,6 @@
 ghost use Rattle.std.specs.Prelude.{◌≡◌, ◌^◌, ◌<◌, ◌++◌, OnOk, false};
 ghost use Rattle.mlr_event.specs.Reading.{events_of};
+ghost use Rattle.read_xtab_pprint.specs.Last.{pprint_after_last, pprint_gives_last};
 ghost use Rattle.read_xtab_pprint.specs.PprintRules.{behind_row, plain_items, pprint_after, pprint_count, pprint_events};
 
 use crate::row::Row;
@@ -10,6 +11,18 @@ use mlr_event::{Event, Events};
 use mlr_spec::NoMemory;
 
 impl PprintRules {
+    /// Takes what is left at the end of the file.
+    pub(crate) fn take_last(&mut self, line: &[u8], out: &mut Events) -> Result<(), NoMemory>
+        requires { pprint_count self.old < 2 ^ 63 }
+        ensures state { OnOk result (self.new ≡ pprint_after_last self.old line.now) }
+        ensures events { OnOk result (out.new ≡ out.old ++ pprint_gives_last self.old line.now) }
+    {
+        if line.is_empty() {
+            return Ok(());
+        }
+        self.take(line, out)
+    }
+
     /// Takes a line without its end.
     pub(crate) fn take(&mut self, line: &[u8], out: &mut Events) -> Result<(), NoMemory>
         requires { pprint_count self.old < 2 ^ 63 }

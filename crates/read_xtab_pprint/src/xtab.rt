@@ -1,4 +1,5 @@
 ghost use Rattle.std.specs.Prelude.{◌≡◌, ◌^◌, ◌<◌, ◌-◌, ◌++◌, length, OnOk};
+ghost use Rattle.read_xtab_pprint.specs.Last.{xtab_after_last, xtab_gives_last};
 ghost use Rattle.read_xtab_pprint.specs.Xtab.{is_gap, without_spaces};
 ghost use Rattle.read_xtab_pprint.specs.XtabRules.{behind_gap, begun_pairs, gap_events, with_text, xtab_after, xtab_count, xtab_events};
 
@@ -13,6 +14,19 @@ use std::alloc::Global;
 use std::mem;
 
 impl XtabRules {
+    /// Takes what is left at the end of the file.
+    pub(crate) fn take_last(&mut self, line: &[u8], out: &mut Events) -> Result<(), NoMemory>
+        requires { xtab_count self.old < 2 ^ 63 }
+        ensures state { OnOk result (self.new ≡ xtab_after_last self.old line.now) }
+        ensures events { OnOk result (out.new ≡ out.old ++ xtab_gives_last self.old line.now) }
+    {
+        if line.is_empty() {
+            return self.give(out);
+        }
+        self.take(line, out)?;
+        self.give(out)
+    }
+
     /// Takes a line without its end.
     pub(crate) fn take(&mut self, line: &[u8], out: &mut Events) -> Result<(), NoMemory>
         requires { xtab_count self.old < 2 ^ 63 }
@@ -30,7 +44,7 @@ impl XtabRules {
     }
 
     /// Gives the comments that were passed and the record that has begun.
-    pub(crate) fn give(&mut self, out: &mut Events) -> Result<(), NoMemory>
+    fn give(&mut self, out: &mut Events) -> Result<(), NoMemory>
         requires { xtab_count self.old < 2 ^ 64 - 1 }
         ensures state { OnOk result (self.new ≡ behind_gap self.old) }
         ensures events { OnOk result (out.new ≡ out.old ++ gap_events self.old) }

@@ -5,7 +5,7 @@ use Rattle.mlr_event.specs.Rows.{with_field, with_fields}
 use Rattle.mlr_event.proofs.Putting.{with_fields-more}
 use Rattle.read_xtab_pprint.specs.Cells.{cells_left}
 use Rattle.read_xtab_pprint.specs.Pprint.{words_of}
-use Rattle.read_xtab_pprint.proofs.Longer.{length-with_field}
+use Rattle.read_xtab_pprint.specs.Counting.{length-with_field}
 use Rattle.read_xtab_pprint.proofs.table.put_cells.Goals as goal
 
 at-place : (texts : List (List ℕ)) (i : ℕ) (text : List ℕ) → i < length texts → text ≡ get_or texts i text → drop i texts ≡ text ∷ drop (i + 1) texts
