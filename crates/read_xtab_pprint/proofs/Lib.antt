@@ -3,3 +3,4 @@ pub mod Turns
 pub mod Pprinting
 pub mod Xtabbing
 pub mod Whole
+pub mod Fronts

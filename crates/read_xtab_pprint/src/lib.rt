@@ -4,6 +4,7 @@
 mod cells;
 mod fields;
 mod header;
+mod laws;
 mod options;
 mod pprint;
 mod reader;
@@ -11,7 +12,10 @@ mod row;
 mod rules;
 mod table;
 mod take;
+#[cfg(test)]
+mod tests;
 mod words;
 mod xtab;
 
+pub use laws::front_laws;
 pub use reader::{BlockReader, can_read};
