@@ -4,3 +4,4 @@ pub mod Pprinting
 pub mod Xtabbing
 pub mod Whole
 pub mod Fronts
+pub mod Naming

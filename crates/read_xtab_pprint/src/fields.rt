@@ -1,5 +1,6 @@
-ghost use Rattle.std.specs.Prelude.{◌≡◌, ◌^◌, ◌<◌, length, OnOk};
+ghost use Rattle.std.specs.Prelude.{◌≡◌, ◌^◌, ◌<◌, ◌++◌, ◌∷◌, [], None, length, OnOk};
 ghost use Rattle.mlr_spec.specs.Infer.{tree_of_data};
+ghost use Rattle.mlr_spec.specs.Pairs.{value_at};
 ghost use Rattle.mlr_event.specs.Rows.{with_field};
 
 use mlr_event::ReadOpts;
@@ -23,4 +24,20 @@ pub(crate) fn put_text(
 {
     let value = from_data(alloc, text, opts.infer)?;
     put_field(alloc, record, key, value, opts.dedupe)
+}
+
+/// Puts a field of this text last, whose name the record doesn't have. It makes no search.
+#[inline]
+pub(crate) fn push_text(
+    alloc: Global,
+    opts: &ReadOpts,
+    key: &[u8],
+    text: &[u8],
+    record: &mut Record,
+) -> Result<(), NoMemory>
+    requires { value_at key.now record.old ≡ None }
+    ensures { OnOk result (record.new ≡ record.old ++ (key.now, tree_of_data opts.now.infer text.now) ∷ []) }
+{
+    let value = from_data(alloc, text, opts.infer)?;
+    record.push(key, value)
 }

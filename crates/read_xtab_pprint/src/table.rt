@@ -1,12 +1,13 @@
-ghost use Rattle.std.specs.Prelude.{◌≡◌, ◌^◌, ◌<◌, [], Some, length, map, IfOk, OnOk};
+ghost use Rattle.std.specs.Prelude.{◌≡◌, ◌^◌, ◌<◌, [], Some, length, map, true, IfOk, OnOk};
 ghost use Rattle.mlr_spec.specs.Infer.{tree_of_data};
-ghost use Rattle.mlr_event.specs.Reading.{record_of};
+ghost use Rattle.mlr_spec.specs.Pairs.{are_distinct};
+ghost use Rattle.mlr_event.specs.Reading.{paired, record_of};
 ghost use Rattle.read_xtab_pprint.specs.Cells.{cells_in};
 ghost use Rattle.read_xtab_pprint.specs.Pprint.{cells_items, header_behind, is_rule, row};
 ghost use Rattle.read_xtab_pprint.specs.PprintRules.{plain_header, plain_items, row_items};
 
 use crate::cells::{copy_cells, count_cells, is_barred, next_cell};
-use crate::fields::put_text;
+use crate::fields::{push_text, put_text};
 use crate::header::Header;
 use crate::row::Row;
 use mlr_event::{Fault, FileRef, ReadOpts};
@@ -74,11 +75,8 @@ fn cells_row(
     ensures header { OnOk result (header.new ≡ header_behind header.old (Some (cells_in line.now))) }
 {
     let (row, next) = match mem::replace(header, None) {
-        None => (Row::Nothing, Header::new(copy_cells(alloc, line)?)),
-        Some(known) => (
-            row_under(alloc, opts, place, known.cells(), line, count)?,
-            known,
-        ),
+        None => (Row::Nothing, Header::new(alloc, copy_cells(alloc, line)?)?),
+        Some(known) => (row_under(alloc, opts, place, &known, line, count)?, known),
     };
     *header = Some(next);
     Ok(row)
@@ -89,27 +87,72 @@ fn row_under(
     alloc: Global,
     opts: &ReadOpts,
     place: Place,
-    header: &[Bytes],
+    header: &Header,
     line: &[u8],
     count: usize,
 ) -> Result<Row, NoMemory>
-    requires count { count ≡ length (cells_in line.now) }
-    requires length { length header.now < 2 ^ 63 }
+    requires { count ≡ length (cells_in line.now) }
     ensures { IfOk result (λ made. row_items made ≡ row opts.now place.file place.line header.now (cells_in line.now)) }
 {
-    if count != header.len() {
+    let cells = header.cells();
+    if count != cells.len() {
         return Ok(Row::Fault(Fault::Length {
             file: place.file,
             line: place.line,
-            want: header.len() as u64,
+            want: cells.len() as u64,
             have: count as u64,
         }));
     }
     let mut record = Record::new(alloc)?;
-    put_cells(alloc, opts, header, line, &mut record)?;
+    fill(alloc, opts, header, line, &mut record)?;
     Ok(Row::Fields(record))
 }
 
+/// Puts the cells of a line, as many as those of the header, into an empty record.
+fn fill(
+    alloc: Global,
+    opts: &ReadOpts,
+    header: &Header,
+    line: &[u8],
+    record: &mut Record,
+) -> Result<(), NoMemory>
+    requires same { length (cells_in line.now) ≡ length header.now }
+    requires empty { record.old ≡ [] }
+    ensures { OnOk result (record.new ≡ record_of opts.now.dedupe header.now (map (tree_of_data opts.now.infer) (cells_in line.now))) }
+{
+    let cells = header.cells();
+    if opts.dedupe {
+        push_cells(alloc, opts, header.names(), line, record)
+    } else {
+        put_cells(alloc, opts, cells, line, record)
+    }
+}
+
+/// Puts them under names that are distinct.
+fn push_cells(
+    alloc: Global,
+    opts: &ReadOpts,
+    names: &[Bytes],
+    line: &[u8],
+    record: &mut Record,
+) -> Result<(), NoMemory>
+    requires distinct { are_distinct names.now ≡ true }
+    requires same { length (cells_in line.now) ≡ length names.now }
+    requires empty { record.old ≡ [] }
+    ensures { OnOk result (record.new ≡ paired names.now (map (tree_of_data opts.now.infer) (cells_in line.now))) }
+{
+    let barred = is_barred(line);
+    let mut place = 0;
+    let mut left = line;
+    while let Some((cell, rest)) = next_cell(barred, left) {
+        push_text(alloc, opts, names[place].as_slice(), cell, record)?;
+        place += 1;
+        left = rest;
+    }
+    Ok(())
+}
+
+/// Puts them under names that may repeat.
 fn put_cells(
     alloc: Global,
     opts: &ReadOpts,

@@ -1,15 +1,12 @@
 use Rattle.std.proofs.Common.{◌≡◌, ◌+◌, ◌<◌, ◌∷◌, List, ℕ, length, drop, map, get_or, ap, ap₂, sym, ◌∙◌, arith, add-one}
-use Rattle.std.proofs.Math.Seq.{drop-cons}
 use Rattle.mlr_spec.specs.Infer.{tree_of_data}
 use Rattle.mlr_event.specs.Rows.{with_field, with_fields}
 use Rattle.mlr_event.proofs.Putting.{with_fields-more}
 use Rattle.read_xtab_pprint.specs.Cells.{cells_left}
 use Rattle.read_xtab_pprint.specs.Pprint.{words_of}
 use Rattle.read_xtab_pprint.specs.Counting.{length-with_field}
+use Rattle.read_xtab_pprint.proofs.Naming.{at-place}
 use Rattle.read_xtab_pprint.proofs.table.put_cells.Goals as goal
-
-at-place : (texts : List (List ℕ)) (i : ℕ) (text : List ℕ) → i < length texts → text ≡ get_or texts i text → drop i texts ≡ text ∷ drop (i + 1) texts
-at-place texts i text below is = drop-cons texts i text below ∙ ap₂ (λ t n. t ∷ drop n texts) (sym is) (sym (add-one i))
 
 pub loop-cell-preserved : goal.loop-cell-preserved
 loop-cell-preserved c =
