@@ -1,5 +1,5 @@
 -- The cells of a line, with bars or without.
-use Rattle.std.proofs.Common.{◌≡◌, ℕ, ◌+◌, ◌<◌, Bool, true, false, cond, List, [], ◌∷◌, length, Option, Some, None, refl, ap, ap₂, sym, subst, ◌∙◌, arith, inl, inr}
+use Rattle.std.proofs.Common.{◌≡◌, ℕ, ◌<◌, Bool, true, false, cond, List, [], ◌∷◌, length, Option, Some, None, refl, ap, sym, ◌∙◌, arith, inl, inr}
 use Rattle.std.proofs.lemmas.Bool.{cases_Bool}
 use Rattle.read_xtab_pprint.specs.Cells.{IsCount, cells_in, cells_left, is_barred, second_words, takes_turns}
 use Rattle.read_xtab_pprint.specs.Pprint.{between_bars, cells_of, is_bar, some_cells, words_of}

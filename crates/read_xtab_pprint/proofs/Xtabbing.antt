@@ -1,14 +1,14 @@
 -- XTAB: what lines come to one by one is what the definition says.
-use Rattle.std.proofs.Common.{◌≡◌, ℕ, Bool, true, false, cond, List, [], ◌∷◌, ◌++◌, map, Option, Some, None, refl, ap, ap₂, sym, ◌∙◌, inl, inr}
+use Rattle.std.proofs.Common.{◌≡◌, ℕ, false, List, [], ◌∷◌, ◌++◌, map, Option, Some, None, refl, ap, ap₂, sym, ◌∙◌, inl, inr}
 use Rattle.std.proofs.lemmas.Bool.{cases_Bool}
-use Rattle.std.proofs.lemmas.List.{append-nil, map-append}
+use Rattle.std.proofs.lemmas.List.{append-nil}
 use Rattle.mlr_spec.specs.Infer.{tree_of_data}
 use Rattle.mlr_spec.specs.Tree.{Tree}
 use Rattle.mlr_lines.specs.Lines.{last_line}
 use Rattle.mlr_lines.specs.Standing.{behind, given}
 use Rattle.mlr_event.specs.declared.event.Ctx.{Ctx}
 use Rattle.mlr_event.specs.declared.options.ReadOpts.{ReadOpts}
-use Rattle.mlr_event.specs.Reading.{Item, fields, comment_items, ctx_after, events_of, is_comment, record_of}
+use Rattle.mlr_event.specs.Reading.{Item, comment_items, ctx_after, events_of, is_comment, record_of}
 use Rattle.mlr_event.specs.Rows.{with_field, with_fields}
 use Rattle.mlr_event.specs.Stream.{has_fault, events_behind, ctx_behind}
 use Rattle.mlr_event.proofs.Putting.{record_of-is, with_fields-more, with_fields-none}
@@ -17,7 +17,7 @@ use Rattle.read_xtab_pprint.specs.declared.rules.XtabRules.{XtabRules}
 use Rattle.read_xtab_pprint.specs.Last.{xtab_after_last, xtab_gives_last}
 use Rattle.read_xtab_pprint.specs.Rules.{XtabBegins}
 use Rattle.read_xtab_pprint.specs.Xtab.{is_gap, key_in, record_items, value_in, without_spaces, xtab_from, xtab_rest}
-use Rattle.read_xtab_pprint.specs.XtabRules.{behind_gap, begun_items, begun_pairs, gap_events, with_text, xtab_after, xtab_events}
+use Rattle.read_xtab_pprint.specs.XtabRules.{behind_gap, begun_items, gap_events, with_text, xtab_after, xtab_events}
 
 -- the record of the lines so far
 abbrev value_by : ReadOpts → List ℕ → Tree

@@ -1,6 +1,5 @@
 -- PPRINT line by line: what a line gives, and what is known behind it.
-use Rattle.std.specs.Prelude.{◌≡◌, ℕ, ◌+◌, ◌==◌, ◌||◌, if◌then◌else◌, List, [], ◌∷◌, length, max, Option, Some, None, false}
-use Rattle.mlr_event.specs.declared.event.Ctx.{Ctx}
+use Rattle.std.specs.Prelude.{ℕ, ◌+◌, ◌==◌, ◌||◌, if◌then◌else◌, List, [], ◌∷◌, length, max, Option, None}
 use Rattle.mlr_event.specs.declared.event.Event.{Event}
 use Rattle.mlr_event.specs.declared.names.FileRef.{FileRef}
 use Rattle.mlr_event.specs.declared.options.ReadOpts.{ReadOpts}

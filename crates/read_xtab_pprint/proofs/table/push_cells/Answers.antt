@@ -1,8 +1,7 @@
-use Rattle.std.proofs.Common.{◌≡◌, ◌+◌, ◌<◌, ◌∷◌, ◌++◌, [], length, drop, map, ap, ap₂, sym, ◌∙◌, append_assoc, arith}
+use Rattle.std.proofs.Common.{◌+◌, ◌<◌, ◌∷◌, ◌++◌, [], length, drop, map, ap, ap₂, sym, ◌∙◌, append_assoc, arith}
 use Rattle.mlr_spec.specs.Infer.{tree_of_data}
 use Rattle.mlr_spec.specs.Pairs.{keys_of, value_at}
 use Rattle.mlr_event.specs.Reading.{paired}
-use Rattle.std.proofs.Common.{None}
 use Rattle.read_xtab_pprint.specs.Cells.{cells_left}
 use Rattle.read_xtab_pprint.specs.Pprint.{words_of}
 use Rattle.read_xtab_pprint.proofs.Naming.{at-place, free-at, keys-at}

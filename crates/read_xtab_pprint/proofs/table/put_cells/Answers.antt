@@ -1,4 +1,4 @@
-use Rattle.std.proofs.Common.{◌≡◌, ◌+◌, ◌<◌, ◌∷◌, List, ℕ, length, drop, map, get_or, ap, ap₂, sym, ◌∙◌, arith, add-one}
+use Rattle.std.proofs.Common.{◌+◌, length, drop, map, ap, ap₂, sym, ◌∙◌, arith}
 use Rattle.mlr_spec.specs.Infer.{tree_of_data}
 use Rattle.mlr_event.specs.Rows.{with_field, with_fields}
 use Rattle.mlr_event.proofs.Putting.{with_fields-more}
