@@ -1,0 +1,7 @@
+pub mod Wording
+pub mod Turns
+pub mod Pprinting
+pub mod Xtabbing
+pub mod Whole
+pub mod Fronts
+pub mod Naming

@@ -1,0 +1,30 @@
+-- What a file gives in XTAB and PPRINT: as a whole, and as far as a front of it fixes it.
+use Rattle.std.specs.Prelude.{ℕ, List, [], ◌++◌, None}
+use Rattle.mlr_lines.specs.Lines.{fixed_lines, whole_lines}
+use Rattle.mlr_event.specs.declared.event.Ctx.{Ctx}
+use Rattle.mlr_event.specs.declared.event.Event.{Event}
+use Rattle.mlr_event.specs.declared.names.FileRef.{FileRef}
+use Rattle.mlr_event.specs.declared.options.Format.{Format}
+use Rattle.mlr_event.specs.declared.options.Format.TheVariants as format
+use Rattle.mlr_event.specs.declared.options.ReadOpts.{ReadOpts}
+use Rattle.mlr_event.specs.Reading.{Item, events_of}
+use Rattle.read_xtab_pprint.specs.Xtab.{xtab_from, xtab_rest}
+use Rattle.read_xtab_pprint.specs.Pprint.{pprint_lines}
+
+-- the items that lines fix, whatever follows them: in XTAB those up to the last empty line
+abbrev pub items_fixed : ReadOpts → FileRef → Format → List (List ℕ) → List Item
+items_fixed opts file format.Xtab lines = xtab_from opts [] [] lines
+items_fixed opts file format.Pprint lines = pprint_lines opts file 1 None lines
+items_fixed opts file _ lines = []
+
+-- the items of all lines of a file
+abbrev pub items_whole : ReadOpts → FileRef → Format → List (List ℕ) → List Item
+items_whole opts file format.Xtab lines = xtab_from opts [] [] lines ++ xtab_rest opts [] [] lines
+items_whole opts file format.Pprint lines = pprint_lines opts file 1 None lines
+items_whole opts file _ lines = []
+
+abbrev pub block_read : ReadOpts → FileRef → Ctx → List ℕ → List Event
+block_read opts file start bytes = events_of start (items_whole opts file opts.format (whole_lines bytes))
+
+abbrev pub block_fed : ReadOpts → FileRef → Ctx → List ℕ → List Event
+block_fed opts file start bytes = events_of start (items_fixed opts file opts.format (fixed_lines bytes))

@@ -1,0 +1,35 @@
+-- The cells of a line, one by one.
+use Rattle.std.specs.Prelude.{◌≡◌, ◌<◌, ◌==◌, if◌then◌else◌, ℕ, Bool, true, false, List, [], ◌∷◌, length, Some}
+use Rattle.read_xtab_pprint.specs.Pprint.{cells_of, is_bar, words_of}
+
+abbrev pub is_barred : List ℕ → Bool
+is_barred [] = false
+is_barred (b ∷ line) = b == 124
+
+-- each second word
+abbrev pub second_words : List (List ℕ) → List (List ℕ)
+second_words [] = []
+second_words (bar ∷ []) = []
+second_words (bar ∷ cell ∷ words) = cell ∷ second_words words
+
+-- the cells among these words: with bars, each second one
+abbrev pub cells_left : Bool → List (List ℕ) → List (List ℕ)
+cells_left true words = second_words words
+cells_left false words = words
+
+abbrev pub cells_in : List ℕ → List (List ℕ)
+cells_in line = cells_left (is_barred line) (words_of line)
+
+-- whether words and bars take turns, from bar to bar
+abbrev pub takes_turns : List (List ℕ) → Bool
+takes_turns [] = false
+takes_turns (bar ∷ []) = is_bar bar
+takes_turns (bar ∷ cell ∷ words) = if is_bar bar then takes_turns words else false
+
+-- the first cell of a text, and what stands behind it
+abbrev pub IsCellCut : Bool → List ℕ → List ℕ → List ℕ → Type 0
+IsCellCut barred text cell rest = (cells_left barred (words_of text) ≡ cell ∷ cells_left barred (words_of rest)) × (length rest < length text)
+
+-- how many cells a line of cells has
+abbrev pub IsCount : List ℕ → ℕ → Type 0
+IsCount line count = (cells_of line ≡ Some (cells_in line)) × (count ≡ length (cells_in line))

@@ -1,0 +1,12 @@
+pub mod Xtab
+pub mod Pprint
+pub mod Blocks
+pub mod Words
+pub mod Cells
+pub mod PprintRules
+pub mod XtabRules
+pub mod Usable
+pub mod Last
+pub mod Rules
+pub mod Counting
+pub mod Standing

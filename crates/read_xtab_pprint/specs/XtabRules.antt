@@ -1,0 +1,46 @@
+-- XTAB line by line: what a line gives, and what is known behind it.
+use Rattle.std.specs.Prelude.{ℕ, if◌then◌else◌, List, [], ◌∷◌, ◌++◌, length, drop, max, Option, Some, None}
+use Rattle.std.specs.List.{before_first}
+use Rattle.mlr_spec.specs.Infer.{tree_of_data}
+use Rattle.mlr_spec.specs.Tree.{Tree}
+use Rattle.mlr_event.specs.declared.event.Event.{Event}
+use Rattle.mlr_event.specs.declared.options.ReadOpts.{ReadOpts}
+use Rattle.mlr_event.specs.Reading.{Item, fields, is_comment, comment_items, ctx_after, events_of}
+use Rattle.mlr_event.specs.Rows.{with_field}
+use Rattle.read_xtab_pprint.specs.declared.rules.XtabRules.{XtabRules}
+use Rattle.read_xtab_pprint.specs.Xtab.{is_gap, is_space, without_spaces}
+
+-- the fields of the record so far, and what it gives
+abbrev pub begun_pairs : Option (List (List ℕ × Tree)) → List (List ℕ × Tree)
+begun_pairs None = []
+begun_pairs (Some pairs) = pairs
+
+abbrev pub begun_items : Option (List (List ℕ × Tree)) → List Item
+begun_items None = []
+begun_items (Some pairs) = fields pairs ∷ []
+
+-- the record with the field of one more line, whose leading spaces are dropped
+abbrev pub with_text : ReadOpts → List ℕ → Option (List (List ℕ × Tree)) → Option (List (List ℕ × Tree))
+with_text opts text begun =
+    let key = before_first is_space text in
+    Some (with_field opts.dedupe key (tree_of_data opts.infer (without_spaces (drop (length key) text))) (begun_pairs begun))
+
+-- what an empty line gives, or the end, and the rules behind it
+abbrev pub gap_events : XtabRules → List Event
+gap_events rules = rules.passed ++ events_of rules.at (begun_items rules.begun)
+
+abbrev pub behind_gap : XtabRules → XtabRules
+behind_gap rules = record rules { passed = []; begun = None; at = ctx_after rules.at (begun_items rules.begun) }
+
+-- a line without its end
+abbrev pub xtab_after : XtabRules → List ℕ → XtabRules
+xtab_after rules line =
+    if is_comment rules.opts.comments line then record rules { passed = rules.passed ++ events_of rules.at (comment_items rules.opts.comments line) } else (
+    if is_gap line then behind_gap rules else record rules { begun = with_text rules.opts (without_spaces line) rules.begun })
+
+abbrev pub xtab_events : XtabRules → List ℕ → List Event
+xtab_events rules line = if is_comment rules.opts.comments line then [] else (if is_gap line then gap_events rules else [])
+
+-- the records so far, or the fields of the record that has begun, if those are more
+abbrev pub xtab_count : XtabRules → ℕ
+xtab_count rules = max (length (begun_pairs rules.begun)) (max rules.at.nr rules.at.fnr)

@@ -1,0 +1,16 @@
+ghost use Rattle.std.specs.Prelude.{◌≡◌, ℕ, List, ◌++◌};
+ghost use Rattle.mlr_event.specs.declared.event.Ctx.{Ctx};
+ghost use Rattle.mlr_event.specs.declared.event.Event.{Event};
+ghost use Rattle.mlr_event.specs.declared.names.FileRef.{FileRef};
+ghost use Rattle.mlr_event.specs.declared.options.Format.TheVariants as format;
+ghost use Rattle.mlr_event.specs.declared.options.ReadOpts.{ReadOpts};
+ghost use Rattle.mlr_lines.specs.Fronts.{ended_front};
+ghost use Rattle.read_xtab_pprint.specs.Blocks.{block_fed, block_read};
+
+/// What a front of a file fixes: it stays whatever follows, and in PPRINT it is what the longest front that ends with
+/// a line end stands for as a whole file. It does nothing.
+pub fn front_laws()
+    ensures fed { (opts : ReadOpts) (file : FileRef) (start : Ctx) (bytes rest : List ℕ) → (more : List Event) × (block_fed opts file start (bytes ++ rest) ≡ block_fed opts file start bytes ++ more) }
+    ensures read { (opts : ReadOpts) (file : FileRef) (start : Ctx) (bytes rest : List ℕ) → (more : List Event) × (block_read opts file start (bytes ++ rest) ≡ block_fed opts file start bytes ++ more) }
+    ensures front { (opts : ReadOpts) (file : FileRef) (start : Ctx) (bytes : List ℕ) → opts.format ≡ format.Pprint → block_fed opts file start bytes ≡ block_read opts file start (ended_front bytes) }
+{}

@@ -1,0 +1,124 @@
+ghost use Rattle.std.specs.Prelude.{◌≡◌, ◌↔◌, ◌+◌, ◌^◌, ◌<◌, ◌≤◌, ℕ, List, [], ◌++◌, true, length, IsTrue, IfOk, OnOk, OnErr};
+ghost use Rattle.mlr_event.specs.declared.event.Ctx.{Ctx};
+ghost use Rattle.mlr_event.specs.declared.names.FileRef.{FileRef};
+ghost use Rattle.mlr_event.specs.declared.options.ReadOpts.{ReadOpts};
+ghost use Rattle.mlr_lines.specs.Standing.{Adds};
+ghost use Rattle.read_xtab_pprint.specs.Blocks.{block_fed, block_read};
+ghost use Rattle.read_xtab_pprint.specs.Rules.{Begins, count_of};
+ghost use Rattle.read_xtab_pprint.specs.Standing.{CanTake, HasEnded, IsBroken, IsOpen, StandsFor, StandsForWhole, ctx_fed, ctx_read, used};
+ghost use Rattle.read_xtab_pprint.specs.Usable.{is_usable};
+
+use crate::options::copy_options;
+use crate::rules::{BlockRules, PprintRules, XtabRules};
+use mlr_event::{Ctx, Events, FileRef, Format, ReadOpts};
+use mlr_lines::Lines;
+use mlr_spec::NoMemory;
+use std::alloc::Global;
+
+/// Reads one file in XTAB or PPRINT, whose bytes come in pieces that are cut anywhere. In XTAB it keeps the record
+/// that has begun and the comments in it until an empty line or the end comes.
+#[derive(Drop)]
+pub struct BlockReader {
+    lines: Lines<BlockRules>,
+}
+
+/// Whether a reader can read by these options: XTAB or PPRINT.
+pub fn can_read(opts: &ReadOpts) -> bool
+    ensures { result ≡ is_usable opts.now }
+{
+    match opts.format {
+        Format::Xtab | Format::Pprint => true,
+        _ => false,
+    }
+}
+
+/// The rules before the first line.
+fn first_rules(alloc: Global, opts: ReadOpts, file: FileRef, start: Ctx) -> BlockRules
+    requires usable { is_usable opts ≡ true }
+    requires nr { start.nr ≤ 2 ^ 62 }
+    requires fnr { start.fnr ≤ 2 ^ 62 }
+    ensures begins { Begins result opts file start }
+    ensures room { count_of result ≤ 2 ^ 62 }
+{
+    match opts.format {
+        Format::Xtab => BlockRules::Xtab(XtabRules {
+            alloc,
+            opts,
+            passed: Events::new(alloc),
+            begun: None,
+            at: start,
+        }),
+        _ => BlockRules::Pprint(PprintRules {
+            alloc,
+            opts,
+            file,
+            number: 1,
+            header: None,
+            at: start,
+            stopped: false,
+        }),
+    }
+}
+
+impl BlockReader {
+    /// No bytes yet. `start` is the context of the last record before this file, with the number of this file and
+    /// no record of it. It takes memory for prefixes of more than 16 bytes.
+    pub fn new(
+        alloc: Global,
+        opts: &ReadOpts,
+        file: FileRef,
+        start: Ctx,
+    ) -> Result<BlockReader, NoMemory>
+        requires usable { is_usable opts.now ≡ true }
+        requires nr { start.nr ≤ 2 ^ 62 }
+        requires fnr { start.fnr ≤ 2 ^ 62 }
+        ensures stands { IfOk result (λ reader. StandsFor opts.now file start reader []) }
+        ensures open { IfOk result (λ reader. IsOpen reader) }
+        ensures room { IfOk result (λ reader. used reader ≤ 2 ^ 62) }
+    {
+        let rules = first_rules(alloc, copy_options(alloc, opts)?, file, start);
+        Ok(BlockReader {
+            lines: Lines::new(alloc, rules),
+        })
+    }
+
+    /// Takes the next piece of the file, and puts the events that it fixes behind `out`. Behind a fault it puts
+    /// nothing.
+    pub fn feed(&mut self, piece: &[u8], out: &mut Events) -> Result<(), NoMemory>
+        requires { CanTake self.old (length piece.now) }
+        ensures stands { OnOk result ((opts : ReadOpts) (file : FileRef) (start : Ctx) (bytes : List ℕ) → StandsFor opts file start self.old bytes → StandsFor opts file start self.new (bytes ++ piece.now)) }
+        ensures adds { OnOk result ((opts : ReadOpts) (file : FileRef) (start : Ctx) (bytes : List ℕ) → StandsFor opts file start self.old bytes → Adds out.old out.new (block_fed opts file start bytes) (block_fed opts file start (bytes ++ piece.now))) }
+        ensures open { OnOk result (IsOpen self.new) }
+        ensures room { OnOk result (used self.new ≤ used self.old + length piece.now) }
+        ensures err { OnErr result (IsBroken self.new) }
+    {
+        self.lines.feed(piece, out)
+    }
+
+    /// Takes the end of the file, and puts the events of a last line without LF, and of a record that has begun,
+    /// behind `out`.
+    pub fn end(&mut self, out: &mut Events) -> Result<(), NoMemory>
+        requires { CanTake self.old 0 }
+        ensures stands { OnOk result ((opts : ReadOpts) (file : FileRef) (start : Ctx) (bytes : List ℕ) → StandsFor opts file start self.old bytes → StandsForWhole opts file start self.new bytes) }
+        ensures adds { OnOk result ((opts : ReadOpts) (file : FileRef) (start : Ctx) (bytes : List ℕ) → StandsFor opts file start self.old bytes → Adds out.old out.new (block_fed opts file start bytes) (block_read opts file start bytes)) }
+        ensures ended { OnOk result (HasEnded self.new) }
+        ensures err { OnErr result (IsBroken self.new) }
+    {
+        self.lines.end(out)
+    }
+
+    /// The context of the last record so far, or the start.
+    pub fn ctx(&self) -> Ctx
+        ensures fed { (opts : ReadOpts) (file : FileRef) (start : Ctx) (bytes : List ℕ) → StandsFor opts file start self.now bytes → result ≡ ctx_fed opts file start bytes }
+        ensures read { (opts : ReadOpts) (file : FileRef) (start : Ctx) (bytes : List ℕ) → StandsForWhole opts file start self.now bytes → result ≡ ctx_read opts file start bytes }
+    {
+        self.lines.format().at()
+    }
+
+    /// Whether a call found no memory. Then nothing more may be asked of it.
+    pub fn is_broken(&self) -> bool
+        ensures { IsTrue result ↔ IsBroken self.now }
+    {
+        self.lines.is_broken()
+    }
+}

@@ -1,0 +1,177 @@
+ghost use Rattle.std.specs.Prelude.{◌≡◌, ◌^◌, ◌<◌, [], Some, length, map, true, IfOk, OnOk};
+ghost use Rattle.mlr_spec.specs.Infer.{tree_of_data};
+ghost use Rattle.mlr_spec.specs.Pairs.{are_distinct};
+ghost use Rattle.mlr_event.specs.Reading.{paired, record_of};
+ghost use Rattle.read_xtab_pprint.specs.Cells.{cells_in};
+ghost use Rattle.read_xtab_pprint.specs.Pprint.{cells_items, header_behind, is_rule, row};
+ghost use Rattle.read_xtab_pprint.specs.PprintRules.{plain_header, plain_items, row_items};
+
+use crate::cells::{copy_cells, count_cells, is_barred, next_cell};
+use crate::fields::{push_text, put_text};
+use crate::header::Header;
+use crate::row::Row;
+use mlr_event::{Fault, FileRef, ReadOpts};
+use mlr_record::Record;
+use mlr_spec::NoMemory;
+use mlr_value::Bytes;
+use std::alloc::Global;
+use std::mem;
+
+/// Where a row stands in its file.
+#[derive(Clone, Copy)]
+pub(crate) struct Place {
+    pub(crate) file: FileRef,
+    pub(crate) line: u64,
+}
+
+/// What a line gives that is no comment, and the header behind it.
+pub(crate) fn table_row(
+    alloc: Global,
+    opts: &ReadOpts,
+    place: Place,
+    header: &mut Option<Header>,
+    line: &[u8],
+) -> Result<Row, NoMemory>
+    ensures items { IfOk result (λ row. row_items row ≡ plain_items opts.now place.file place.line header.old line.now) }
+    ensures header { OnOk result (header.new ≡ plain_header header.old line.now) }
+{
+    if line.is_empty() {
+        *header = None;
+        return Ok(Row::Nothing);
+    }
+    if is_rule(line) {
+        return Ok(Row::Nothing);
+    }
+    match count_cells(line) {
+        None => Ok(Row::Fault(Fault::Table {
+            file: place.file,
+            line: place.line,
+        })),
+        Some(count) => cells_row(alloc, opts, place, header, line, count),
+    }
+}
+
+/// Whether the line is a rule of a table with bars.
+fn is_rule(line: &[u8]) -> bool
+    ensures { result ≡ is_rule line.now }
+{
+    match line {
+        [first, ..] => *first == b'+',
+        [] => false,
+    }
+}
+
+/// What a line of so many cells gives, and the header behind it.
+fn cells_row(
+    alloc: Global,
+    opts: &ReadOpts,
+    place: Place,
+    header: &mut Option<Header>,
+    line: &[u8],
+    count: usize,
+) -> Result<Row, NoMemory>
+    requires { count ≡ length (cells_in line.now) }
+    ensures items { IfOk result (λ row. row_items row ≡ cells_items opts.now place.file place.line header.old (Some (cells_in line.now))) }
+    ensures header { OnOk result (header.new ≡ header_behind header.old (Some (cells_in line.now))) }
+{
+    let (row, next) = match mem::replace(header, None) {
+        None => (Row::Nothing, Header::new(alloc, copy_cells(alloc, line)?)?),
+        Some(known) => (row_under(alloc, opts, place, &known, line, count)?, known),
+    };
+    *header = Some(next);
+    Ok(row)
+}
+
+/// What a row of so many cells gives under a header: a record, or a fault.
+fn row_under(
+    alloc: Global,
+    opts: &ReadOpts,
+    place: Place,
+    header: &Header,
+    line: &[u8],
+    count: usize,
+) -> Result<Row, NoMemory>
+    requires { count ≡ length (cells_in line.now) }
+    ensures { IfOk result (λ made. row_items made ≡ row opts.now place.file place.line header.now (cells_in line.now)) }
+{
+    let cells = header.cells();
+    if count != cells.len() {
+        return Ok(Row::Fault(Fault::Length {
+            file: place.file,
+            line: place.line,
+            want: cells.len() as u64,
+            have: count as u64,
+        }));
+    }
+    let mut record = Record::new(alloc)?;
+    fill(alloc, opts, header, line, &mut record)?;
+    Ok(Row::Fields(record))
+}
+
+/// Puts the cells of a line, as many as those of the header, into an empty record.
+fn fill(
+    alloc: Global,
+    opts: &ReadOpts,
+    header: &Header,
+    line: &[u8],
+    record: &mut Record,
+) -> Result<(), NoMemory>
+    requires same { length (cells_in line.now) ≡ length header.now }
+    requires empty { record.old ≡ [] }
+    ensures { OnOk result (record.new ≡ record_of opts.now.dedupe header.now (map (tree_of_data opts.now.infer) (cells_in line.now))) }
+{
+    let cells = header.cells();
+    if opts.dedupe {
+        push_cells(alloc, opts, header.names(), line, record)
+    } else {
+        put_cells(alloc, opts, cells, line, record)
+    }
+}
+
+/// Puts them under names that are distinct.
+fn push_cells(
+    alloc: Global,
+    opts: &ReadOpts,
+    names: &[Bytes],
+    line: &[u8],
+    record: &mut Record,
+) -> Result<(), NoMemory>
+    requires distinct { are_distinct names.now ≡ true }
+    requires same { length (cells_in line.now) ≡ length names.now }
+    requires empty { record.old ≡ [] }
+    ensures { OnOk result (record.new ≡ paired names.now (map (tree_of_data opts.now.infer) (cells_in line.now))) }
+{
+    let barred = is_barred(line);
+    let mut place = 0;
+    let mut left = line;
+    while let Some((cell, rest)) = next_cell(barred, left) {
+        push_text(alloc, opts, names[place].as_slice(), cell, record)?;
+        place += 1;
+        left = rest;
+    }
+    Ok(())
+}
+
+/// Puts them under names that may repeat.
+fn put_cells(
+    alloc: Global,
+    opts: &ReadOpts,
+    header: &[Bytes],
+    line: &[u8],
+    record: &mut Record,
+) -> Result<(), NoMemory>
+    requires length { length header.now < 2 ^ 63 }
+    requires same { length (cells_in line.now) ≡ length header.now }
+    requires empty { record.old ≡ [] }
+    ensures { OnOk result (record.new ≡ record_of opts.now.dedupe header.now (map (tree_of_data opts.now.infer) (cells_in line.now))) }
+{
+    let barred = is_barred(line);
+    let mut place = 0;
+    let mut left = line;
+    while let Some((cell, rest)) = next_cell(barred, left) {
+        put_text(alloc, opts, header[place].as_slice(), cell, record)?;
+        place += 1;
+        left = rest;
+    }
+    Ok(())
+}
