@@ -167,3 +167,8 @@ distinct-behind before (name ∷ names) few distinct =
 -- Names that were made distinct are.
 pub are_distinct-names : (names : List (List ℕ)) → length names < 2 ^ 63 → are_distinct (distinct_names names) ≡ true
 are_distinct-names names few = distinct-behind [] names (omega arith) refl
+
+-- as many distinct names as names
+pub length-distinct : (before names : List (List ℕ)) → length (distinct_behind before names) ≡ length names
+length-distinct before [] = refl
+length-distinct before (name ∷ names) = ap suc (length-distinct (before ++ free_name before name ∷ []) names)

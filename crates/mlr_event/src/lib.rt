@@ -5,6 +5,7 @@
 mod event;
 mod events;
 mod fault;
+mod header;
 mod names;
 mod options;
 pub mod rows;
@@ -14,5 +15,6 @@ mod rows_tests;
 pub use event::{Body, Ctx, Event, Piece};
 pub use events::Events;
 pub use fault::Fault;
+pub use header::Header;
 pub use names::{FileRef, InputName, Mode, StyleId, Target};
 pub use options::{Comments, Format, ReadOpts};

@@ -1,5 +1,8 @@
-use mlr_spec::InferOpts;
+ghost use Rattle.std.specs.Prelude.{◌≡◌, IfOk};
+
+use mlr_spec::{InferOpts, NoMemory};
 use mlr_value::Bytes;
+use std::alloc::Global;
 
 /// A format of records.
 #[derive(Clone, Copy, Debug, PartialEq, Eq)]
@@ -35,6 +38,19 @@ pub enum Comments {
     Pass(Bytes),
 }
 
+impl Comments {
+    /// A copy. It takes memory for a prefix of more than 16 bytes.
+    pub fn copy(&self, alloc: Global) -> Result<Comments, NoMemory>
+        ensures { IfOk result (λ copy. copy ≡ self.now) }
+    {
+        Ok(match self {
+            Comments::Keep => Comments::Keep,
+            Comments::Skip(prefix) => Comments::Skip(Bytes::copy_of(alloc, prefix.as_slice())?),
+            Comments::Pass(prefix) => Comments::Pass(Bytes::copy_of(alloc, prefix.as_slice())?),
+        })
+    }
+}
+
 /// How a file is read. What another format means has no effect.
 #[derive(Debug, PartialEq, Eq, Drop)]
 pub struct ReadOpts {
@@ -51,4 +67,52 @@ pub struct ReadOpts {
     pub dedupe: bool,
     pub comments: Comments,
     pub infer: InferOpts,
+}
+
+impl ReadOpts {
+    /// A copy. It takes memory for texts of more than 16 bytes.
+    pub fn copy(&self, alloc: Global) -> Result<ReadOpts, NoMemory>
+        ensures { IfOk result (λ copy. copy ≡ self.now) }
+    {
+        Ok(ReadOpts {
+            format: self.format,
+            ifs: Bytes::copy_of(alloc, self.ifs.as_slice())?,
+            ips: Bytes::copy_of(alloc, self.ips.as_slice())?,
+            implicit: self.implicit,
+            ragged: self.ragged,
+            dedupe: self.dedupe,
+            comments: self.comments.copy(alloc)?,
+            infer: self.infer,
+        })
+    }
+}
+
+#[cfg(test)]
+mod tests {
+    use super::*;
+
+    #[test]
+    fn options_copied(rt: HostRuntime) -> Result<(), NoMemory> {
+        let alloc = rt.alloc();
+        let prefixes: [&[u8]; 2] = [b"%", b"-- a prefix of more bytes than lie inline"];
+        for prefix in prefixes {
+            let opts = ReadOpts {
+                format: Format::Dkvp,
+                ifs: Bytes::copy_of(alloc, b";")?,
+                ips: Bytes::copy_of(alloc, b"::")?,
+                implicit: false,
+                ragged: true,
+                dedupe: true,
+                comments: Comments::Pass(Bytes::copy_of(alloc, prefix)?),
+                infer: InferOpts::plain(),
+            };
+            let copy = opts.copy(alloc)?;
+            assert!(rt; copy == opts);
+            let skip = Comments::Skip(Bytes::copy_of(alloc, prefix)?);
+            assert!(rt; skip.copy(alloc)? == skip);
+            assert!(rt; skip != opts.comments);
+        }
+        assert!(rt; Comments::Keep.copy(alloc)? == Comments::Keep);
+        Ok(())
+    }
 }

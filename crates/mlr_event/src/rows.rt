@@ -1,15 +1,16 @@
-ghost use Rattle.std.specs.Prelude.{◌≡◌, ◌-◌, ◌^◌, ◌<◌, ◌++◌, ℕ, List, length, IfOk, OnOk};
-ghost use Rattle.mlr_spec.specs.Pairs.{keys_of};
+ghost use Rattle.std.specs.Prelude.{◌≡◌, ◌-◌, ◌^◌, ◌<◌, ◌++◌, ◌∷◌, ℕ, List, [], None, length, IfOk, OnOk};
+ghost use Rattle.mlr_spec.specs.Infer.{tree_of_data};
+ghost use Rattle.mlr_spec.specs.Pairs.{keys_of, value_at};
 ghost use Rattle.mlr_value.specs.Value.{tree_of};
 ghost use Rattle.mlr_event.specs.declared.event.Ctx.{Ctx};
 ghost use Rattle.mlr_event.specs.Reading.{comment_items, distinct_names, events_of, free_name, is_among, is_comment, next, suffixed};
 ghost use Rattle.mlr_event.specs.Rows.{with_field};
 
-use crate::{Comments, Ctx, Event, Events};
+use crate::{Comments, Ctx, Event, Events, ReadOpts};
 use itoa::Buffer;
 use mlr_record::Record;
 use mlr_spec::NoMemory;
-use mlr_value::{Bytes, Value};
+use mlr_value::{Bytes, Value, from_data};
 use std::alloc::Global;
 
 /// The context of the record behind one.
@@ -148,4 +149,37 @@ pub fn put_field(
     } else {
         record.push(name, value)
     }
+}
+
+/// Puts a field of this text into a record, by the options. A name that is there gets a suffix, or its value is
+/// replaced.
+#[inline]
+pub fn put_text(
+    alloc: Global,
+    opts: &ReadOpts,
+    name: &[u8],
+    text: &[u8],
+    record: &mut Record,
+) -> Result<(), NoMemory>
+    requires { length record.old < 2 ^ 63 }
+    ensures { OnOk result (record.new ≡ with_field opts.now.dedupe name.now (tree_of_data opts.now.infer text.now) record.old) }
+{
+    let value = from_data(alloc, text, opts.infer)?;
+    put_field(alloc, record, name, value, opts.dedupe)
+}
+
+/// Puts a field of this text last, whose name the record doesn't have. It makes no search.
+#[inline]
+pub fn push_text(
+    alloc: Global,
+    opts: &ReadOpts,
+    name: &[u8],
+    text: &[u8],
+    record: &mut Record,
+) -> Result<(), NoMemory>
+    requires { value_at name.now record.old ≡ None }
+    ensures { OnOk result (record.new ≡ record.old ++ (name.now, tree_of_data opts.now.infer text.now) ∷ []) }
+{
+    let value = from_data(alloc, text, opts.infer)?;
+    record.push(name, value)
 }

@@ -1,9 +1,11 @@
 //! Fields put into records, and names made distinct.
 
-use crate::rows::{distinct_names, is_comment, next_ctx, push_comment, put_field};
-use crate::{Comments, Ctx, Event, Events};
+use crate::rows::{
+    distinct_names, is_comment, next_ctx, push_comment, push_text, put_field, put_text,
+};
+use crate::{Comments, Ctx, Event, Events, Format, Header, ReadOpts};
 use mlr_record::Record;
-use mlr_spec::NoMemory;
+use mlr_spec::{InferOpts, NoMemory};
 use mlr_value::{Bytes, Value};
 use std::alloc::Global;
 
@@ -105,5 +107,47 @@ fn comments_known_and_passed(rt: HostRuntime) -> Result<(), NoMemory> {
             filenum: 2
         }
     );
+    Ok(())
+}
+
+#[test]
+fn header_made_distinct(rt: HostRuntime) -> Result<(), NoMemory> {
+    let alloc = rt.alloc();
+    let mut names = Vec::new(alloc);
+    for name in [b"a".as_slice(), b"a".as_slice()] {
+        names.push(Bytes::copy_of(alloc, name)?)?;
+    }
+    let header = Header::new(alloc, names)?;
+    assert_eq!(rt; header.len(), 2);
+    assert_eq!(rt;
+        shown(alloc, header.names())?.as_slice(),
+        b"a;a;".as_slice()
+    );
+    assert_eq!(rt;
+        shown(alloc, header.keys())?.as_slice(),
+        b"a;a_2;".as_slice()
+    );
+    Ok(())
+}
+
+#[test]
+fn texts_put_as_fields(rt: HostRuntime) -> Result<(), NoMemory> {
+    let alloc = rt.alloc();
+    let opts = ReadOpts {
+        format: Format::Dkvp,
+        ifs: Bytes::copy_of(alloc, b",")?,
+        ips: Bytes::copy_of(alloc, b"=")?,
+        implicit: false,
+        ragged: false,
+        dedupe: true,
+        comments: Comments::Keep,
+        infer: InferOpts::plain(),
+    };
+    let mut record = Record::new(alloc)?;
+    push_text(alloc, &opts, b"a", b"0x10", &mut record)?;
+    put_text(alloc, &opts, b"a", b"x", &mut record)?;
+    assert_eq!(rt; names_of(alloc, &record)?.as_slice(), b"a;a_2;".as_slice());
+    assert!(rt; matches!(record.get(b"a"), Some(Value::Int(number)) if number.n == 16));
+    assert!(rt; matches!(record.get(b"a_2"), Some(Value::Str(_))));
     Ok(())
 }

@@ -1,5 +1,5 @@
 ghost use Rattle.std.specs.Prelude.{◌≡◌, ◌+◌, ◌≤◌, length, MatchOption};
-ghost use Rattle.mlr_lines.specs.Lines.{without_mark};
+ghost use Rattle.mlr_lines.specs.Lines.{without_mark, without_return};
 ghost use Rattle.mlr_lines.specs.Steps.{EndsNoLine, EndsLine, unmarked_line};
 
 use memchr::memchr;
@@ -30,5 +30,17 @@ fn without_mark(text: &[u8]) -> &[u8]
     match text {
         [0xef, 0xbb, 0xbf, rest @ ..] => rest,
         _ => text,
+    }
+}
+
+/// An ended line without the CR before its LF.
+#[inline]
+pub fn without_return(line: &[u8]) -> &[u8]
+    ensures text { result.now ≡ without_return line.now }
+    ensures length { length result.now ≤ length line.now }
+{
+    match line {
+        [front @ .., b'\r'] => front,
+        _ => line,
     }
 }

@@ -9,5 +9,6 @@ mod lines;
 mod lines_tests;
 mod stage;
 
+pub use cut::without_return;
 pub use format::LineFormat;
 pub use lines::Lines;
