@@ -9,14 +9,9 @@ use Rattle.mlr_spec.specs.Pairs.{value_at, put_at, keys_of}
 use Rattle.mlr_spec.specs.Tree.{Tree}
 use Rattle.mlr_event.specs.Reading.{is_among, free_name, distinct_behind, distinct_names, paired, record_of}
 use Rattle.mlr_event.specs.Rows.{with_field, with_fields}
-use Rattle.mlr_event.proofs.Distinct.{free_name-free}
+use Rattle.mlr_event.proofs.Distinct.{free_name-free, length-distinct}
 use Rattle.mlr_event.proofs.Putting.{with_fields-more, with_fields-none, value_at-free, record_of-is}
 use Rattle.read_csv.specs.Rows.{positions_from, row_keys}
-
--- as many distinct names as names
-pub length-distinct : (before names : List (List ℕ)) → length (distinct_behind before names) ≡ length names
-length-distinct before [] = refl
-length-distinct before (name ∷ names) = ap suc (length-distinct (before ++ free_name before name ∷ []) names)
 
 pub take-distinct : (before names : List (List ℕ)) (n : ℕ) → distinct_behind before (take n names) ≡ take n (distinct_behind before names)
 take-distinct before [] zero = refl

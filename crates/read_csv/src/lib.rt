@@ -4,8 +4,6 @@
 mod escapes;
 mod fields;
 mod given;
-mod header;
-mod options;
 mod quotes;
 mod reader;
 mod records;

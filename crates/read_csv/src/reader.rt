@@ -7,7 +7,6 @@ ghost use Rattle.read_csv.specs.Rows.{csv_fed, csv_read};
 ghost use Rattle.read_csv.specs.Standing.{CanTake, HasEnded, IsBroken, IsOpen, StandsFor, StandsForWhole, ctx_fed, ctx_read, used};
 ghost use Rattle.read_csv.specs.Usable.{is_usable};
 
-use crate::options::copy_options;
 use crate::row::Row;
 use crate::rules::RowRules;
 use mlr_event::{Ctx, Events, FileRef, Format, ReadOpts};
@@ -49,7 +48,7 @@ impl CsvReader {
     {
         let rules = RowRules {
             alloc,
-            opts: copy_options(alloc, opts)?,
+            opts: opts.copy(alloc)?,
             file,
             number: 1,
             begins: 1,

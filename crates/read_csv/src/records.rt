@@ -5,14 +5,25 @@ ghost use Rattle.mlr_value.specs.Value.{tree_of};
 ghost use Rattle.read_csv.specs.Rows.{positions_from, row_keys};
 ghost use Rattle.read_csv.specs.Headers.{source_of};
 
-use crate::header::{Header, few};
 use itoa::Buffer;
+use mlr_event::Header;
 use mlr_event::rows::put_field;
 use mlr_record::Record;
 use mlr_spec::NoMemory;
 use mlr_value::{Bytes, Value};
 use std::alloc::Global;
 use std::mem;
+
+/// More fields than any memory holds.
+const MANY: usize = 1 << 62;
+
+/// Finds no memory for more fields than any memory holds.
+#[inline]
+fn few(count: usize) -> Result<(), NoMemory>
+    ensures { OnOk result (count < 2 ^ 62) }
+{
+    if count < MANY { Ok(()) } else { Err(NoMemory) }
+}
 
 /// The record of a row of these values, which are taken out.
 pub(crate) fn record_of_row(

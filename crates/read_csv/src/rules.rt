@@ -1,9 +1,8 @@
 ghost use Rattle.std.specs.Prelude.{◌≡◌, true};
 ghost use Rattle.read_csv.specs.Usable.{is_usable};
 
-use crate::header::Header;
 use crate::row::Row;
-use mlr_event::{Ctx, FileRef, ReadOpts};
+use mlr_event::{Ctx, FileRef, Header, ReadOpts};
 use std::alloc::Global;
 
 /// How the rows of a file are read, and what came before the next line.

@@ -1,7 +1,6 @@
 ghost use Rattle.std.specs.Prelude.{◌≡◌, ◌+◌, ◌^◌, ◌<◌, ◌≤◌, ◌++◌, ◌∷◌, [], false, length, drop, if◌then◌else◌, IfOk, OnOk, Some, None};
 ghost use Rattle.mlr_event.specs.Reading.{ctx_after, events_of};
 ghost use Rattle.mlr_event.specs.Stream.{has_fault};
-ghost use Rattle.mlr_lines.specs.Lines.{without_return};
 ghost use Rattle.read_csv.specs.Given.{given_items};
 ghost use Rattle.read_csv.specs.Headers.{closed_values, header_of, values_header, values_items};
 ghost use Rattle.read_csv.specs.Taking.{no_row, row_taken};
@@ -9,14 +8,13 @@ ghost use Rattle.read_csv.specs.Rules.{after_last, after_line, begins_now, behin
 
 use crate::fields::take_text;
 use crate::given::Given;
-use crate::header::Header;
 use crate::quotes::behind;
 use crate::records::positions;
 use crate::row::Row;
 use crate::rules::RowRules;
 use mlr_event::rows::{is_comment, next_ctx, push_comment};
-use mlr_event::{Event, Events, Fault, FileRef, ReadOpts};
-use mlr_lines::LineFormat;
+use mlr_event::{Event, Events, Fault, FileRef, Header, ReadOpts};
+use mlr_lines::{LineFormat, without_return};
 use mlr_spec::NoMemory;
 use std::alloc::Global;
 
@@ -216,15 +214,4 @@ fn end_line(row: &mut Row, line: &[u8], place: usize) -> Result<(), NoMemory>
         row.append(b"\n")?;
     }
     Ok(())
-}
-
-/// An ended line without the CR before its LF.
-fn without_return(line: &[u8]) -> &[u8]
-    ensures text { result.now ≡ without_return line.now }
-    ensures length { length result.now ≤ length line.now }
-{
-    match line {
-        [front @ .., b'\r'] => front,
-        _ => line,
-    }
 }
