@@ -8,3 +8,4 @@ pub mod Whole
 pub mod Headings
 pub mod Walk
 pub mod Files
+pub mod Fronts

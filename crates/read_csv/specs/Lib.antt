@@ -9,3 +9,4 @@ pub mod Given
 pub mod Rules
 pub mod Counting
 pub mod Standing
+pub mod Fronts

@@ -4,6 +4,7 @@
 mod escapes;
 mod fields;
 mod given;
+mod laws;
 mod quotes;
 mod reader;
 mod records;
@@ -13,4 +14,5 @@ mod take;
 #[cfg(test)]
 mod tests;
 
+pub use laws::front_laws;
 pub use reader::{CsvReader, can_read};
