@@ -4,7 +4,11 @@
 mod escapes;
 mod fields;
 mod given;
+#[cfg(test)]
+mod hostile_tests;
 mod laws;
+#[cfg(test)]
+mod options_tests;
 mod quotes;
 mod reader;
 mod records;

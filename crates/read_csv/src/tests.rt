@@ -51,7 +51,7 @@ fn append_event(event: &Event, into: &mut Bytes) -> Result<(), NoMemory> {
 }
 
 /// The events, each with a space behind it.
-fn shown(alloc: Global, events: &Events) -> Result<Bytes, NoMemory> {
+pub(crate) fn shown(alloc: Global, events: &Events) -> Result<Bytes, NoMemory> {
     let mut all = Bytes::new(alloc);
     for place in 0..events.len() {
         if let Some(event) = events.at(place) {
@@ -63,14 +63,19 @@ fn shown(alloc: Global, events: &Events) -> Result<Bytes, NoMemory> {
 }
 
 /// The events of a file that comes in two pieces.
-fn read(alloc: Global, opts: &ReadOpts, front: &[u8], rest: &[u8]) -> Result<Bytes, NoMemory> {
+pub(crate) fn read(
+    alloc: Global,
+    opts: &ReadOpts,
+    front: &[u8],
+    rest: &[u8],
+) -> Result<Bytes, NoMemory> {
     let mut out = Events::new(alloc);
     let start = Ctx {
         nr: 0,
         fnr: 0,
         filenum: 1,
     };
-    let small = front.len() < 1000 && rest.len() < 1000;
+    let small = front.len() < 1 << 40 && rest.len() < 1 << 40;
     if small && can_read(opts) {
         let mut reader = CsvReader::new(alloc, opts, FileRef::Main(1), start)?;
         reader.feed(front, &mut out)?;
@@ -80,7 +85,7 @@ fn read(alloc: Global, opts: &ReadOpts, front: &[u8], rest: &[u8]) -> Result<Byt
     shown(alloc, &out)
 }
 
-fn options(
+pub(crate) fn options(
     alloc: Global,
     format: Format,
     separator: &[u8],
@@ -99,7 +104,7 @@ fn options(
 }
 
 /// Checks the events of each file, wherever it is cut.
-fn check_files(
+pub(crate) fn check_files(
     rt: &impl Abort,
     alloc: Global,
     opts: &ReadOpts,
@@ -115,11 +120,8 @@ fn check_files(
     Ok(())
 }
 
-/// Among them the examples of RFC 4180.
-const CSV: [(&[u8], &[u8]); 24] = [
-    (b"", b""),
-    (b"a,b", b""),
-    (b"a,b\r\n", b""),
+/// The examples of RFC 4180, alone and under a header.
+const RFC: [(&[u8], &[u8]); 9] = [
     (
         b"aaa,bbb,ccc\r\nzzz,yyy,xxx\r\n",
         b"1:aaa=zzz;bbb=yyy;ccc=xxx; ",
@@ -128,23 +130,144 @@ const CSV: [(&[u8], &[u8]); 24] = [
         b"aaa,bbb,ccc\r\nzzz,yyy,xxx",
         b"1:aaa=zzz;bbb=yyy;ccc=xxx; ",
     ),
-    (b"\"aaa\",\"bbb\"\r\nzzz,yyy", b"1:aaa=zzz;bbb=yyy; "),
+    (
+        b"field_name,field_name,field_name\r\naaa,bbb,ccc\r\nzzz,yyy,xxx\r\n",
+        b"1:field_name=aaa;field_name_2=bbb;field_name_3=ccc; 2:field_name=zzz;field_name_2=yyy;field_name_3=xxx; ",
+    ),
+    (b"aaa,bbb,ccc", b""),
+    (
+        b"\"aaa\",\"bbb\",\"ccc\"\r\nzzz,yyy,xxx",
+        b"1:aaa=zzz;bbb=yyy;ccc=xxx; ",
+    ),
+    (
+        b"\"aaa\",\"b\r\nbb\",\"ccc\"\r\nzzz,yyy,xxx",
+        b"1:aaa=zzz;b\r\nbb=yyy;ccc=xxx; ",
+    ),
     (
         b"a,b,c\r\n\"aaa\",\"b\r\nbb\",\"ccc\"\r\nzzz,yyy,xxx",
         b"1:a=aaa;b=b\r\nbb;c=ccc; 2:a=zzz;b=yyy;c=xxx; ",
     ),
+    (b"\"aaa\",\"b\"\"bb\",\"ccc\"", b""),
     (
         b"a,b,c\r\n\"aaa\",\"b\"\"bb\",\"ccc\"",
         b"1:a=aaa;b=b\"bb;c=ccc; ",
     ),
+];
+
+#[test]
+fn examples_of_the_standard(rt: HostRuntime) -> Result<(), NoMemory> {
+    let alloc = rt.alloc();
+    let opts = options(alloc, Format::Csv, b",", Comments::Keep)?;
+    check_files(&rt, alloc, &opts, &RFC)
+}
+
+const QUOTES: [(&[u8], &[u8]); 23] = [
     (b"a\nx\"y\"z\n", b"1:a=x\"y\"z; "),
+    (b"a,b\nx\"y,z\"w\n", b"1:a=x\"y;b=z\"w; "),
+    (b"a\n \"x\"\n", b"1:a= \"x\"; "),
     (b"a,b\n\"x\"y,\"z\" \n", b"1:a=xy;b=z ; "),
-    (b"a\nx\ry\r", b"1:a=x\ry\r; "),
-    (b"\n\r\na\n\n1\n\r\n", b"1:a=#1; "),
+    (b"a\n\"x\"y\"z\"\n", b"1:a=xy\"z\"; "),
+    (b"a\n\"x\"\"\"\n", b"1:a=x\"; "),
+    (b"a\n\"\"x\n", b"1:a=x; "),
+    (b"a\n\"\"1\n", b"1:a=1; "),
+    (b"a\n\"1\"2\n", b"1:a=12; "),
+    (b"a\n\"\"\"\"\n", b"1:a=\"; "),
+    (b"a\n\"\"\n", b"1:a=; "),
+    (b"\"\"\n1\n", b"1:=#1; "),
     (b"a,b\n1,\"1\"\n,\"\"\n", b"1:a=#1;b=1; 2:a=;b=; "),
+    (b"a,b\n\"1,2\",3\n", b"1:a=1,2;b=#3; "),
+    (b"a,b\n\"x\"\"y\",\"z\"\"\"\n", b"1:a=x\"y;b=z\"; "),
+    (b"a\n\"x\ny\"\n", b"1:a=x\ny; "),
+    (b"\"a\nb\"\n\"c\nd\"\n", b"1:a\nb=c\nd; "),
+    (b"a,b\n\"x\n\n\ny\",1\n", b"1:a=x\n\n\ny;b=#1; "),
+    (b"a\n\"x\n\"\"\n\"\"\"\n", b"1:a=x\n\"\n\"; "),
+    (
+        b"a,b\n\"1\n2\",\"3\n4\"\n5,6\n",
+        b"1:a=1\n2;b=3\n4; 2:a=#5;b=#6; ",
+    ),
+    (b"a\n\"x\n\"y\n", b"1:a=x\ny; "),
+    (
+        b"a\n\"a text of more than sixteen bytes\"\n",
+        b"1:a=a text of more than sixteen bytes; ",
+    ),
+    (
+        b"\"a name of more than sixteen bytes\"\nx\n",
+        b"1:a name of more than sixteen bytes=x; ",
+    ),
+];
+
+#[test]
+fn quotes_read_at_any_cut(rt: HostRuntime) -> Result<(), NoMemory> {
+    let alloc = rt.alloc();
+    let opts = options(alloc, Format::Csv, b",", Comments::Keep)?;
+    check_files(&rt, alloc, &opts, &QUOTES)
+}
+
+const LINES: [(&[u8], &[u8]); 26] = [
+    (b"", b""),
+    (b"\n\r\n\n", b""),
+    (b"a,b", b""),
+    (b"a,b\r\n", b""),
+    (b"\"a\nb\"\n", b""),
+    (b"a\n1", b"1:a=#1; "),
+    (b"a\nx\ry\r", b"1:a=x\ry\r; "),
+    (b"a\rb\nx\n", b"1:a\rb=x; "),
+    (b"a\nx\r\r\n", b"1:a=x\r; "),
+    (b"a\n\r", b"1:a=\r; "),
+    (b"a\n\r\r\n", b"1:a=\r; "),
+    (b"a\n\"\r\n\r\"\r\n", b"1:a=\r\n\r; "),
+    (b"a,b\r\n\"x\r\",\"y\r\n\"\r\n", b"1:a=x\r;b=y\r\n; "),
+    (b"\n\r\na\n\n1\n\r\n", b"1:a=#1; "),
+    (b"a\n\n\n1\n\n\n2\n\n", b"1:a=#1; 2:a=#2; "),
+    (b"a\n \n", b"1:a= ; "),
+    (b"a,b,c\n,,\n", b"1:a=;b=;c=; "),
+    (b"a,b\n1,\n,2\n", b"1:a=#1;b=; 2:a=;b=#2; "),
+    (b",\n1,2\n", b"1:=#1;_2=#2; "),
+    (b"a,\n1,2\n", b"1:a=#1;=#2; "),
+    (b"a,b,c\n-1,0x1f,1.5\n", b"1:a=#-1;b=#0x1f;c=1.5; "),
+    (b"a,b\n1_000,1 \n", b"1:a=1_000;b=1 ; "),
+    (b"\xff,\x00\n\x80,\x01\n", b"1:\xff=\x80;\x00=\x01; "),
     (b"a,a,a\n1,2,3\n", b"1:a=#1;a_2=#2;a_3=#3; "),
-    (b"a,b\n1,2\n3\n4,5\n", b"1:a=#1;b=#2; !3!2!1 "),
+    (b"a,a_2,a\n1,2,3\n", b"1:a=#1;a_2=#2;a_3=#3; "),
+    (b"a,a,a_2\n1,2,3\n", b"1:a=#1;a_2=#2;a_2_2=#3; "),
+];
+
+#[test]
+fn lines_read_at_any_cut(rt: HostRuntime) -> Result<(), NoMemory> {
+    let alloc = rt.alloc();
+    let opts = options(alloc, Format::Csv, b",", Comments::Keep)?;
+    check_files(&rt, alloc, &opts, &LINES)
+}
+
+const MARKS: [(&[u8], &[u8]); 10] = [
+    (b"\xef\xbb\xbf", b""),
+    (b"\xef\xbb\xbfa\n1\n", b"1:a=#1; "),
+    (b"\xef\xbb\xbf\"a\"\n1\n", b"1:a=#1; "),
+    (b"\xef\xbb\xbf\na\n1\n", b"1:a=#1; "),
+    (b"\xef\xbb\xbf\"a\n", b"!1 "),
+    (b"\xef\xbb\n1", b"1:\xef\xbb=#1; "),
+    (b"\xef\xbb\xbf\xef\xbb\xbfa\nx\n", b"1:\xef\xbb\xbfa=x; "),
+    (b"\n\xef\xbb\xbfa\nx\n", b"1:\xef\xbb\xbfa=x; "),
+    (b"\"\xef\xbb\xbfa\"\n\"\"\"\"\n", b"1:\xef\xbb\xbfa=\"; "),
+    (b"a\n\xef\xbb\xbf1\n", b"1:a=\xef\xbb\xbf1; "),
+];
+
+#[test]
+fn byte_order_mark_at_the_start_alone(rt: HostRuntime) -> Result<(), NoMemory> {
+    let alloc = rt.alloc();
+    let opts = options(alloc, Format::Csv, b",", Comments::Keep)?;
+    check_files(&rt, alloc, &opts, &MARKS)
+}
+
+const FAULTS: [(&[u8], &[u8]); 18] = [
+    (b"a,b\n1\n", b"!2!2!1 "),
+    (b"a\n1,2\n", b"!2!1!2 "),
     (b"a,b\n1,2,3\n", b"!2!2!3 "),
+    (b"a,b\n\n\r\n1\n", b"!4!2!1 "),
+    (b"a,b\n1,2\n3", b"1:a=#1;b=#2; !3!2!1 "),
+    (b"a,b\n1,2\n3\n4,5\n", b"1:a=#1;b=#2; !3!2!1 "),
+    (b"a,b\n1\n2\n\"", b"!2!2!1 "),
+    (b"a,b\n\"x\ny\"\n", b"!2!2!1 "),
     (
         b"a,b\n\"x\ny\",\"\n\"\n\"u\nv\"\n",
         b"1:a=x\ny;b=\n; !5!2!1 ",
@@ -153,27 +276,44 @@ const CSV: [(&[u8], &[u8]); 24] = [
     (b"a\n1\n\n\"x\ny", b"1:a=#1; !4 "),
     (b"a\n\"x\n", b"!2 "),
     (b"\"", b"!1 "),
-    (b"a\n\"\r\n\r\"\r\n", b"1:a=\r\n\r; "),
-    (b"\xef\xbb\xbf\"a\"\n1\n", b"1:a=#1; "),
-    (b"\"\xef\xbb\xbfa\"\n\"\"\"\"\n", b"1:\xef\xbb\xbfa=\"; "),
+    (b"a,b\n1,\"x", b"!2 "),
+    (b"a\n\"\"\"\n", b"!2 "),
+    (b"a\n\"\r\n", b"!2 "),
+    (b"a,b\n\"1\n2\",\"3\n4", b"!2 "),
+    (b"a,b\n\"1\n2\",3\n\n4,\"5\n", b"1:a=1\n2;b=#3; !5 "),
 ];
 
 #[test]
-fn csv_read_at_any_cut(rt: HostRuntime) -> Result<(), NoMemory> {
+fn faults_name_the_line_of_their_row(rt: HostRuntime) -> Result<(), NoMemory> {
     let alloc = rt.alloc();
     let opts = options(alloc, Format::Csv, b",", Comments::Keep)?;
-    check_files(&rt, alloc, &opts, &CSV)
+    check_files(&rt, alloc, &opts, &FAULTS)
 }
 
-const TSV: [(&[u8], &[u8]); 5] = [
+const TSV: [(&[u8], &[u8]); 20] = [
+    (b"", b""),
+    (b"a\tb", b""),
+    (b"a\tb\n1\tx\n", b"1:a=#1;b=x; "),
     (
         b"a\tb\r\nx\\ty\tz\\n\\\\\\q\\\n",
         b"1:a=x\ty;b=z\n\\\\q\\; ",
     ),
     (b"a\n\"x\n\"\"\n", b"1:a=\"x; 2:a=\"\"; "),
+    (b"a\tb\n\"x\ty\"\n", b"1:a=\"x;b=y\"; "),
+    (b"a\n\"x", b"1:a=\"x; "),
     (b"a\\tb\tc\n\t1\n", b"1:a\tb=;c=#1; "),
+    (b"a\n\\\\t\n", b"1:a=\\t; "),
+    (b"a\n\\\\\\t\n", b"1:a=\\\t; "),
+    (b"a\n\\r\\\"\n", b"1:a=\\r\\\"; "),
+    (b"a\n1\\n2\n", b"1:a=1\n2; "),
+    (b"a\n\\\r\n", b"1:a=\\; "),
+    (b"a\tb\n\t\n", b"1:a=;b=; "),
+    (b"a,b\nx,y\n", b"1:a,b=x,y; "),
+    (b"a\ta\n1\t2\n", b"1:a=#1;a_2=#2; "),
+    (b"\n\r\na\n\n1", b"1:a=#1; "),
+    (b"\xef\xbb\xbfa\n1\r", b"1:a=1\r; "),
     (b"a\tb\n1\n", b"!2!2!1 "),
-    (b"\n\na\n1", b"1:a=#1; "),
+    (b"a\n\n1\t2\n3\n", b"!3!1!2 "),
 ];
 
 #[test]
@@ -181,69 +321,6 @@ fn tsv_read_at_any_cut(rt: HostRuntime) -> Result<(), NoMemory> {
     let alloc = rt.alloc();
     let opts = options(alloc, Format::Tsv, b"\t", Comments::Keep)?;
     check_files(&rt, alloc, &opts, &TSV)
-}
-
-const RAGGED: [(&[u8], &[u8]); 4] = [
-    (
-        b"x,y\n1\n\"2\",3,4\n",
-        b"1:1=x;2=y; 2:1=#1; 3:1=2;2=#3;3=#4; ",
-    ),
-    (b"x", b"1:1=x; "),
-    (b"\"x\ny\",,\n,\n", b"1:1=x\ny;2=;3=; 2:1=;2=; "),
-    (b"", b""),
-];
-
-#[test]
-fn ragged_rows_without_header(rt: HostRuntime) -> Result<(), NoMemory> {
-    let alloc = rt.alloc();
-    let mut opts = options(alloc, Format::Csv, b",", Comments::Keep)?;
-    opts.implicit = true;
-    opts.ragged = true;
-    check_files(&rt, alloc, &opts, &RAGGED)
-}
-
-const SURPLUS: [(&[u8], &[u8]); 3] = [
-    (b"a,b\n1\n2,3,4,5\n", b"1:a=#1; 2:a=#2;b=#3;3=#4;4=#5; "),
-    (b"3,b\n1,2,3\n", b"1:3=#1;b=#2;3_2=#3; "),
-    (b"a,a\n1,2,3\n", b"1:a=#1;a_2=#2;3=#3; "),
-];
-
-#[test]
-fn ragged_rows_under_a_header(rt: HostRuntime) -> Result<(), NoMemory> {
-    let alloc = rt.alloc();
-    let mut opts = options(alloc, Format::Csv, b",", Comments::Keep)?;
-    opts.ragged = true;
-    check_files(&rt, alloc, &opts, &SURPLUS)
-}
-
-const REPEATED: [(&[u8], &[u8]); 2] = [
-    (b"a,b,a\n1,2,3\n4,5,6\n", b"1:a=#3;b=#2; 2:a=#6;b=#5; "),
-    (b"a,b\n1,2,3\n", b"!2!2!3 "),
-];
-
-#[test]
-fn names_that_repeat_and_stay(rt: HostRuntime) -> Result<(), NoMemory> {
-    let alloc = rt.alloc();
-    let mut opts = options(alloc, Format::Csv, b",", Comments::Keep)?;
-    opts.dedupe = false;
-    check_files(&rt, alloc, &opts, &REPEATED)
-}
-
-const COMMENTS: [(&[u8], &[u8]); 3] = [
-    (
-        b"%% x\r\na::b:c\n%%y\n1::\"2::3\"\n\"\n%%\"::%%\n",
-        b"%% x\n %%y\n 1:a=#1;b:c=2::3; 2:a=\n%%;b:c=%%; ",
-    ),
-    (b"%a\n1\n%%", b"1:%a=#1; %%\n "),
-    (b"a::\"\n%%", b"!1 "),
-];
-
-#[test]
-fn comments_and_a_long_separator(rt: HostRuntime) -> Result<(), NoMemory> {
-    let alloc = rt.alloc();
-    let prefix = Bytes::copy_of(alloc, b"%%")?;
-    let opts = options(alloc, Format::Csv, b"::", Comments::Pass(prefix))?;
-    check_files(&rt, alloc, &opts, &COMMENTS)
 }
 
 #[test]
