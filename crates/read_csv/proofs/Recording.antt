@@ -1,15 +1,16 @@
 -- Records made of a header and values.
-use Rattle.std.proofs.Common.{◌≡◌, ℕ, zero, suc, ◌+◌, ◌-◌, ◌^◌, ◌<◌, ◌≤◌, Bool, true, false, List, [], ◌∷◌, ◌++◌, map, length, get_or, take, drop, None, refl, ap, ap₂, sym, ◌∙◌, append_assoc, arith, inl, inr, add-one, length-take, length-append}
+use Rattle.std.proofs.Common.{◌≡◌, ℕ, zero, suc, ◌+◌, ◌-◌, ◌^◌, ◌<◌, ◌≤◌, Bool, true, false, ◌||◌, List, [], ◌∷◌, ◌++◌, map, length, get_or, take, drop, None, refl, ap, ap₂, sym, ◌∙◌, append_assoc, arith, inl, inr, add-one, length-take, length-append}
 use Rattle.std.proofs.lemmas.List.{append-nil, take_more}
 use Rattle.std.specs.Fmt.{decimal}
 use Rattle.std.proofs.lemmas.List.{take-append-drop}
 use Rattle.std.proofs.lemmas.Bool.{cases_Bool, cases_lt}
 use Rattle.std.specs.Str.{bytes_eq}
-use Rattle.mlr_spec.specs.Pairs.{value_at, put_at, keys_of}
+use Rattle.mlr_spec.specs.Pairs.{are_distinct, value_at, put_at, keys_of}
 use Rattle.mlr_spec.specs.Tree.{Tree}
+use Rattle.mlr_spec.proofs.Flattening.{put_each-distinct}
 use Rattle.mlr_event.specs.Reading.{is_among, free_name, distinct_behind, distinct_names, paired, record_of}
 use Rattle.mlr_event.specs.Rows.{with_field, with_fields}
-use Rattle.mlr_event.proofs.Distinct.{free_name-free, length-distinct}
+use Rattle.mlr_event.proofs.Distinct.{are_distinct-names, free_name-free, length-distinct}
 use Rattle.mlr_event.proofs.Putting.{with_fields-more, with_fields-none, value_at-free, record_of-is}
 use Rattle.read_csv.specs.Rows.{positions_from, row_keys}
 
@@ -41,6 +42,19 @@ keys-so-far header values place low low_2 =
     keys-paired (distinct_names (take place header)) (take place values)
     (omega (arith, length-distinct [] (take place header), length-take place header, length-take place values))
     ∙ take-distinct [] header place
+
+-- under distinct names, fields are put as they are pushed
+pub fields-distinct : (dedupe distinct : Bool) (header : List (List ℕ)) (values : List Tree) (n : ℕ) → n ≤ length header → n ≤ length values → length header < 2 ^ 62
+    → (distinct ≡ true → distinct_names header ≡ header) → with_fields (dedupe || distinct) [] (take n header) (take n values) ≡ with_fields dedupe [] (take n header) (take n values)
+fields-distinct true distinct header values n low low_2 few is = refl
+fields-distinct false false header values n low low_2 few is = refl
+fields-distinct false true header values n low low_2 few is =
+    let names = take n header in
+    let same : distinct_names names ≡ names = take-distinct [] header n ∙ ap (take n) (is refl) in
+    let pairs = paired names (take n values) in
+    let keys : keys_of pairs ≡ names = keys-paired names (take n values) (omega (arith, length-take n header, length-take n values)) in
+    ap (λ k. paired k (take n values)) same
+    ∙ sym (put_each-distinct [] pairs (ap are_distinct (keys ∙ sym same) ∙ are_distinct-names names (omega (arith, length-take n header))))
 
 -- fields, and then more fields
 pub with_fields-append : (dedupe : Bool) (pairs : List (List ℕ × Tree)) (names more : List (List ℕ)) (values rest : List Tree) → length names ≡ length values

@@ -4,6 +4,7 @@
 mod escapes;
 mod fields;
 mod given;
+mod heading;
 #[cfg(test)]
 mod hostile_tests;
 mod laws;

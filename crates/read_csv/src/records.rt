@@ -5,6 +5,7 @@ ghost use Rattle.mlr_value.specs.Value.{tree_of};
 ghost use Rattle.read_csv.specs.Rows.{positions_from, row_keys};
 ghost use Rattle.read_csv.specs.Headers.{source_of};
 
+use crate::heading::Heading;
 use itoa::Buffer;
 use mlr_event::Header;
 use mlr_event::rows::put_field;
@@ -29,7 +30,7 @@ fn few(count: usize) -> Result<(), NoMemory>
 pub(crate) fn record_of_row(
     alloc: Global,
     dedupe: bool,
-    header: &Header,
+    header: &Heading,
     values: &mut Vec<Value>,
 ) -> Result<Record, NoMemory>
     ensures made { IfOk result (λ made. made ≡ record_of dedupe (row_keys header.now (vec_len values.old)) (map tree_of values.old.items)) }
@@ -37,14 +38,17 @@ pub(crate) fn record_of_row(
 {
     few(values.len())?;
     let mut record = Record::new(alloc)?;
-    let named = values.len().min(header.len());
-    put_named(dedupe, header, values, named, &mut record)?;
+    let names = header.header();
+    let named = values.len().min(names.len());
+    let distinct = dedupe | header.is_distinct();
+    put_named(distinct, names, values, named, &mut record)?;
     put_surplus(alloc, dedupe, values, named, &mut record)?;
     values.clear();
     Ok(record)
 }
 
-/// Puts the first values into an empty record, under the names of the header.
+/// Puts the first values into an empty record, under the names of the header: each made distinct, which takes no
+/// search, or with the last value where a name repeats.
 fn put_named(
     dedupe: bool,
     header: &Header,

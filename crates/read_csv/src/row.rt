@@ -6,8 +6,8 @@ ghost use Rattle.read_csv.specs.Rows.{row_keys};
 ghost use Rattle.read_csv.specs.Fields.{quoted_value};
 ghost use Rattle.read_csv.specs.Taking.{in_quotes, no_row, with_text, with_value};
 
+use crate::heading::Heading;
 use crate::records::{record_of_row, texts};
-use mlr_event::Header;
 use mlr_record::Record;
 use mlr_spec::{InferOpts, NoMemory};
 use mlr_value::{Bytes, Value, from_data};
@@ -133,7 +133,7 @@ impl Row {
         &mut self,
         alloc: Global,
         dedupe: bool,
-        header: &Header,
+        header: &Heading,
     ) -> Result<Record, NoMemory>
         requires { self.old.quotes ≡ None }
         ensures made { IfOk result (λ made. made ≡ record_of dedupe (row_keys header.now (length self.old.values)) self.old.values) }

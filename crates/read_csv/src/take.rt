@@ -8,12 +8,13 @@ ghost use Rattle.read_csv.specs.Rules.{after_last, after_line, begins_now, behin
 
 use crate::fields::take_text;
 use crate::given::Given;
+use crate::heading::Heading;
 use crate::quotes::behind;
 use crate::records::positions;
 use crate::row::Row;
 use crate::rules::RowRules;
 use mlr_event::rows::{is_comment, next_ctx, push_comment};
-use mlr_event::{Event, Events, Fault, FileRef, Header, ReadOpts};
+use mlr_event::{Event, Events, Fault, FileRef, ReadOpts};
 use mlr_lines::{LineFormat, without_return};
 use mlr_spec::NoMemory;
 use std::alloc::Global;
@@ -139,7 +140,7 @@ fn close_row(
     opts: &ReadOpts,
     file: FileRef,
     line: u64,
-    header: &mut Option<Header>,
+    header: &mut Option<Heading>,
     row: &mut Row,
 ) -> Result<Given, NoMemory>
     requires { row.old.quotes ≡ None }
@@ -169,14 +170,14 @@ fn give_row(
     opts: &ReadOpts,
     file: FileRef,
     line: u64,
-    header: &Header,
+    header: &Heading,
     row: &mut Row,
 ) -> Result<Given, NoMemory>
     requires { row.old.quotes ≡ None }
     ensures items { IfOk result (λ given. given_items given ≡ values_items opts.now file line header.now row.old.values) }
     ensures row { OnOk result (row.new ≡ no_row) }
 {
-    let want = header.len();
+    let want = header.header().len();
     let have = row.len();
     if opts.ragged || have == want {
         let record = row.record(alloc, opts.dedupe, header)?;
@@ -192,7 +193,7 @@ fn give_row(
 }
 
 /// The header that the first row makes.
-fn first_header(alloc: Global, implicit: bool, row: &Row) -> Result<Header, NoMemory>
+fn first_header(alloc: Global, implicit: bool, row: &Row) -> Result<Heading, NoMemory>
     ensures { IfOk result (λ header. header ≡ header_of implicit row.now.values) }
 {
     let names = if implicit {
@@ -200,7 +201,7 @@ fn first_header(alloc: Global, implicit: bool, row: &Row) -> Result<Header, NoMe
     } else {
         row.texts(alloc)?
     };
-    Header::new(alloc, names)
+    Heading::new(alloc, names)
 }
 
 /// Puts what stands behind a place of a line, and LF, into quotes that are open.
