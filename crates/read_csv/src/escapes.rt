@@ -1,4 +1,4 @@
-ghost use Rattle.std.specs.Prelude.{◌≡◌, ◌<◌, [], length, IfOk, MatchOption};
+ghost use Rattle.std.specs.Prelude.{◌≡◌, [], IfOk, MatchOption};
 ghost use Rattle.read_csv.specs.Fields.{unescaped};
 ghost use Rattle.read_csv.specs.Escapes.{Unescapes};
 

@@ -1,4 +1,4 @@
-ghost use Rattle.std.specs.Prelude.{◌≡◌, ◌↔◌, ◌+◌, ◌^◌, ◌<◌, ◌≤◌, ℕ, List, [], ◌++◌, true, length, IsTrue, IfOk, OnOk, OnErr};
+ghost use Rattle.std.specs.Prelude.{◌≡◌, ◌↔◌, ◌+◌, ◌^◌, ◌≤◌, ℕ, List, [], ◌++◌, true, length, IsTrue, IfOk, OnOk, OnErr};
 ghost use Rattle.mlr_event.specs.declared.event.Ctx.{Ctx};
 ghost use Rattle.mlr_event.specs.declared.names.FileRef.{FileRef};
 ghost use Rattle.mlr_event.specs.declared.options.ReadOpts.{ReadOpts};

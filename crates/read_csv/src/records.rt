@@ -1,4 +1,4 @@
-ghost use Rattle.std.specs.Prelude.{◌≡◌, ◌+◌, ◌-◌, ◌<◌, ◌≤◌, ◌^◌, ◌∷◌, [], length, map, take, drop, min, IfOk, OnOk, vec_len};
+ghost use Rattle.std.specs.Prelude.{◌≡◌, ◌+◌, ◌-◌, ◌<◌, ◌≤◌, ◌^◌, ◌∷◌, [], length, map, take, drop, IfOk, OnOk, vec_len};
 ghost use Rattle.mlr_event.specs.Reading.{record_of};
 ghost use Rattle.mlr_event.specs.Rows.{with_fields};
 ghost use Rattle.mlr_value.specs.Value.{tree_of};

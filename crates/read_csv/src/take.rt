@@ -1,6 +1,5 @@
-ghost use Rattle.std.specs.Prelude.{◌≡◌, ◌+◌, ◌^◌, ◌<◌, ◌≤◌, ◌++◌, ◌∷◌, [], false, length, drop, if◌then◌else◌, IfOk, OnOk, Some, None};
-ghost use Rattle.mlr_event.specs.Reading.{ctx_after, events_of};
-ghost use Rattle.mlr_event.specs.Stream.{has_fault};
+ghost use Rattle.std.specs.Prelude.{◌≡◌, ◌+◌, ◌^◌, ◌<◌, ◌≤◌, ◌++◌, ◌∷◌, [], false, length, drop, IfOk, OnOk, None};
+ghost use Rattle.mlr_event.specs.Reading.{events_of};
 ghost use Rattle.read_csv.specs.Given.{given_items};
 ghost use Rattle.read_csv.specs.Headers.{closed_values, header_of, values_header, values_items};
 ghost use Rattle.read_csv.specs.Taking.{no_row, row_taken};
