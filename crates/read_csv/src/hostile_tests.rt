@@ -82,6 +82,7 @@ fn wide_row(alloc: Global, columns: usize) -> Result<(Bytes, Bytes), NoMemory> {
     Ok((text, want))
 }
 
+/// `rt try` comes to its time limit here, since each name is compared with those before it; built, it takes a moment.
 #[test]
 fn row_of_many_columns(rt: HostRuntime) -> Result<(), NoMemory> {
     let alloc = rt.alloc();

@@ -54,22 +54,22 @@ fn put_named(
     header: &Header,
     values: &mut Vec<Value>,
     named: usize,
-    record: &mut Record,
+    into: &mut Record,
 ) -> Result<(), NoMemory>
     requires values { named ≤ vec_len values.old }
     requires names { named ≤ length header.now }
     requires few { length header.now < 2 ^ 62 }
-    requires empty { record.old ≡ [] }
-    ensures fields { OnOk result (record.new ≡ with_fields dedupe [] (take named header.now) (take named (map tree_of values.old.items))) }
+    requires empty { into.old ≡ [] }
+    ensures fields { OnOk result (into.new ≡ with_fields dedupe [] (take named header.now) (take named (map tree_of values.old.items))) }
     ensures rest { OnOk result (drop named values.new.items ≡ drop named values.old.items) }
     ensures len { OnOk result (vec_len values.new ≡ vec_len values.old) }
 {
     for place in 0..named {
         let value = taken(values, place);
         if dedupe {
-            record.push(header.key(place), value)?;
+            into.push(header.key(place), value)?;
         } else {
-            record.put(header.name(place), value)?;
+            into.put(header.name(place), value)?;
         }
     }
     Ok(())
@@ -81,18 +81,18 @@ fn put_surplus(
     dedupe: bool,
     values: &mut Vec<Value>,
     named: usize,
-    record: &mut Record,
+    into: &mut Record,
 ) -> Result<(), NoMemory>
     requires few { vec_len values.old < 2 ^ 62 }
-    requires record { length record.old ≤ named }
-    ensures { OnOk result (record.new ≡ with_fields dedupe record.old (positions_from (named + 1) (vec_len values.old - named)) (map tree_of (drop named values.old.items))) }
+    requires into { length into.old ≤ named }
+    ensures { OnOk result (into.new ≡ with_fields dedupe into.old (positions_from (named + 1) (vec_len values.old - named)) (map tree_of (drop named values.old.items))) }
 {
     for place in named..values.len() {
         let value = taken(values, place);
         let mut buffer = Buffer::new();
         put_field(
             alloc,
-            record,
+            into,
             buffer.format(place + 1).as_bytes(),
             value,
             dedupe,

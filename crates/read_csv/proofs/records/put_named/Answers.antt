@@ -14,7 +14,7 @@ push-requires c =
     let place = c.loop-place.place in
     let below : place < length header = omega (arith, c.loop-place-test.true, c.requires.names) in
     let below_2 : place < length values = omega (arith, c.loop-place-test.true, c.requires.values, length-map c.args.values.now.items tree_of) in
-    key-free header c.loop-place.record place below c.requires.few (keys-now c.args.dedupe header values place below below_2 c.loop-place.record c.loop-place.invariant.fields c.if-dedupe.true) c.key.result.now c.key.ensures
+    key-free header c.loop-place.into place below c.requires.few (keys-now c.args.dedupe header values place below below_2 c.loop-place.into c.loop-place.invariant.fields c.if-dedupe.true) c.key.result.now c.key.ensures
 
 pub loop-place-preserved : goal.loop-place-preserved
 loop-place-preserved c =
@@ -23,7 +23,7 @@ loop-place-preserved c =
     let items = c.args.values.now.items in
     let values = map tree_of items in
     let place = c.loop-place.place in
-    let pairs = c.loop-place.record in
+    let pairs = c.loop-place.into in
     let value = c.taken-value.result in
     let below : place < length header = omega (arith, c.loop-place-test.true, c.requires.names) in
     let below_2 : place < length values = omega (arith, c.loop-place-test.true, c.requires.values, length-map items tree_of) in
@@ -33,11 +33,11 @@ loop-place-preserved c =
       fields = elim c.if-dedupe.branch [
         | then-dedupe+in_ok-push w ↦
             let keys = keys-now dedupe header values place below below_2 pairs c.loop-place.invariant.fields w.if-dedupe.true in
-            w.record-is ∙ w.in_ok-push.ensures
+            w.into-is ∙ w.in_ok-push.ensures
             ∙ pushed-is dedupe w.if-dedupe.true pairs (get_or header place []) w.key.result.now (tree_of value) (key-is header pairs place below c.requires.few keys w.key.result.now w.key.ensures)
             ∙ ap (λ v. with_field dedupe (get_or header place []) v pairs) (sym (out.1 empty)) ∙ more [] empty
         | else-dedupe+in_ok-put w ↦
-            w.record-is ∙ w.in_ok-put.ensures
+            w.into-is ∙ w.in_ok-put.ensures
             ∙ put-is dedupe w.if-dedupe.false pairs w.name.result.now (tree_of value)
             ∙ ap (λ n. with_field dedupe n (tree_of value) pairs) w.name.ensures
             ∙ ap (λ v. with_field dedupe (get_or header place w.name.result.now) v pairs) (sym (out.1 empty)) ∙ more w.name.result.now empty

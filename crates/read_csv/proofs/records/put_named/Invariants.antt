@@ -6,7 +6,7 @@ use Rattle.read_csv.proofs.records.put_named.Given as goal
 
 abbrev pub invariant-loop-place : goal.invariant-loop-place
 invariant-loop-place l = record {
-  fields : l.record ≡ with_fields l.dedupe [] (take l.place l.header) (take l.place (map tree_of l.fn.values.items));
+  fields : l.into ≡ with_fields l.dedupe [] (take l.place l.header) (take l.place (map tree_of l.fn.values.items));
   rest : drop l.place l.values.items ≡ drop l.place l.fn.values.items;
   len : vec_len l.values ≡ vec_len l.fn.values;
 }

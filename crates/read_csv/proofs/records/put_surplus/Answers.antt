@@ -11,7 +11,7 @@ pub loop-place-preserved : goal.loop-place-preserved
 loop-place-preserved c =
     let dedupe = c.args.dedupe in
     let place = c.loop-place.place in
-    let pairs = c.loop-place.record in
+    let pairs = c.loop-place.into in
     let value = tree_of c.taken-value.result in
     let count = vec_len c.loop-place.values in
     let rest = map tree_of (drop (place + 1) c.taken-value.new.values.items) in

@@ -8,8 +8,8 @@ use Rattle.read_csv.proofs.records.put_surplus.Given as goal
 -- what is left comes to what the whole row comes to
 abbrev pub invariant-loop-place : goal.invariant-loop-place
 invariant-loop-place l = record {
-  fields : with_fields l.dedupe l.record (positions_from (l.place + 1) (vec_len l.values - l.place)) (map tree_of (drop l.place l.values.items))
-      ≡ with_fields l.dedupe l.fn.record (positions_from (l.named + 1) (vec_len l.fn.values - l.named)) (map tree_of (drop l.named l.fn.values.items));
+  fields : with_fields l.dedupe l.into (positions_from (l.place + 1) (vec_len l.values - l.place)) (map tree_of (drop l.place l.values.items))
+      ≡ with_fields l.dedupe l.fn.into (positions_from (l.named + 1) (vec_len l.fn.values - l.named)) (map tree_of (drop l.named l.fn.values.items));
   len : vec_len l.values ≡ vec_len l.fn.values;
-  few : length l.record ≤ l.place;
+  few : length l.into ≤ l.place;
 }

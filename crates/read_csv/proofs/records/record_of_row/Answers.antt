@@ -8,8 +8,8 @@ use Rattle.read_csv.specs.Rows.{positions_from, row_keys}
 use Rattle.read_csv.proofs.Recording.{fields-distinct, row-made, map-drop, length-with_fields}
 use Rattle.read_csv.proofs.records.record_of_row.Goals as goal
 
-pub put_surplus-requires-clause-record : goal.put_surplus-requires-clause-record
-put_surplus-requires-clause-record c =
+pub put_surplus-requires-clause-into : goal.put_surplus-requires-clause-into
+put_surplus-requires-clause-into c =
     let header = c.args.header.now in
     let values = map tree_of c.args.values.now.items in
     let named = c.min-named.result in
@@ -36,12 +36,12 @@ returns-clause-made c =
     let count : vec_len c.put_named.new.values ≡ length values = c.in_ok-put_named.ensures.len ∙ size ∙ sym (length-map items tree_of) in
     let low : named ≤ length header = omega (arith, c.min-named.ensures, c.len-3.ensures.count, ap length c.header-names.ensures) in
     let low_2 : named ≤ length values = omega (arith, c.min-named.ensures, length-map items tree_of) in
-    let fields : c.put_named.new.record ≡ with_fields dedupe [] (take named header) (take named values) =
+    let fields : c.put_named.new.into ≡ with_fields dedupe [] (take named header) (take named values) =
     c.in_ok-put_named.ensures.fields
     ∙ ap (λ h. with_fields (dedupe || c.is_distinct.result) [] (take named h) (take named values)) c.header-names.ensures
     ∙ fields-distinct dedupe c.is_distinct.result header values named low low_2 (omega (arith, c.len-3.ensures.few, ap length c.header-names.ensures)) c.is_distinct.ensures in
     c.in_ok-put_surplus.ensures
-    ∙ ap₂ (λ n rest. with_fields dedupe c.put_named.new.record (positions_from (named + 1) (n - named)) (map tree_of rest)) count c.in_ok-put_named.ensures.rest
+    ∙ ap₂ (λ n rest. with_fields dedupe c.put_named.new.into (positions_from (named + 1) (n - named)) (map tree_of rest)) count c.in_ok-put_named.ensures.rest
     ∙ ap₂ (λ p vs. with_fields dedupe p (positions_from (named + 1) (length values - named)) vs) fields (map-drop tree_of items named)
     ∙ row-made dedupe header values named low_2 low (λ less. omega (arith, c.min-named.ensures, c.len-3.ensures.count, ap length c.header-names.ensures, length-map items tree_of))
     ∙ ap (λ n. record_of dedupe (row_keys header n) values) (length-map items tree_of ∙ sym size)
