@@ -102,6 +102,7 @@ impl BlockReader {
         ensures stands { OnOk result ((opts : ReadOpts) (file : FileRef) (start : Ctx) (bytes : List ℕ) → StandsFor opts file start self.old bytes → StandsForWhole opts file start self.new bytes) }
         ensures adds { OnOk result ((opts : ReadOpts) (file : FileRef) (start : Ctx) (bytes : List ℕ) → StandsFor opts file start self.old bytes → Adds out.old out.new (block_fed opts file start bytes) (block_read opts file start bytes)) }
         ensures ended { OnOk result (HasEnded self.new) }
+        ensures room { OnOk result (used self.new ≤ used self.old + 1) }
         ensures err { OnErr result (IsBroken self.new) }
     {
         self.lines.end(out)
@@ -111,6 +112,8 @@ impl BlockReader {
     pub fn ctx(&self) -> Ctx
         ensures fed { (opts : ReadOpts) (file : FileRef) (start : Ctx) (bytes : List ℕ) → StandsFor opts file start self.now bytes → result ≡ ctx_fed opts file start bytes }
         ensures read { (opts : ReadOpts) (file : FileRef) (start : Ctx) (bytes : List ℕ) → StandsForWhole opts file start self.now bytes → result ≡ ctx_read opts file start bytes }
+        ensures nr { result.nr ≤ used self.now }
+        ensures fnr { result.fnr ≤ used self.now }
     {
         self.lines.format().at()
     }
