@@ -8,7 +8,6 @@ ghost use Rattle.read_xtab_pprint.specs.Rules.{Begins, count_of};
 ghost use Rattle.read_xtab_pprint.specs.Standing.{CanTake, HasEnded, IsBroken, IsOpen, StandsFor, StandsForWhole, ctx_fed, ctx_read, used};
 ghost use Rattle.read_xtab_pprint.specs.Usable.{is_usable};
 
-use crate::options::copy_options;
 use crate::rules::{BlockRules, PprintRules, XtabRules};
 use mlr_event::{Ctx, Events, FileRef, Format, ReadOpts};
 use mlr_lines::Lines;
@@ -76,7 +75,7 @@ impl BlockReader {
         ensures open { IfOk result (λ reader. IsOpen reader) }
         ensures room { IfOk result (λ reader. used reader ≤ 2 ^ 62) }
     {
-        let rules = first_rules(alloc, copy_options(alloc, opts)?, file, start);
+        let rules = first_rules(alloc, opts.copy(alloc)?, file, start);
         Ok(BlockReader {
             lines: Lines::new(alloc, rules),
         })
