@@ -1,6 +1,6 @@
 ghost use Rattle.std.specs.Prelude.{◌≡◌, ◌^◌, ◌<◌, ◌-◌, ◌++◌, length, OnOk};
 ghost use Rattle.read_xtab_pprint.specs.Last.{xtab_after_last, xtab_gives_last};
-ghost use Rattle.read_xtab_pprint.specs.Xtab.{is_gap, without_spaces};
+ghost use Rattle.read_xtab_pprint.specs.Xtab.{without_spaces};
 ghost use Rattle.read_xtab_pprint.specs.XtabRules.{behind_gap, begun_pairs, gap_events, with_text, xtab_after, xtab_count, xtab_events};
 
 use crate::rules::XtabRules;
