@@ -1,4 +1,5 @@
 pub mod Piecewise
+pub mod Naming
 pub mod Whole
 pub mod Tables
 pub mod Fronts

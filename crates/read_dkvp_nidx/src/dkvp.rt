@@ -1,8 +1,6 @@
 ghost use Rattle.std.specs.Prelude.{◌≡◌, ◌^◌, ◌<◌, [], length, IfOk, OnOk};
-ghost use Rattle.mlr_spec.specs.Infer.{tree_of_data};
 ghost use Rattle.mlr_spec.specs.Split.{split_by};
 ghost use Rattle.mlr_event.specs.Reading.{record_of};
-ghost use Rattle.mlr_event.specs.Rows.{with_field};
 ghost use Rattle.read_dkvp_nidx.specs.Dkvp.{dkvp_record, keys_from, values_from};
 ghost use Rattle.read_dkvp_nidx.specs.Pieces.{with_piece};
 ghost use Rattle.read_dkvp_nidx.specs.Row.{row_items};
@@ -10,11 +8,10 @@ ghost use Rattle.read_dkvp_nidx.specs.Row.{row_items};
 use crate::row::Row;
 use itoa::Buffer;
 use mlr_event::ReadOpts;
-use mlr_event::rows::put_field;
+use mlr_event::rows::put_text;
 use mlr_record::Record;
 use mlr_record::split::{next_part, separator_place};
 use mlr_spec::NoMemory;
-use mlr_value::from_data;
 use std::alloc::Global;
 
 /// The record of a line, if the line isn't empty.
@@ -90,20 +87,4 @@ fn put_piece(
             )
         }
     }
-}
-
-/// Puts a field of this text into the record.
-#[inline]
-pub(crate) fn put_text(
-    alloc: Global,
-    opts: &ReadOpts,
-    key: &[u8],
-    text: &[u8],
-    record: &mut Record,
-) -> Result<(), NoMemory>
-    requires { length record.old < 2 ^ 63 }
-    ensures { OnOk result (record.new ≡ with_field opts.now.dedupe key.now (tree_of_data opts.now.infer text.now) record.old) }
-{
-    let value = from_data(alloc, text, opts.infer)?;
-    put_field(alloc, record, key, value, opts.dedupe)
 }

@@ -7,7 +7,6 @@ mod dkvp;
 mod laws;
 mod markdown;
 mod nidx;
-mod options;
 mod reader;
 mod row;
 mod rules;

@@ -1,15 +1,15 @@
-ghost use Rattle.std.specs.Prelude.{◌≡◌, ◌^◌, ◌<◌, [], length, map, IfOk, OnOk};
+ghost use Rattle.std.specs.Prelude.{◌≡◌, ◌^◌, ◌<◌, [], Some, length, map, true, IfOk, OnOk};
 ghost use Rattle.mlr_spec.specs.Infer.{tree_of_data};
-ghost use Rattle.mlr_event.specs.Reading.{record_of};
+ghost use Rattle.mlr_spec.specs.Pairs.{are_distinct};
+ghost use Rattle.mlr_event.specs.Reading.{paired, record_of};
 ghost use Rattle.read_dkvp_nidx.specs.Markdown.{block_behind, markdown_row, row, row_block, row_items as items_in_block, under};
 ghost use Rattle.read_dkvp_nidx.specs.Row.{block_of, place_of, row_items};
-ghost use Rattle.std.specs.Prelude.{Some};
 
-use crate::block::{Block, Header};
+use crate::block::Block;
 use crate::cells::{are_rules, cells_of};
-use crate::dkvp::put_text;
 use crate::row::Row;
-use mlr_event::{Fault, FileRef, ReadOpts};
+use mlr_event::rows::{push_text, put_text};
+use mlr_event::{Fault, FileRef, Header, ReadOpts};
 use mlr_record::Record;
 use mlr_spec::NoMemory;
 use mlr_value::Bytes;
@@ -58,13 +58,13 @@ fn table_row(
     ensures block { OnOk result (block.new ≡ place_of (row_block (block_of block.old) (Some cells.items))) }
 {
     let (row, next) = match mem::replace(block, Block::Outside) {
-        Block::Outside => (Row::Nothing, Block::Under(Header::new(cells))),
+        Block::Outside => (Row::Nothing, Block::Under(Header::new(alloc, cells)?)),
         Block::Under(header) => (
-            rule_row(opts, place, header.cells(), cells.as_slice()),
+            rule_row(opts, place, &header, cells.as_slice()),
             Block::Within(header),
         ),
         Block::Within(header) => (
-            cells_row(alloc, opts, place, header.cells(), cells.as_slice())?,
+            cells_row(alloc, opts, place, &header, cells.as_slice())?,
             Block::Within(header),
         ),
     };
@@ -73,7 +73,7 @@ fn table_row(
 }
 
 /// What the line under a header gives: nothing, or a fault.
-fn rule_row(opts: &ReadOpts, place: Place, header: &[Bytes], cells: &[Bytes]) -> Row
+fn rule_row(opts: &ReadOpts, place: Place, header: &Header, cells: &[Bytes]) -> Row
     ensures { row_items result ≡ items_in_block opts.now place.file place.line (under header.now) (Some cells.now) }
 {
     if !are_rules(cells) {
@@ -94,39 +94,77 @@ fn cells_row(
     alloc: Global,
     opts: &ReadOpts,
     place: Place,
-    header: &[Bytes],
+    header: &Header,
     cells: &[Bytes],
 ) -> Result<Row, NoMemory>
-    requires { length cells.now < 2 ^ 63 }
     ensures { IfOk result (λ made. row_items made ≡ row opts.now place.file place.line header.now cells.now) }
 {
     if cells.len() != header.len() {
         return Ok(Row::Fault(length_fault(place, header, cells)));
     }
     let mut record = Record::new(alloc)?;
-    put_cells(alloc, opts, header, cells, &mut record)?;
+    fill(alloc, opts, header, cells, &mut record)?;
     Ok(Row::Fields(record))
 }
 
-fn put_cells(
+/// Puts cells, as many as those of the header, into an empty record.
+fn fill(
     alloc: Global,
     opts: &ReadOpts,
-    header: &[Bytes],
+    header: &Header,
     cells: &[Bytes],
     record: &mut Record,
 ) -> Result<(), NoMemory>
-    requires length { length cells.now < 2 ^ 63 }
     requires same { length cells.now ≡ length header.now }
     requires empty { record.old ≡ [] }
     ensures { OnOk result (record.new ≡ record_of opts.now.dedupe header.now (map (tree_of_data opts.now.infer) cells.now)) }
 {
+    if opts.dedupe {
+        push_cells(alloc, opts, header.keys(), cells, record)
+    } else {
+        put_cells(alloc, opts, header.names(), cells, record)
+    }
+}
+
+/// Puts them under names that are distinct.
+fn push_cells(
+    alloc: Global,
+    opts: &ReadOpts,
+    names: &[Bytes],
+    cells: &[Bytes],
+    record: &mut Record,
+) -> Result<(), NoMemory>
+    requires distinct { are_distinct names.now ≡ true }
+    requires same { length cells.now ≡ length names.now }
+    requires empty { record.old ≡ [] }
+    ensures { OnOk result (record.new ≡ paired names.now (map (tree_of_data opts.now.infer) cells.now)) }
+{
     for (i, cell) in cells.iter().enumerate() {
-        put_text(alloc, opts, header[i].as_slice(), cell.as_slice(), record)?;
+        push_text(alloc, opts, names[i].as_slice(), cell.as_slice(), record)?;
     }
     Ok(())
 }
 
-fn length_fault(place: Place, header: &[Bytes], cells: &[Bytes]) -> Fault
+/// Puts them under names that may repeat.
+fn put_cells(
+    alloc: Global,
+    opts: &ReadOpts,
+    names: &[Bytes],
+    cells: &[Bytes],
+    record: &mut Record,
+) -> Result<(), NoMemory>
+    requires length { length cells.now < 2 ^ 63 }
+    requires same { length cells.now ≡ length names.now }
+    requires empty { record.old ≡ [] }
+    ensures { OnOk result (record.new ≡ record_of opts.now.dedupe names.now (map (tree_of_data opts.now.infer) cells.now)) }
+{
+    for (i, cell) in cells.iter().enumerate() {
+        put_text(alloc, opts, names[i].as_slice(), cell.as_slice(), record)?;
+    }
+    Ok(())
+}
+
+fn length_fault(place: Place, header: &Header, cells: &[Bytes]) -> Fault
     ensures { result ≡ Fault.Length place.file place.line (length header.now) (length cells.now) }
 {
     Fault::Length {

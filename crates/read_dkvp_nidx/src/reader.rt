@@ -8,7 +8,6 @@ ghost use Rattle.read_dkvp_nidx.specs.Standing.{CanTake, HasEnded, IsBroken, IsO
 ghost use Rattle.read_dkvp_nidx.specs.Usable.{is_usable};
 
 use crate::block::Block;
-use crate::options::copy_options;
 use crate::rules::LineRules;
 use mlr_event::{Ctx, Events, FileRef, Format, ReadOpts};
 use mlr_lines::Lines;
@@ -51,7 +50,7 @@ impl LineReader {
     {
         let rules = LineRules {
             alloc,
-            opts: copy_options(alloc, opts)?,
+            opts: opts.copy(alloc)?,
             file,
             number: 1,
             block: Block::Outside,

@@ -1,6 +1,5 @@
-ghost use Rattle.std.specs.Prelude.{◌≡◌, ◌^◌, ◌<◌, ◌≤◌, ◌++◌, IfOk, OnOk, length, false};
+ghost use Rattle.std.specs.Prelude.{◌≡◌, ◌^◌, ◌<◌, ◌++◌, IfOk, OnOk, length, false};
 ghost use Rattle.mlr_event.specs.Reading.{events_of};
-ghost use Rattle.mlr_lines.specs.Lines.{without_return};
 ghost use Rattle.read_dkvp_nidx.specs.Row.{block_of, place_of, row_items};
 ghost use Rattle.read_dkvp_nidx.specs.Rules.{after_last, after_line, behind_line, behind_row, count_of, gives_last, gives_line, line_events, plain_block, plain_items};
 
@@ -11,7 +10,7 @@ use crate::row::Row;
 use crate::rules::LineRules;
 use mlr_event::rows::{is_comment, next_ctx, push_comment};
 use mlr_event::{Event, Events, Format};
-use mlr_lines::LineFormat;
+use mlr_lines::{LineFormat, without_return};
 use mlr_spec::NoMemory;
 
 impl LineFormat for LineRules {
@@ -104,16 +103,5 @@ impl LineRules {
             ),
             _ => Ok(Row::Nothing),
         }
-    }
-}
-
-/// An ended line without the CR before its LF.
-fn without_return(line: &[u8]) -> &[u8]
-    ensures text { result.now ≡ without_return line.now }
-    ensures length { length result.now ≤ length line.now }
-{
-    match line {
-        [front @ .., b'\r'] => front,
-        _ => line,
     }
 }

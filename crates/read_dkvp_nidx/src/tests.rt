@@ -258,3 +258,88 @@ fn options_that_can_not_be_read_by(rt: HostRuntime) -> Result<(), NoMemory> {
     }
     Ok(())
 }
+
+/// Checks that a file gives the same events wherever it is cut.
+fn check_cuts(
+    rt: &impl Abort,
+    alloc: Global,
+    opts: &ReadOpts,
+    file: &[u8],
+) -> Result<(), NoMemory> {
+    let want = read(alloc, opts, file, b"")?;
+    for cut in 0..file.len() {
+        let shown = read(alloc, opts, &file[..cut], &file[cut..])?;
+        assert_eq!(rt; shown.as_slice(), want.as_slice(), "cut at {cut}");
+    }
+    Ok(())
+}
+
+/// The file with another byte at this place.
+fn with_byte(alloc: Global, file: &[u8], place: usize, byte: u8) -> Result<Vec<u8>, NoMemory> {
+    let mut text = Vec::with_capacity(alloc, file.len())?;
+    for (i, old) in file.iter().enumerate() {
+        text.push(if i == place { byte } else { *old })?;
+    }
+    Ok(text)
+}
+
+/// The same with each byte in turn at this place.
+fn check_place(
+    rt: &impl Abort,
+    alloc: Global,
+    opts: &ReadOpts,
+    file: &[u8],
+    place: usize,
+) -> Result<(), NoMemory> {
+    for byte in 0..=255 {
+        let text = with_byte(alloc, file, place, byte)?;
+        check_cuts(rt, alloc, opts, text.as_slice())?;
+    }
+    Ok(())
+}
+
+/// The same at each place.
+fn check_bytes(
+    rt: &impl Abort,
+    alloc: Global,
+    opts: &ReadOpts,
+    file: &[u8],
+) -> Result<(), NoMemory> {
+    for place in 0..file.len() {
+        check_place(rt, alloc, opts, file, place)?;
+    }
+    Ok(())
+}
+
+#[test]
+fn dkvp_with_any_byte_anywhere(rt: HostRuntime) -> Result<(), NoMemory> {
+    let comments = Comments::Pass(Bytes::copy_of(rt.alloc(), b"#")?);
+    let opts = options(rt.alloc(), Format::Dkvp, (b",", b"="), comments)?;
+    check_bytes(&rt, rt.alloc(), &opts, b"a=1\r\n#\n,b")
+}
+
+#[test]
+fn nidx_with_any_byte_anywhere(rt: HostRuntime) -> Result<(), NoMemory> {
+    let comments = Comments::Pass(Bytes::copy_of(rt.alloc(), b"#")?);
+    let opts = options(rt.alloc(), Format::Nidx, (b" ", b""), comments)?;
+    check_bytes(&rt, rt.alloc(), &opts, b" a\r\n#\nb ")
+}
+
+#[test]
+fn markdown_with_any_byte_anywhere(rt: HostRuntime) -> Result<(), NoMemory> {
+    let comments = Comments::Pass(Bytes::copy_of(rt.alloc(), b"#")?);
+    let opts = options(rt.alloc(), Format::Markdown, (b"", b""), comments)?;
+    check_bytes(&rt, rt.alloc(), &opts, b"|a|\r\n|-|\n|\\|")
+}
+
+#[test]
+fn markdown_names_that_repeat_without_dedupe(rt: HostRuntime) -> Result<(), NoMemory> {
+    let mut opts = options(rt.alloc(), Format::Markdown, (b"", b""), Comments::Keep)?;
+    opts.dedupe = false;
+    check_files(
+        &rt,
+        rt.alloc(),
+        &opts,
+        &[(b"|a|b|a|\n|-|-|-|\n|1|2|3|\n", b"1:a=3;b=2; ")],
+    )
+}

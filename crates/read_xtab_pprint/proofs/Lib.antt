@@ -4,4 +4,5 @@ pub mod Pprinting
 pub mod Xtabbing
 pub mod Whole
 pub mod Fronts
+pub mod Gaps
 pub mod Naming

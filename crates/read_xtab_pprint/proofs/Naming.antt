@@ -1,10 +1,10 @@
 -- A row under distinct names.
-use Rattle.std.proofs.Common.{◌≡◌, ℕ, suc, ◌+◌, ◌<◌, true, List, [], ◌∷◌, ◌++◌, length, take, drop, get_or, None, refl, ap, ap₂, sym, ◌∙◌, add-one}
+use Rattle.std.proofs.Common.{◌≡◌, ℕ, ◌+◌, ◌<◌, true, List, [], ◌∷◌, ◌++◌, length, take, drop, get_or, None, ap, ap₂, sym, ◌∙◌, add-one}
 use Rattle.std.proofs.Math.Seq.{drop-cons}
 use Rattle.std.proofs.lemmas.List.{map-append, take-append-drop, take_more}
 use Rattle.mlr_spec.specs.Pairs.{are_distinct, keys_of, value_at}
 use Rattle.mlr_spec.specs.Tree.{Tree}
-use Rattle.mlr_event.specs.Reading.{distinct_behind, distinct_names, free_name, is_among}
+use Rattle.mlr_event.specs.Reading.{is_among}
 use Rattle.mlr_event.proofs.Putting.{free-of-distinct, value_at-free}
 
 pub at-place : (texts : List (List ℕ)) (i : ℕ) (text : List ℕ) → i < length texts → text ≡ get_or texts i text → drop i texts ≡ text ∷ drop (i + 1) texts
@@ -23,10 +23,3 @@ pub keys-at : (names : List (List ℕ)) (i : ℕ) (name : List ℕ) (value : Tre
     → keys_of (pairs ++ (name, value) ∷ []) ≡ take (i + 1) names
 keys-at names i name value pairs keys below is =
     map-append (λ (pair : List ℕ × Tree). pair.0) pairs ((name, value) ∷ []) ∙ ap₂ (λ ks n. ks ++ n ∷ []) keys is ∙ sym (take_more names i name below)
-
-length-behind : (before names : List (List ℕ)) → length (distinct_behind before names) ≡ length names
-length-behind before [] = refl
-length-behind before (name ∷ names) = ap (λ n. suc n) (length-behind (before ++ free_name before name ∷ []) names)
-
-pub length-distinct : (names : List (List ℕ)) → length (distinct_names names) ≡ length names
-length-distinct names = length-behind [] names

@@ -20,9 +20,10 @@ use Rattle.read_xtab_pprint.specs.declared.rules.PprintRules.{PprintRules}
 use Rattle.read_xtab_pprint.specs.declared.rules.XtabRules.{XtabRules}
 use Rattle.read_xtab_pprint.specs.Pprint.{cells_items, cells_of, is_rule, pprint_line}
 use Rattle.read_xtab_pprint.specs.PprintRules.{pprint_after, pprint_count, pprint_items}
-use Rattle.read_xtab_pprint.specs.Rules.{after_line, count_of}
+use Rattle.read_xtab_pprint.specs.Last.{pprint_after_last, xtab_after_last}
+use Rattle.read_xtab_pprint.specs.Rules.{after_last, after_line, at_of, count_of}
 use Rattle.read_xtab_pprint.specs.Xtab.{is_gap, without_spaces}
-use Rattle.read_xtab_pprint.specs.XtabRules.{begun_items, begun_pairs, with_text, xtab_after, xtab_count}
+use Rattle.read_xtab_pprint.specs.XtabRules.{behind_gap, begun_items, begun_pairs, with_text, xtab_after, xtab_count}
 
 length-put_at : (key : List ℕ) (value : Tree) (pairs : List (List ℕ × Tree)) → length (put_at key value pairs) ≤ length pairs + 1
 length-put_at key value [] = omega arith
@@ -91,3 +92,36 @@ count-xtab rules line = count-by (is_comment rules.opts.comments line) (is_gap l
 pub count-line : (rules : BlockRules) (line : List ℕ) → count_of (after_line rules line) ≤ count_of rules + 1
 count-line (by.Pprint rules) line = count-pprint rules.stopped rules (without_return line) refl
 count-line (by.Xtab rules) line = count-xtab rules (without_return line)
+
+-- the end gives a record at most
+gap-by : (passes gap : Bool) (rules : XtabRules) (line : List ℕ) → is_comment rules.opts.comments line ≡ passes → is_gap line ≡ gap
+    → xtab_count (behind_gap (xtab_after rules line)) ≤ xtab_count rules + 1
+gap-by true gap rules line is gap_is =
+    let one = one-record rules.at (begun_items rules.begun) (few-begun rules.begun) in
+    rw is (omega (arith, one.0, one.1))
+gap-by false true rules line is gap_is =
+    let one = one-record rules.at (begun_items rules.begun) (few-begun rules.begun) in
+    rw is (rw gap_is (omega (arith, one.0, one.1)))
+gap-by false false rules line is gap_is =
+    let begun = with_text rules.opts (without_spaces line) rules.begun in
+    let one = one-record rules.at (begun_items begun) (few-begun begun) in
+    rw is (rw gap_is (omega (arith, one.0, one.1)))
+
+pprint-last : (rules : PprintRules) (line : List ℕ) → pprint_count (pprint_after_last rules line) ≤ pprint_count rules + 1
+pprint-last rules [] = omega arith
+pprint-last rules (b ∷ line) = count-pprint rules.stopped rules (b ∷ line) refl
+
+xtab-last : (rules : XtabRules) (line : List ℕ) → xtab_count (xtab_after_last rules line) ≤ xtab_count rules + 1
+xtab-last rules [] =
+    let one = one-record rules.at (begun_items rules.begun) (few-begun rules.begun) in
+    omega (arith, one.0, one.1)
+xtab-last rules (b ∷ line) = gap-by (is_comment rules.opts.comments (b ∷ line)) (is_gap (b ∷ line)) rules (b ∷ line) refl refl
+
+pub count-last : (rules : BlockRules) (line : List ℕ) → count_of (after_last rules line) ≤ count_of rules + 1
+count-last (by.Pprint rules) line = pprint-last rules line
+count-last (by.Xtab rules) line = xtab-last rules line
+
+-- the numbers of the last record are among what is counted
+pub numbers-counted : (rules : BlockRules) → ((at_of rules).nr ≤ count_of rules) × ((at_of rules).fnr ≤ count_of rules)
+numbers-counted (by.Pprint rules) = (omega arith, omega arith)
+numbers-counted (by.Xtab rules) = (omega arith, omega arith)

@@ -1,6 +1,7 @@
 pub mod Xtab
 pub mod Pprint
 pub mod Blocks
+pub mod Fronts
 pub mod Words
 pub mod Cells
 pub mod PprintRules

@@ -6,11 +6,14 @@ ghost use Rattle.mlr_event.specs.declared.options.Format.TheVariants as format;
 ghost use Rattle.mlr_event.specs.declared.options.ReadOpts.{ReadOpts};
 ghost use Rattle.mlr_lines.specs.Fronts.{ended_front};
 ghost use Rattle.read_xtab_pprint.specs.Blocks.{block_fed, block_read};
+ghost use Rattle.read_xtab_pprint.specs.Fronts.{gap_front};
 
-/// What a front of a file fixes: it stays whatever follows, and in PPRINT it is what the longest front that ends with
-/// a line end stands for as a whole file. It does nothing.
+/// What a front of a file fixes: it stays whatever follows, and it is what a shorter front stands for as a whole file.
+/// In PPRINT that is the longest one that ends with a line end, in XTAB the longest one that ends with the line end of
+/// an empty line. It does nothing.
 pub fn front_laws()
     ensures fed { (opts : ReadOpts) (file : FileRef) (start : Ctx) (bytes rest : List ℕ) → (more : List Event) × (block_fed opts file start (bytes ++ rest) ≡ block_fed opts file start bytes ++ more) }
     ensures read { (opts : ReadOpts) (file : FileRef) (start : Ctx) (bytes rest : List ℕ) → (more : List Event) × (block_read opts file start (bytes ++ rest) ≡ block_fed opts file start bytes ++ more) }
     ensures front { (opts : ReadOpts) (file : FileRef) (start : Ctx) (bytes : List ℕ) → opts.format ≡ format.Pprint → block_fed opts file start bytes ≡ block_read opts file start (ended_front bytes) }
+    ensures gap { (opts : ReadOpts) (file : FileRef) (start : Ctx) (bytes : List ℕ) → opts.format ≡ format.Xtab → block_fed opts file start bytes ≡ block_read opts file start (gap_front opts.comments bytes) }
 {}

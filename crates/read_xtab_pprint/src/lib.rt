@@ -2,10 +2,7 @@
 #![tactic(auto)]
 
 mod cells;
-mod fields;
-mod header;
 mod laws;
-mod options;
 mod pprint;
 mod reader;
 mod row;

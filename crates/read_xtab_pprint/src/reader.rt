@@ -8,7 +8,6 @@ ghost use Rattle.read_xtab_pprint.specs.Rules.{Begins, count_of};
 ghost use Rattle.read_xtab_pprint.specs.Standing.{CanTake, HasEnded, IsBroken, IsOpen, StandsFor, StandsForWhole, ctx_fed, ctx_read, used};
 ghost use Rattle.read_xtab_pprint.specs.Usable.{is_usable};
 
-use crate::options::copy_options;
 use crate::rules::{BlockRules, PprintRules, XtabRules};
 use mlr_event::{Ctx, Events, FileRef, Format, ReadOpts};
 use mlr_lines::Lines;
@@ -76,7 +75,7 @@ impl BlockReader {
         ensures open { IfOk result (λ reader. IsOpen reader) }
         ensures room { IfOk result (λ reader. used reader ≤ 2 ^ 62) }
     {
-        let rules = first_rules(alloc, copy_options(alloc, opts)?, file, start);
+        let rules = first_rules(alloc, opts.copy(alloc)?, file, start);
         Ok(BlockReader {
             lines: Lines::new(alloc, rules),
         })
@@ -102,6 +101,7 @@ impl BlockReader {
         ensures stands { OnOk result ((opts : ReadOpts) (file : FileRef) (start : Ctx) (bytes : List ℕ) → StandsFor opts file start self.old bytes → StandsForWhole opts file start self.new bytes) }
         ensures adds { OnOk result ((opts : ReadOpts) (file : FileRef) (start : Ctx) (bytes : List ℕ) → StandsFor opts file start self.old bytes → Adds out.old out.new (block_fed opts file start bytes) (block_read opts file start bytes)) }
         ensures ended { OnOk result (HasEnded self.new) }
+        ensures room { OnOk result (used self.new ≤ used self.old + 1) }
         ensures err { OnErr result (IsBroken self.new) }
     {
         self.lines.end(out)
@@ -111,6 +111,8 @@ impl BlockReader {
     pub fn ctx(&self) -> Ctx
         ensures fed { (opts : ReadOpts) (file : FileRef) (start : Ctx) (bytes : List ℕ) → StandsFor opts file start self.now bytes → result ≡ ctx_fed opts file start bytes }
         ensures read { (opts : ReadOpts) (file : FileRef) (start : Ctx) (bytes : List ℕ) → StandsForWhole opts file start self.now bytes → result ≡ ctx_read opts file start bytes }
+        ensures nr { result.nr ≤ used self.now }
+        ensures fnr { result.fnr ≤ used self.now }
     {
         self.lines.format().at()
     }

@@ -1,5 +1,4 @@
-use crate::header::Header;
-use mlr_event::{Ctx, Events, FileRef, ReadOpts};
+use mlr_event::{Ctx, Events, FileRef, Header, ReadOpts};
 use mlr_record::Record;
 use std::alloc::Global;
 

@@ -7,10 +7,9 @@ ghost use Rattle.read_xtab_pprint.specs.Pprint.{cells_items, header_behind, is_r
 ghost use Rattle.read_xtab_pprint.specs.PprintRules.{plain_header, plain_items, row_items};
 
 use crate::cells::{copy_cells, count_cells, is_barred, next_cell};
-use crate::fields::{push_text, put_text};
-use crate::header::Header;
 use crate::row::Row;
-use mlr_event::{Fault, FileRef, ReadOpts};
+use mlr_event::rows::{push_text, put_text};
+use mlr_event::{Fault, FileRef, Header, ReadOpts};
 use mlr_record::Record;
 use mlr_spec::NoMemory;
 use mlr_value::Bytes;
@@ -94,12 +93,11 @@ fn row_under(
     requires { count ≡ length (cells_in line.now) }
     ensures { IfOk result (λ made. row_items made ≡ row opts.now place.file place.line header.now (cells_in line.now)) }
 {
-    let cells = header.cells();
-    if count != cells.len() {
+    if count != header.len() {
         return Ok(Row::Fault(Fault::Length {
             file: place.file,
             line: place.line,
-            want: cells.len() as u64,
+            want: header.len() as u64,
             have: count as u64,
         }));
     }
@@ -120,11 +118,10 @@ fn fill(
     requires empty { record.old ≡ [] }
     ensures { OnOk result (record.new ≡ record_of opts.now.dedupe header.now (map (tree_of_data opts.now.infer) (cells_in line.now))) }
 {
-    let cells = header.cells();
     if opts.dedupe {
-        push_cells(alloc, opts, header.names(), line, record)
+        push_cells(alloc, opts, header.keys(), line, record)
     } else {
-        put_cells(alloc, opts, cells, line, record)
+        put_cells(alloc, opts, header.names(), line, record)
     }
 }
 

@@ -1,10 +1,9 @@
-ghost use Rattle.std.specs.Prelude.{◌≡◌, ◌≤◌, length};
-ghost use Rattle.mlr_lines.specs.Lines.{without_return};
+ghost use Rattle.std.specs.Prelude.{◌≡◌};
 ghost use Rattle.read_xtab_pprint.specs.Rules.{at_of};
 
 use crate::rules::BlockRules;
 use mlr_event::{Ctx, Events};
-use mlr_lines::LineFormat;
+use mlr_lines::{LineFormat, without_return};
 use mlr_spec::NoMemory;
 
 impl LineFormat for BlockRules {
@@ -48,16 +47,5 @@ impl BlockRules {
             BlockRules::Pprint(rules) => rules.at,
             BlockRules::Xtab(rules) => rules.at,
         }
-    }
-}
-
-/// An ended line without the CR before its LF.
-fn without_return(line: &[u8]) -> &[u8]
-    ensures text { result.now ≡ without_return line.now }
-    ensures length { length result.now ≤ length line.now }
-{
-    match line {
-        [front @ .., b'\r'] => front,
-        _ => line,
     }
 }

@@ -66,6 +66,21 @@ fn read(alloc: Global, opts: &ReadOpts, front: &[u8], rest: &[u8]) -> Result<Byt
     shown(alloc, &out)
 }
 
+/// The events of a front of a file, while more may come.
+fn fed(alloc: Global, opts: &ReadOpts, front: &[u8]) -> Result<Bytes, NoMemory> {
+    let mut out = Events::new(alloc);
+    let start = Ctx {
+        nr: 0,
+        fnr: 0,
+        filenum: 1,
+    };
+    if front.len() < 1000 && can_read(opts) {
+        let mut reader = BlockReader::new(alloc, opts, FileRef::Main(1), start)?;
+        reader.feed(front, &mut out)?;
+    }
+    shown(alloc, &out)
+}
+
 fn options(alloc: Global, format: Format, comments: Comments) -> ReadOpts {
     ReadOpts {
         format,
@@ -182,6 +197,27 @@ fn xtab_comments_passed(rt: HostRuntime) -> Result<(), NoMemory> {
     check_files(&rt, rt.alloc(), &opts, &XTAB_PASSED)
 }
 
+const XTAB_FRONTS: [(&[u8], &[u8]); 6] = [
+    (b"%%x\na 1\n", b""),
+    (b"a 1\n%%x\n\r", b""),
+    (b"a 1\n%%x\n\r\n", b"%%x\n 1:a=1; "),
+    (b"a 1\n  \n%%x\nb 2\n", b"1:a=1; "),
+    (b"a 1\n\n%%x\n\n%%y\n", b"1:a=1; %%x\n "),
+    (b"\xef\xbb\xbf%%x\n\nb 2", b"%%x\n "),
+];
+
+#[test]
+fn xtab_fronts(rt: HostRuntime) -> Result<(), NoMemory> {
+    let comments = Comments::Pass(Bytes::copy_of(rt.alloc(), b"%%")?);
+    let opts = options(rt.alloc(), Format::Xtab, comments);
+    for (i, row) in XTAB_FRONTS.iter().enumerate() {
+        let (front, want) = *row;
+        let shown = fed(rt.alloc(), &opts, front)?;
+        assert_eq!(rt; shown.as_slice(), want, "at {i}");
+    }
+    Ok(())
+}
+
 #[test]
 fn xtab_comments_skipped(rt: HostRuntime) -> Result<(), NoMemory> {
     let comments = Comments::Skip(Bytes::copy_of(rt.alloc(), b"#")?);
@@ -252,4 +288,70 @@ fn formats_that_can_be_read(rt: HostRuntime) {
         let opts = options(rt.alloc(), format, Comments::Keep);
         assert_eq!(rt; can_read(&opts), want, "at {i}");
     }
+}
+
+/// Checks that a file gives the same events wherever it is cut.
+fn check_cuts(
+    rt: &impl Abort,
+    alloc: Global,
+    opts: &ReadOpts,
+    file: &[u8],
+) -> Result<(), NoMemory> {
+    let want = read(alloc, opts, file, b"")?;
+    for cut in 0..file.len() {
+        let shown = read(alloc, opts, &file[..cut], &file[cut..])?;
+        assert_eq!(rt; shown.as_slice(), want.as_slice(), "cut at {cut}");
+    }
+    Ok(())
+}
+
+/// The file with another byte at this place.
+fn with_byte(alloc: Global, file: &[u8], place: usize, byte: u8) -> Result<Vec<u8>, NoMemory> {
+    let mut text = Vec::with_capacity(alloc, file.len())?;
+    for (i, old) in file.iter().enumerate() {
+        text.push(if i == place { byte } else { *old })?;
+    }
+    Ok(text)
+}
+
+/// The same with each byte in turn at this place.
+fn check_place(
+    rt: &impl Abort,
+    alloc: Global,
+    opts: &ReadOpts,
+    file: &[u8],
+    place: usize,
+) -> Result<(), NoMemory> {
+    for byte in 0..=255 {
+        let text = with_byte(alloc, file, place, byte)?;
+        check_cuts(rt, alloc, opts, text.as_slice())?;
+    }
+    Ok(())
+}
+
+/// The same at each place.
+fn check_bytes(
+    rt: &impl Abort,
+    alloc: Global,
+    opts: &ReadOpts,
+    file: &[u8],
+) -> Result<(), NoMemory> {
+    for place in 0..file.len() {
+        check_place(rt, alloc, opts, file, place)?;
+    }
+    Ok(())
+}
+
+#[test]
+fn xtab_with_any_byte_anywhere(rt: HostRuntime) -> Result<(), NoMemory> {
+    let comments = Comments::Pass(Bytes::copy_of(rt.alloc(), b"#")?);
+    let opts = options(rt.alloc(), Format::Xtab, comments);
+    check_bytes(&rt, rt.alloc(), &opts, b"a 1\r\n#\n\nb")
+}
+
+#[test]
+fn pprint_with_any_byte_anywhere(rt: HostRuntime) -> Result<(), NoMemory> {
+    let comments = Comments::Pass(Bytes::copy_of(rt.alloc(), b"#")?);
+    let opts = options(rt.alloc(), Format::Pprint, comments);
+    check_bytes(&rt, rt.alloc(), &opts, b"a\n| 1 |\r\n#")
 }

@@ -1,12 +1,11 @@
 ghost use Rattle.std.specs.Prelude.{◌≡◌, ◌^◌, ◌<◌, ◌-◌, ◌++◌, length, OnOk};
 ghost use Rattle.read_xtab_pprint.specs.Last.{xtab_after_last, xtab_gives_last};
-ghost use Rattle.read_xtab_pprint.specs.Xtab.{is_gap, without_spaces};
+ghost use Rattle.read_xtab_pprint.specs.Xtab.{without_spaces};
 ghost use Rattle.read_xtab_pprint.specs.XtabRules.{behind_gap, begun_pairs, gap_events, with_text, xtab_after, xtab_count, xtab_events};
 
-use crate::fields::put_text;
 use crate::rules::XtabRules;
 use crate::words::{cut_word, without_spaces};
-use mlr_event::rows::{is_comment, next_ctx, push_comment};
+use mlr_event::rows::{is_comment, next_ctx, push_comment, put_text};
 use mlr_event::{Event, Events, ReadOpts};
 use mlr_record::Record;
 use mlr_spec::NoMemory;

@@ -6,6 +6,6 @@ use Rattle.read_dkvp_nidx.proofs.markdown.put_cells.Given as goal
 -- the cells that are left come to what all cells come to
 abbrev pub invariant-loop-i : goal.invariant-loop-i
 invariant-loop-i l = record {
-  fields : with_fields l.opts.dedupe l.record (drop l.i l.header) (map (tree_of_data l.opts.infer) (drop l.i l.cells)) ≡ with_fields l.opts.dedupe [] l.header (map (tree_of_data l.opts.infer) l.cells);
+  fields : with_fields l.opts.dedupe l.record (drop l.i l.names) (map (tree_of_data l.opts.infer) (drop l.i l.cells)) ≡ with_fields l.opts.dedupe [] l.names (map (tree_of_data l.opts.infer) l.cells);
   few : length l.record ≤ l.i;
 }

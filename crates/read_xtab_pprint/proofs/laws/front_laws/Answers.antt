@@ -1,4 +1,5 @@
 use Rattle.read_xtab_pprint.proofs.Fronts.{fed-front, fed-more, read-more}
+use Rattle.read_xtab_pprint.proofs.Gaps.{fed-gap}
 use Rattle.read_xtab_pprint.proofs.laws.front_laws.Goals as goal
 
 pub returns-clause-fed : goal.returns-clause-fed
@@ -9,3 +10,6 @@ returns-clause-read c = λ opts file start bytes rest. read-more opts file start
 
 pub returns-clause-front : goal.returns-clause-front
 returns-clause-front c = λ opts file start bytes is. fed-front opts file start bytes is
+
+pub returns-clause-gap : goal.returns-clause-gap
+returns-clause-gap c = λ opts file start bytes is. fed-gap opts file start bytes is
