@@ -1,3 +1,4 @@
 pub mod Cutting
 pub mod Feeding
 pub mod Fronting
+pub mod Parting

@@ -4,6 +4,7 @@
 
 mod cut;
 mod format;
+mod laws;
 mod lines;
 #[cfg(test)]
 mod lines_tests;
@@ -11,4 +12,5 @@ mod stage;
 
 pub use cut::without_return;
 pub use format::LineFormat;
+pub use laws::line_laws;
 pub use lines::Lines;
