@@ -1,9 +1,9 @@
-pub mod Splits
-pub mod Pieces
 pub mod Joined
-pub mod LinesOf
 pub mod Takes
 pub mod Messages
-pub mod Runs
+pub mod Showing
+pub mod Turning
+pub mod Going
+pub mod Growing
 pub mod Opened
 pub mod Top

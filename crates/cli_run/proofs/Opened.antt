@@ -1,22 +1,19 @@
 -- What was taken of standard input, from its opening on.
-use Rattle.std.proofs.Common.{◌≡◌, ℕ, ◌<◌, ◌^◌, Bool, true, false, List, [], ◌∷◌, ◌++◌, length, Option, Some, None, refl, ap, sym, subst, ◌∙◌, inl, inr}
+use Rattle.std.proofs.Common.{◌≡◌, ℕ, Bool, true, false, List, [], ◌∷◌, ◌++◌, Option, Some, None, refl, ap, sym, subst, ◌∙◌, inr}
 use Rattle.std.specs.Prelude.{IsSome, IfSome}
 use Rattle.std.specs.Option.{option_map}
 use Rattle.std.proofs.lemmas.Bool.{false≢true}
 use Rattle.std.proofs.lemmas.List.{append-nil}
 use Rattle.mlr_event.specs.declared.names.InputName.TheVariants.{Stdin}
-use Rattle.mlr_event.specs.declared.names.Target.TheVariants.{Stdout}
 use Rattle.mlr_world.specs.Taken.{Take, begun, grown, ended, with_last, last_take}
 use Rattle.mlr_world.specs.Inputs.{Contents, Continues, IsAllTaken}
-use Rattle.mlr_world.specs.Outputs.{Held, ChangesAt}
-use Rattle.mlr_world.proofs.Changes.{ChangesAt-none}
+use Rattle.mlr_world.specs.Outputs.{Held}
 use Rattle.cli_run.specs.declared.answer.Ended.{Ended}
 use Rattle.cli_run.specs.declared.answer.Ended.TheVariants as answer
-use Rattle.cli_run.specs.Plain.{output_of}
-use Rattle.cli_run.specs.Run.{Takes, Says, AreFrontsTaken, stdin_read, PutsFront}
-use Rattle.cli_run.specs.Cat.{Converts}
+use Rattle.cli_run.specs.Run.{Takes, Says, CatRun, AreFrontsTaken, stdin_read}
+use Rattle.cli_run.specs.Sources.{Gives}
+use Rattle.cli_run.specs.Stream.{SaysOf, Went, Fits, took}
 use Rattle.cli_run.proofs.Takes.{with_last-push_told}
-use Rattle.cli_run.proofs.Runs.{nothing_put}
 
 some_of : {A : Type 0} (o : Option A) → IsSome o → (x : A) × (o ≡ Some x)
 some_of None h = absurd (false≢true h)
@@ -82,16 +79,26 @@ module _ (contents0 contents1 : Option Contents) (same : contents1 ≡ contents0
     fronts = whole_front contents0 taken0 bytes (subst (λ t. IsAllTaken contents0 (option_map (with_last (grown bytes)) t)) opened (subst (λ c. IsAllTaken c (option_map (with_last (grown bytes)) taken1)) same all));
   }
 
--- what an answer to a whole input says
-pub says_whole : (answer : Ended) (bytes : List ℕ) → length bytes < 2 ^ 60 → Converts answer bytes → Says answer (stdin_read true bytes) bytes
-says_whole answer.Done bytes few plain = ((refl, few), plain)
-says_whole (answer.Refused refusal) bytes few never = absurd never
-says_whole (answer.NotBuilt line) bytes few odd = ((refl, few), odd)
-says_whole (answer.Read name) bytes few never = absurd never
-says_whole (answer.Written target) bytes few plain = (plain.0, ((refl, few), plain.1))
-says_whole answer.TooLong bytes few never = absurd never
-says_whole answer.NoMemory bytes few any = inr (inr (refl, few))
+-- what a run over the input that was opened says of what was taken
+says-went : (outcome : Ended) (gives : Gives) (all : Bool) (bytes : List ℕ) → SaysOf outcome gives all bytes → Says outcome gives (stdin_read all bytes)
+says-went answer.Done gives all bytes says = ((bytes, ap (λ a. stdin_read a bytes) says.0, says.1), says.2)
+says-went (answer.Refused refusal) gives all bytes says = absurd says
+says-went (answer.Data fault) gives all bytes says = says
+says-went (answer.Read name) gives all bytes says = (says.0, inr (bytes, ap (λ a. stdin_read a bytes) says.1, says.2), says.3)
+says-went (answer.Written target) gives all bytes says = says
+says-went answer.TooLong gives all bytes says = ((bytes, ap (λ a. stdin_read a bytes) says.0, says.1), says.2)
+says-went answer.NoMemory gives all bytes says = tt
 
--- nothing was written
-pub unwritten : (bytes : List ℕ) (held : Option Held) → ChangesAt Stdout (PutsFront (output_of bytes)) held held
-unwritten bytes held = ChangesAt-none Stdout (PutsFront (output_of bytes)) (λ before. nothing_put (output_of bytes) before before refl) held
+module _ (contents0 contents1 : Option Contents) (same : contents1 ≡ contents0) (taken0 taken1 : Option (List Take)) (opened : taken1 ≡ pushed taken0) where
+  takes-went : (all : Bool) (bytes : List ℕ) (taken2 : Option (List Take)) → taken2 ≡ option_map (with_last (took all bytes)) taken1 → Fits all bytes contents1 taken1 → Takes (stdin_read all bytes) contents0 taken0 taken2
+  takes-went true bytes taken2 entry fits = takes_whole contents0 contents1 same taken0 taken1 opened bytes taken2 entry fits
+  takes-went false bytes taken2 entry fits = takes_part contents0 contents1 same taken0 taken1 opened bytes taken2 entry fits
+
+  pub run-went : (outcome : Ended) (nest : Bool) (gives : Gives) (taken2 : Option (List Take)) (held held' : Option Held) → Went outcome nest gives contents1 taken1 taken2 held held' → CatRun outcome nest gives contents0 taken0 taken2 held held'
+  run-went outcome nest gives taken2 held held' went = record {
+    given = stdin_read went.all went.bytes;
+    takes = takes-went went.all went.bytes taken2 went.entry went.fits;
+    stdin = inr (went.all, went.bytes, refl, went.few);
+    says = says-went outcome gives went.all went.bytes went.says;
+    leaves = went.leaves;
+  }

@@ -1,11 +1,11 @@
 -- What was taken, read by read.
-use Rattle.std.proofs.Common.{◌≡◌, ℕ, ◌+◌, ◌<◌, ◌≤◌, Bool, true, false, List, [], ◌∷◌, ◌++◌, length, Option, Some, None, refl, ap, sym, subst, ◌∙◌, append_assoc}
+use Rattle.std.proofs.Common.{◌≡◌, ℕ, false, List, [], ◌∷◌, ◌++◌, Option, Some, None, refl, ap, sym, subst, ◌∙◌, append_assoc}
 use Rattle.std.specs.Prelude.{IsSome, IfSome}
 use Rattle.std.specs.Option.{option_map}
 use Rattle.std.proofs.lemmas.List.{append-nil}
 use Rattle.std.proofs.lemmas.Bool.{false≢true}
 use Rattle.mlr_world.specs.Counts.{Counted}
-use Rattle.mlr_world.specs.Taken.{Take, grown, ended, with_last, last_take, begun}
+use Rattle.mlr_world.specs.Taken.{Take, grown, with_last, last_take}
 use Rattle.mlr_world.specs.Inputs.{Contents, Continues, IsAllTaken}
 
 with_last-twice : (f h k : Take → Take) → ((t : Take) → h (f t) ≡ k t) → (takes : List Take) → with_last h (with_last f takes) ≡ with_last k takes

@@ -1,9 +1,9 @@
-pub mod Plain
 pub mod Answer
-pub mod Pieces
-pub mod Written
-pub mod Conversion
-pub mod Reading
 pub mod Message
+pub mod Shown
+pub mod Sources
+pub mod Lists
+pub mod Command
+pub mod Stream
 pub mod Run
-pub mod Cat
+pub mod Readers

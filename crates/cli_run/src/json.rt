@@ -1,52 +1,105 @@
-ghost use Rattle.std.specs.Prelude.{◌≡◌, ◌++◌, ◌∷◌, [], codes, map, List, ℕ, IfOk, OnOk};
-ghost use Rattle.mlr_spec.specs.Json.{joined, json_field, json_record, json_list};
-ghost use Rattle.cli_run.specs.Written.{HasRecords, Pairs, separated};
+ghost use Rattle.std.specs.Prelude.{◌≡◌, ◌++◌, ◌∷◌, [], codes, map, take, if◌then◌else◌, IfOk, OnOk};
+ghost use Rattle.mlr_spec.specs.Json.{joined, json_field, json_record};
+ghost use Rattle.cli_run.specs.Shown.{shown, shown_record, shown_text, after_record, after_text, place_behind, closing, start, fault_in};
+ghost use Rattle.cli_run.specs.Lists.{place_of, separated};
 
+use mlr_event::{Event, Events, Fault};
 use mlr_json::append_json_field;
 use mlr_record::Record;
 use mlr_spec::{JsonStyle, NoMemory};
 use mlr_value::Bytes;
 use std::alloc::Global;
 
-/// The JSON text of a list of records that is being written: its bracket is open.
+/// The JSON list that a run writes: what is to be written next, and how far the list has come.
 #[derive(Drop)]
 pub(crate) struct JsonList {
     pub(crate) text: Bytes,
+    /// Whether records are unflattened.
+    pub(crate) unflatten: bool,
+    /// Whether a record was put.
     pub(crate) any: bool,
+    /// Whether the last thing was a record, whose line end is missing.
+    pub(crate) mid: bool,
 }
 
 impl JsonList {
-    /// A list without records.
-    pub(crate) fn new(alloc: Global) -> Result<Self, NoMemory>
-        ensures { IfOk result (λ list. HasRecords list []) }
+    /// A list of which nothing was written.
+    pub(crate) fn new(alloc: Global, unflatten: bool) -> Self
+        ensures place { place_of result ≡ start }
+        ensures unflatten { result.unflatten ≡ unflatten }
+        ensures text { result.text ≡ [] }
     {
-        Ok(JsonList {
-            text: Bytes::copy_of(alloc, b"[\n")?,
+        JsonList {
+            text: Bytes::new(alloc),
+            unflatten,
             any: false,
-        })
+            mid: false,
+        }
     }
 
-    /// Puts a record behind those that were put.
-    pub(crate) fn push(&mut self, record: &Record) -> Result<(), NoMemory>
-        ensures { (records : List Pairs) → HasRecords self.old records → OnOk result (HasRecords self.new (records ++ record.now ∷ [])) }
+    /// Puts what is written for these events, up to a fault, which it answers.
+    pub(crate) fn push_all(&mut self, events: Events) -> Result<Option<Fault>, NoMemory>
+        ensures text { OnOk result (self.new.text ≡ self.old.text ++ shown self.old.unflatten (place_of self.old) events) }
+        ensures place { OnOk result (place_of self.new ≡ place_behind (place_of self.old) events) }
+        ensures fault { IfOk result (λ fault. fault ≡ fault_in events) }
+        ensures unflatten { self.new.unflatten ≡ self.old.unflatten }
     {
-        append_separator(b",\n", self.any, &mut self.text)?;
-        append_record(record, &mut self.text)?;
+        for event in events.into_vec() {
+            match event {
+                Event::Rec(fields, _ctx) => self.push_record(fields)?,
+                Event::Text(text) => self.push_text(text)?,
+                Event::Out(_target, _piece) => {}
+                Event::End(_ctx) => {}
+                Event::Fault(fault) => return Ok(Some(fault)),
+            }
+        }
+        Ok(None)
+    }
+
+    fn push_record(&mut self, fields: Record) -> Result<(), NoMemory>
+        ensures text { OnOk result (self.new.text ≡ self.old.text ++ shown_record self.old.unflatten (place_of self.old) fields) }
+        ensures place { OnOk result (place_of self.new ≡ after_record) }
+        ensures unflatten { self.new.unflatten ≡ self.old.unflatten }
+    {
+        let mut fields = fields;
+        if self.unflatten {
+            fields.unflatten(b".")?;
+        }
+        self.text.append(if self.any {
+            b",\n".as_slice()
+        } else {
+            b"[\n".as_slice()
+        })?;
+        append_record(&fields, &mut self.text)?;
         self.any = true;
+        self.mid = true;
         Ok(())
     }
 
-    /// The whole text.
-    pub(crate) fn finish(self) -> Result<Bytes, NoMemory>
-        ensures { (records : List Pairs) → HasRecords self records → IfOk result (λ text. text ≡ json_list records) }
+    fn push_text(&mut self, text: Bytes) -> Result<(), NoMemory>
+        ensures text { OnOk result (self.new.text ≡ self.old.text ++ shown_text (place_of self.old) text) }
+        ensures place { OnOk result (place_of self.new ≡ after_text (place_of self.old)) }
+        ensures unflatten { self.new.unflatten ≡ self.old.unflatten }
     {
-        let JsonList { mut text, any } = self;
-        text.append(if any {
+        if self.mid {
+            self.text.append(b"\n")?;
+        }
+        self.text.append(text.as_slice())?;
+        self.mid = false;
+        Ok(())
+    }
+
+    /// Puts the end of the list.
+    pub(crate) fn close(&mut self) -> Result<(), NoMemory>
+        ensures { OnOk result (self.new.text ≡ self.old.text ++ closing (place_of self.old)) }
+    {
+        self.text.append(if !self.any {
+            b"[\n]\n".as_slice()
+        } else if self.mid {
             b"\n]\n".as_slice()
         } else {
             b"]\n".as_slice()
-        })?;
-        Ok(text)
+        })
     }
 }
 

@@ -3,20 +3,29 @@ ghost use Rattle.std.specs.List.{flat_map};
 ghost use Rattle.mlr_event.specs.declared.names.Target.TheVariants.{Stderr};
 ghost use Rattle.mlr_world.specs.Counts.{Counted, Tallied};
 ghost use Rattle.mlr_world.specs.Outputs.{ChangesAt, call_failed, lacked_memory};
-ghost use Rattle.cli_run.specs.Message.{Puts, message_of, word_at, input_text, target_text};
+ghost use Rattle.mlr_event.specs.declared.names.FileRef.{FileRef};
+ghost use Rattle.cli_run.specs.Message.{Puts, message_of, fault_pieces, line_pieces, byte_pieces, word_at, input_text, target_text};
 
 use crate::Ended;
 use itoa::Buffer;
-use mlr_event::{InputName, Target};
+use mlr_event::{Fault, InputName, Target};
 use mlr_value::Bytes;
 use mlr_world::{Done, Outputs};
+
+/// Room for the numbers of one message.
+#[derive(Drop)]
+pub(crate) struct Digits {
+    pub(crate) first: Buffer,
+    pub(crate) second: Buffer,
+    pub(crate) third: Buffer,
+}
 
 /// Writes the message of an answer to standard error, in pieces from where they stand. Numbers go by way of the
 /// buffer, so that a message takes no memory.
 pub(crate) fn write_message<O: Outputs>(
     words: &[Bytes],
     ended: &Ended,
-    digits: &mut Buffer,
+    digits: &mut Digits,
     outputs: &mut O,
 ) -> Done
     ensures none { ended.now ≡ Ended.Done → result ≡ Done.Ok }
@@ -27,7 +36,7 @@ pub(crate) fn write_message<O: Outputs>(
     match ended {
         Ended::Done => Done::Ok,
         Ended::Refused(refusal) => {
-            let number = digits.format(refusal.word).as_bytes();
+            let number = digits.first.format(refusal.word).as_bytes();
             let word = word_at(words, refusal.word);
             say(
                 outputs,
@@ -36,17 +45,18 @@ pub(crate) fn write_message<O: Outputs>(
                 b": not built: ",
                 word,
                 b"\n",
+                b"",
+                b"",
             )
         }
-        Ended::NotBuilt { line } => {
-            let number = digits.format(*line).as_bytes();
-            say(outputs, b"mlr: not built: line ", number, b"\n", b"", b"")
-        }
+        Ended::Data(fault) => write_fault(fault, digits, outputs),
         Ended::Read(name) => say(
             outputs,
             b"mlr: cannot read ",
             input_text(name),
             b"\n",
+            b"",
+            b"",
             b"",
             b"",
         ),
@@ -57,13 +67,121 @@ pub(crate) fn write_message<O: Outputs>(
             b"\n",
             b"",
             b"",
+            b"",
+            b"",
         ),
-        Ended::TooLong => say(outputs, b"mlr: input too long\n", b"", b"", b"", b""),
-        Ended::NoMemory => say(outputs, b"mlr: out of memory\n", b"", b"", b"", b""),
+        Ended::TooLong => say(
+            outputs,
+            b"mlr: input too long\n",
+            b"",
+            b"",
+            b"",
+            b"",
+            b"",
+            b"",
+        ),
+        Ended::NoMemory => say(
+            outputs,
+            b"mlr: out of memory\n",
+            b"",
+            b"",
+            b"",
+            b"",
+            b"",
+            b"",
+        ),
     }
 }
 
-/// Writes up to five pieces to standard error.
+/// Writes the message of a fault.
+fn write_fault<O: Outputs>(fault: &Fault, digits: &mut Digits, outputs: &mut O) -> Done
+    ensures bytes { ChangesAt Stderr (Puts (flat_map (λ piece. piece) (fault_pieces fault.now)) result) (O.held outputs.old) (O.held outputs.new) }
+    ensures counts { Counted (call_failed result) (O.faults outputs.old) (O.faults outputs.new) Stderr }
+    ensures memory { Tallied (lacked_memory result) (O.shortages outputs.old) (O.shortages outputs.new) }
+{
+    match fault {
+        Fault::Length {
+            line,
+            want,
+            have,
+            ..
+        } => write_length(*line, *want, *have, digits, outputs),
+        Fault::Quote { line, .. } => say_line(*line, b": unclosed quote\n", digits, outputs),
+        Fault::Table { line, .. } => say_line(*line, b": bad table line\n", digits, outputs),
+        Fault::JsonSyntax { byte, .. } => say_byte(*byte, b": bad JSON\n", digits, outputs),
+        Fault::JsonDeep { byte, .. } => {
+            say_byte(*byte, b": nested deeper than 100\n", digits, outputs)
+        }
+        Fault::JsonKind { byte, .. } => say_byte(*byte, b": not a map\n", digits, outputs),
+    }
+}
+
+/// Writes the message of a row of another length than its header.
+fn write_length<O: Outputs>(
+    line: u64,
+    want: u64,
+    have: u64,
+    digits: &mut Digits,
+    outputs: &mut O,
+) -> Done
+    ensures bytes { (file : FileRef) → ChangesAt Stderr (Puts (flat_map (λ piece. piece) (fault_pieces (Fault.Length file line want have))) result) (O.held outputs.old) (O.held outputs.new) }
+    ensures counts { Counted (call_failed result) (O.faults outputs.old) (O.faults outputs.new) Stderr }
+    ensures memory { Tallied (lacked_memory result) (O.shortages outputs.old) (O.shortages outputs.new) }
+{
+    let line = digits.first.format(line).as_bytes();
+    let have = digits.second.format(have).as_bytes();
+    let want = digits.third.format(want).as_bytes();
+    say(
+        outputs,
+        b"mlr: (stdin): line ",
+        line,
+        b": data length ",
+        have,
+        b", header length ",
+        want,
+        b"\n",
+    )
+}
+
+/// Writes what is wrong on a line.
+fn say_line<O: Outputs>(line: u64, what: &[u8], digits: &mut Digits, outputs: &mut O) -> Done
+    ensures bytes { ChangesAt Stderr (Puts (flat_map (λ piece. piece) (line_pieces line what.now)) result) (O.held outputs.old) (O.held outputs.new) }
+    ensures counts { Counted (call_failed result) (O.faults outputs.old) (O.faults outputs.new) Stderr }
+    ensures memory { Tallied (lacked_memory result) (O.shortages outputs.old) (O.shortages outputs.new) }
+{
+    let line = digits.first.format(line).as_bytes();
+    say(
+        outputs,
+        b"mlr: (stdin): line ",
+        line,
+        what,
+        b"",
+        b"",
+        b"",
+        b"",
+    )
+}
+
+/// Writes what is wrong at a byte.
+fn say_byte<O: Outputs>(byte: u64, what: &[u8], digits: &mut Digits, outputs: &mut O) -> Done
+    ensures bytes { ChangesAt Stderr (Puts (flat_map (λ piece. piece) (byte_pieces byte what.now)) result) (O.held outputs.old) (O.held outputs.new) }
+    ensures counts { Counted (call_failed result) (O.faults outputs.old) (O.faults outputs.new) Stderr }
+    ensures memory { Tallied (lacked_memory result) (O.shortages outputs.old) (O.shortages outputs.new) }
+{
+    let byte = digits.first.format(byte).as_bytes();
+    say(
+        outputs,
+        b"mlr: (stdin): byte ",
+        byte,
+        what,
+        b"",
+        b"",
+        b"",
+        b"",
+    )
+}
+
+/// Writes up to seven pieces to standard error.
 fn say<'a, O: Outputs>(
     outputs: &mut O,
     first: &'a [u8],
@@ -71,12 +189,17 @@ fn say<'a, O: Outputs>(
     third: &'a [u8],
     fourth: &'a [u8],
     fifth: &'a [u8],
+    sixth: &'a [u8],
+    seventh: &'a [u8],
 ) -> Done
-    ensures bytes { ChangesAt Stderr (Puts (flat_map (λ piece. piece) (first.now ∷ second.now ∷ third.now ∷ fourth.now ∷ fifth.now ∷ [])) result) (O.held outputs.old) (O.held outputs.new) }
+    ensures bytes { ChangesAt Stderr (Puts (flat_map (λ piece. piece) (first.now ∷ second.now ∷ third.now ∷ fourth.now ∷ fifth.now ∷ sixth.now ∷ seventh.now ∷ [])) result) (O.held outputs.old) (O.held outputs.new) }
     ensures counts { Counted (call_failed result) (O.faults outputs.old) (O.faults outputs.new) Stderr }
     ensures memory { Tallied (lacked_memory result) (O.shortages outputs.old) (O.shortages outputs.new) }
 {
-    write_pieces(outputs, &[first, second, third, fourth, fifth])
+    write_pieces(
+        outputs,
+        &[first, second, third, fourth, fifth, sixth, seventh],
+    )
 }
 
 /// Writes the pieces that have bytes to standard error one by one, up to the first that can't be written.

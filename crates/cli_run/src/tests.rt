@@ -5,6 +5,7 @@ use mlr_spec::NoMemory;
 use mlr_value::Bytes;
 use mlr_world::{MemInputs, MemOutputs};
 use std::alloc::Global;
+use std::process::Abort;
 use std::sync::Wait;
 use std::test::Fail;
 use std::thread::Threads;
@@ -64,7 +65,8 @@ fn bytes_of<'a>(outputs: &'a MemOutputs, target: &Target) -> &'a [u8] {
 /// Words, standard input, standard output, the message, the status.
 type Row = (&'static str, &'static str, &'static str, &'static str, u8);
 
-const ROWS: [Row; 14] = [
+/// DKVP.
+const DKVP: [Row; 10] = [
     (
         "--ojson cat",
         "a=1,b=xyz\n",
@@ -72,7 +74,13 @@ const ROWS: [Row; 14] = [
         "",
         0,
     ),
-    ("--ojson cat", "a=1\nb\n", "", "mlr: not built: line 2\n", 1),
+    (
+        "--idkvp --ojson cat",
+        "a=1\nb\n",
+        "[\n{\n  \"a\": 1\n},\n{\n  \"1\": \"b\"\n}\n]\n",
+        "",
+        0,
+    ),
     ("--ojson cat", "", "[\n]\n", "", 0),
     (
         "--ojson cat",
@@ -83,7 +91,7 @@ const ROWS: [Row; 14] = [
     ),
     (
         "--ojson cat",
-        "a=\n\n\nb=-0.5",
+        "a=\n\r\n\nb=-0.5",
         "[\n{\n  \"a\": \"\"\n},\n{\n  \"b\": -0.5\n}\n]\n",
         "",
         0,
@@ -106,23 +114,103 @@ const ROWS: [Row; 14] = [
     (
         "--ojson cat",
         "a=1,a=2\n",
+        "[\n{\n  \"a\": 1,\n  \"a_2\": 2\n}\n]\n",
         "",
-        "mlr: not built: line 1\n",
-        1,
+        0,
     ),
     (
         "--ojson cat",
-        "a=1\n\nx.y=2\n",
+        "x.y=2,x.z={}\n",
+        "[\n{\n  \"x\": {\n    \"y\": 2,\n    \"z\": {}\n  }\n}\n]\n",
         "",
-        "mlr: not built: line 3\n",
-        1,
+        0,
     ),
-    ("--ojson cat", "a={}\n", "", "mlr: not built: line 1\n", 1),
+];
+
+/// The other formats, and command lines that aren't accepted.
+const OTHERS: [Row; 17] = [
     (
         "--icsv --ojson cat",
-        "a\n1\n",
+        "a,b\r\n1,\"x\ny\"\r\n",
+        "[\n{\n  \"a\": 1,\n  \"b\": \"x\\ny\"\n}\n]\n",
         "",
-        "mlr: word 1: not built: --icsv\n",
+        0,
+    ),
+    (
+        "--icsv --ojson cat",
+        "a,b\n1,2\n3\n",
+        "[\n{\n  \"a\": 1,\n  \"b\": 2\n}",
+        "mlr: (stdin): line 3: data length 1, header length 2\n",
+        1,
+    ),
+    (
+        "--icsv --ojson cat",
+        "a\n1\n\"2",
+        "[\n{\n  \"a\": 1\n}",
+        "mlr: (stdin): line 3: unclosed quote\n",
+        1,
+    ),
+    (
+        "--icsv --ojson cat",
+        "a,b\n1\n",
+        "",
+        "mlr: (stdin): line 2: data length 1, header length 2\n",
+        1,
+    ),
+    (
+        "--itsv --ojson cat",
+        "a\tb\nx\\ty\t2\n",
+        "[\n{\n  \"a\": \"x\\ty\",\n  \"b\": 2\n}\n]\n",
+        "",
+        0,
+    ),
+    (
+        "--inidx --ojson cat",
+        " a  b \n",
+        "[\n{\n  \"1\": \"a\",\n  \"2\": \"b\"\n}\n]\n",
+        "",
+        0,
+    ),
+    (
+        "--ixtab --ojson cat",
+        "x  1\ny",
+        "[\n{\n  \"x\": 1,\n  \"y\": \"\"\n}\n]\n",
+        "",
+        0,
+    ),
+    (
+        "--ixtab --ojson cat",
+        "x 1\n\n\nx 2\n",
+        "[\n{\n  \"x\": 1\n},\n{\n  \"x\": 2\n}\n]\n",
+        "",
+        0,
+    ),
+    (
+        "--ipprint --ojson cat",
+        "a b\n1 -\n\nc\n3\n",
+        "[\n{\n  \"a\": 1,\n  \"b\": \"-\"\n},\n{\n  \"c\": 3\n}\n]\n",
+        "",
+        0,
+    ),
+    (
+        "--imd --ojson cat",
+        "| a |\n| --- |\n| 1 |\n",
+        "[\n{\n  \"a\": 1\n}\n]\n",
+        "",
+        0,
+    ),
+    (
+        "--imd --ojson cat",
+        "| a |\n| --- |\n1\n",
+        "",
+        "mlr: (stdin): line 3: bad table line\n",
+        1,
+    ),
+    (
+        "--ijson --ojson cat",
+        "{}",
+        "",
+        "mlr: word 1: not built: --ijson\n",
         1,
     ),
     ("--ojson", "a=1\n", "", "mlr: word 2: not built: \n", 1),
@@ -133,16 +221,34 @@ const ROWS: [Row; 14] = [
         "mlr: word 3: not built: f\n",
         1,
     ),
+    ("--icsv --ojson", "a\n", "", "mlr: word 3: not built: \n", 1),
+    (
+        "--icsv --itsv",
+        "a\n",
+        "",
+        "mlr: word 2: not built: --itsv\n",
+        1,
+    ),
+    (
+        "--icsv --ojson cat f",
+        "a\n",
+        "",
+        "mlr: word 4: not built: f\n",
+        1,
+    ),
 ];
 
-#[test]
-fn rows_with_the_input_cut_at_every_byte(rt: HostRuntime) -> Result<(), Fail> {
-    let alloc = rt.alloc();
-    for (i, row) in ROWS.iter().enumerate() {
+/// Checks each row, with the input cut at every byte.
+fn check_rows<R: Threads + Wait + Abort + Copy + Send + 'static>(
+    rt: &R,
+    alloc: Global,
+    rows: &[Row],
+) -> Result<(), Fail> {
+    for (i, row) in rows.iter().enumerate() {
         let (words, input, out, message, status) = *row;
         for cut in 0..input.len() + 1 {
             let left = run(
-                &rt,
+                rt,
                 alloc,
                 words,
                 input.as_bytes(),
@@ -167,46 +273,28 @@ fn rows_with_the_input_cut_at_every_byte(rt: HostRuntime) -> Result<(), Fail> {
 }
 
 #[test]
+fn dkvp_cut_at_every_byte(rt: HostRuntime) -> Result<(), Fail> {
+    check_rows(&rt, rt.alloc(), &DKVP)
+}
+
+#[test]
+fn other_formats_cut_at_every_byte(rt: HostRuntime) -> Result<(), Fail> {
+    check_rows(&rt, rt.alloc(), &OTHERS)
+}
+
+#[test]
 fn bytes_that_are_no_plain_text(rt: HostRuntime) -> Result<(), Fail> {
     let alloc = rt.alloc();
     let left = run(
         &rt,
         alloc,
         "--ojson cat",
-        b"\xef\xbb\xbfa=1\n",
-        &[],
-        &[],
-        outputs(alloc, 1000, &[])?,
-    )?;
-    assert_eq!(rt;
-        left.ended,
-        Ended::NotBuilt { line: 1 },
-        "a byte order mark"
-    );
-    let left = run(
-        &rt,
-        alloc,
-        "--ojson cat",
-        b"a=1\nb=2\r\n",
-        &[],
+        b"\xef\xbb\xbfa=\xff\x01\n",
+        &[2, 1],
         &[],
         outputs(alloc, 1000, &[])?,
     )?;
-    assert_eq!(rt;
-        left.ended,
-        Ended::NotBuilt { line: 2 },
-        "a carriage return"
-    );
-    let left = run(
-        &rt,
-        alloc,
-        "--ojson cat",
-        b"a=\xff\x01\n",
-        &[],
-        &[],
-        outputs(alloc, 1000, &[])?,
-    )?;
-    assert_eq!(rt; left.ended, Ended::Done, "no UTF-8");
+    assert_eq!(rt; left.ended, Ended::Done);
     assert_eq!(rt;
         bytes_of(&left.outputs, &Target::Stdout),
         b"[\n{\n  \"a\": \"\xff\\u0001\"\n}\n]\n".as_slice()
@@ -217,20 +305,20 @@ fn bytes_that_are_no_plain_text(rt: HostRuntime) -> Result<(), Fail> {
 #[test]
 fn a_read_that_fails(rt: HostRuntime) -> Result<(), Fail> {
     let alloc = rt.alloc();
-    // The first call is the open, the third the second read.
-    for failing in [1u64, 3] {
+    // The first call is the open, the third the second read, before which the first record is written.
+    for (failing, out) in [(1u64, ""), (3, "[\n{\n  \"a\": 1\n}")] {
         let left = run(
             &rt,
             alloc,
             "--ojson cat",
             b"a=1\nb=2\n",
-            &[3, 1],
+            &[4, 1],
             &[failing],
             outputs(alloc, 1000, &[])?,
         )?;
         assert_eq!(rt; left.ended, Ended::Read(InputName::Stdin), "call {failing}");
         assert_eq!(rt; left.ended.status(), 1);
-        assert_eq!(rt; bytes_of(&left.outputs, &Target::Stdout), b"".as_slice());
+        assert_eq!(rt; bytes_of(&left.outputs, &Target::Stdout), out.as_bytes());
         assert_eq!(rt;
             bytes_of(&left.outputs, &Target::Stderr),
             b"mlr: cannot read (stdin)\n".as_slice()

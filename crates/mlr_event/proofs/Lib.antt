@@ -1,3 +1,4 @@
 pub mod Distinct
 pub mod Putting
 pub mod Streams
+pub mod Naming

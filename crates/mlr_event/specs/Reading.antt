@@ -4,7 +4,7 @@ use Rattle.std.specs.List.{list_any, find, range_with_len}
 use Rattle.std.specs.Str.{bytes_eq}
 use Rattle.std.specs.Fmt.{decimal}
 use Rattle.mlr_spec.specs.Tree.{Tree}
-use Rattle.mlr_spec.specs.Pairs.{keys_of, put_each}
+use Rattle.mlr_spec.specs.Pairs.{put_each}
 use Rattle.mlr_spec.specs.Split.{begins_with}
 use Rattle.mlr_event.specs.declared.event.Ctx.{Ctx}
 use Rattle.mlr_event.specs.declared.event.Event.{Event}

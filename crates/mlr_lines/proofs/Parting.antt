@@ -25,9 +25,9 @@ behind-onto begun b (c ∷ text) =
       | inl y ↦ rw y (ap (λ line. line ∷ slice_split is_end text) (append_assoc begun (b ∷ []) []))
       | inr n ↦ rw n (parts-onto begun b c (slice_split is_end text))
     ] where
-  parts-onto : (begun : List ℕ) (b c : ℕ) (parts : List (List ℕ)) → behind (begun ++ b ∷ []) (onto_first c parts) ≡ behind begun (onto_first b (onto_first c parts))
-  parts-onto begun b c [] = ap (λ line. line ∷ []) (append_assoc begun (b ∷ []) (c ∷ []))
-  parts-onto begun b c (part ∷ parts) = ap (λ line. line ∷ parts) (append_assoc begun (b ∷ []) (c ∷ part))
+      parts-onto : (begun : List ℕ) (b c : ℕ) (parts : List (List ℕ)) → behind (begun ++ b ∷ []) (onto_first c parts) ≡ behind begun (onto_first b (onto_first c parts))
+      parts-onto begun b c [] = ap (λ line. line ∷ []) (append_assoc begun (b ∷ []) (c ∷ []))
+      parts-onto begun b c (part ∷ parts) = ap (λ line. line ∷ parts) (append_assoc begun (b ∷ []) (c ∷ part))
 
 pub parts-behind : (begun text : List ℕ) → ended_behind begun text ++ begun_behind begun text ∷ [] ≡ behind begun (slice_split is_end text)
 parts-behind begun [] = ap (λ line. line ∷ []) (sym (append-nil begun))

@@ -5,4 +5,3 @@ pub mod Xtabbing
 pub mod Whole
 pub mod Fronts
 pub mod Gaps
-pub mod Naming

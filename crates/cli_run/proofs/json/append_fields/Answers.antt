@@ -1,12 +1,12 @@
 use Rattle.mlr_spec.specs.Tree.{Tree}
-use Rattle.std.proofs.Common.{◌≡◌, ℕ, List, ◌++◌, ◌+◌, nat_lt, length, map, take, sym, ap, ◌∙◌, append_assoc, arith}
+use Rattle.std.proofs.Common.{◌≡◌, ℕ, List, ◌++◌, nat_lt, length, map, take, sym, ap, ◌∙◌, append_assoc, arith}
 use Rattle.std.proofs.lemmas.Option.{get_or_from_slice_get}
 use Rattle.std.proofs.Math.Seq.{take-length}
 use Rattle.std.specs.Prelude.{codes}
 use Rattle.mlr_spec.specs.declared.json.JsonStyle.TheVariants.{Stacked}
 use Rattle.mlr_spec.specs.Json.{joined, json_field}
 use Rattle.mlr_value.specs.Value.{tree_of}
-use Rattle.cli_run.specs.Written.{separated}
+use Rattle.cli_run.specs.Lists.{separated}
 use Rattle.cli_run.proofs.Joined.{joined-more}
 use Rattle.cli_run.proofs.json.append_fields.Goals as goal
 

@@ -1,4 +1,4 @@
-use Rattle.std.proofs.Common.{◌≡◌, ℕ, List, [], ◌∷◌, ◌++◌, subst, sym, ap, ◌∙◌}
+use Rattle.std.proofs.Common.{ℕ, List, [], ◌∷◌, subst, sym, ap, ◌∙◌}
 use Rattle.std.specs.Prelude.{codes}
 use Rattle.std.specs.Fmt.{decimal}
 use Rattle.std.specs.List.{flat_map}
@@ -7,36 +7,34 @@ use Rattle.mlr_world.specs.Outputs.{ChangesAt}
 use Rattle.cli_run.specs.Message.{Puts, message_of}
 use Rattle.cli_run.proofs.message.write_message.Goals as goal
 
-abbrev said : List ℕ → List ℕ → List ℕ → List ℕ → List ℕ → List ℕ
-said a b c d e = flat_map (λ piece. piece) (a ∷ b ∷ c ∷ d ∷ e ∷ [])
+abbrev said : List ℕ → List ℕ → List ℕ → List ℕ → List ℕ → List ℕ → List ℕ → List ℕ
+said a b c d e f g = flat_map (λ piece. piece) (a ∷ b ∷ c ∷ d ∷ e ∷ f ∷ g ∷ [])
 
 pub returns-in-Refused-clause-bytes : goal.returns-in-Refused-clause-bytes
 returns-in-Refused-clause-bytes g c =
     let number = c.as_bytes-number.result.now in
     let word = c.word_at-word.result.now in
     subst (λ text. ChangesAt Stderr (Puts text c.say.result) (g.O.Outputs.held c.args.outputs.now) (g.O.Outputs.held c.say.new.outputs))
-    (ap (λ n. said (codes "mlr: word ") n (codes ": not built: ") word (codes "\n")) (c.as_bytes-number.ensures.value ∙ c.format.ensures.text)
-    ∙ ap (λ w. said (codes "mlr: word ") (decimal c.in-Refused.refusal.word) (codes ": not built: ") w (codes "\n")) c.word_at-word.ensures
+    (ap (λ n. said (codes "mlr: word ") n (codes ": not built: ") word (codes "\n") [] []) (c.as_bytes-number.ensures.value ∙ c.format.ensures.text)
+    ∙ ap (λ w. said (codes "mlr: word ") (decimal c.in-Refused.refusal.word) (codes ": not built: ") w (codes "\n") [] []) c.word_at-word.ensures
     ∙ ap (message_of c.args.words.now) (sym c.in-Refused.is))
     c.say.ensures.bytes
 
-pub returns-in-NotBuilt-clause-bytes : goal.returns-in-NotBuilt-clause-bytes
-returns-in-NotBuilt-clause-bytes g c =
-    subst (λ text. ChangesAt Stderr (Puts text c.say-in-NotBuilt.result) (g.O.Outputs.held c.args.outputs.now) (g.O.Outputs.held c.say-in-NotBuilt.new.outputs))
-    (ap (λ n. said (codes "mlr: not built: line ") n (codes "\n") [] []) (c.as_bytes-number-in-NotBuilt.ensures.value ∙ c.format-in-NotBuilt.ensures.text)
-    ∙ ap (message_of c.args.words.now) (sym c.in-NotBuilt.is))
-    c.say-in-NotBuilt.ensures.bytes
+pub returns-in-Data-clause-bytes : goal.returns-in-Data-clause-bytes
+returns-in-Data-clause-bytes g c =
+    subst (λ e. ChangesAt Stderr (Puts (message_of c.args.words.now e) c.write_fault.result) (g.O.Outputs.held c.args.outputs.now) (g.O.Outputs.held c.write_fault.new.outputs))
+    (sym c.in-Data.is) c.write_fault.ensures.bytes
 
 pub returns-in-Read-clause-bytes : goal.returns-in-Read-clause-bytes
 returns-in-Read-clause-bytes g c =
     subst (λ text. ChangesAt Stderr (Puts text c.say-in-Read.result) (g.O.Outputs.held c.args.outputs.now) (g.O.Outputs.held c.say-in-Read.new.outputs))
-    (ap (λ n. said (codes "mlr: cannot read ") n (codes "\n") [] []) c.input_text.ensures ∙ ap (message_of c.args.words.now) (sym c.in-Read.is))
+    (ap (λ n. said (codes "mlr: cannot read ") n (codes "\n") [] [] [] []) c.input_text.ensures ∙ ap (message_of c.args.words.now) (sym c.in-Read.is))
     c.say-in-Read.ensures.bytes
 
 pub returns-in-Written-clause-bytes : goal.returns-in-Written-clause-bytes
 returns-in-Written-clause-bytes g c =
     subst (λ text. ChangesAt Stderr (Puts text c.say-in-Written.result) (g.O.Outputs.held c.args.outputs.now) (g.O.Outputs.held c.say-in-Written.new.outputs))
-    (ap (λ n. said (codes "mlr: cannot write ") n (codes "\n") [] []) c.target_text.ensures ∙ ap (message_of c.args.words.now) (sym c.in-Written.is))
+    (ap (λ n. said (codes "mlr: cannot write ") n (codes "\n") [] [] [] []) c.target_text.ensures ∙ ap (message_of c.args.words.now) (sym c.in-Written.is))
     c.say-in-Written.ensures.bytes
 
 pub returns-in-TooLong-clause-bytes : goal.returns-in-TooLong-clause-bytes

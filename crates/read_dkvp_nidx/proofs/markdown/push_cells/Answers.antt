@@ -2,7 +2,7 @@ use Rattle.std.proofs.Common.{◌+◌, ◌<◌, ◌∷◌, ◌++◌, [], length,
 use Rattle.mlr_spec.specs.Infer.{tree_of_data}
 use Rattle.mlr_spec.specs.Pairs.{keys_of, value_at}
 use Rattle.mlr_event.specs.Reading.{paired}
-use Rattle.read_dkvp_nidx.proofs.Naming.{at-place, free-at, keys-at}
+use Rattle.mlr_event.proofs.Naming.{at-place, free-at, keys-at}
 use Rattle.read_dkvp_nidx.proofs.markdown.push_cells.Goals as goal
 
 pub push_text-requires : goal.push_text-requires

@@ -2,7 +2,7 @@ use Rattle.std.proofs.Common.{◌+◌, length, drop, map, ap, ap₂, sym, ◌∙
 use Rattle.mlr_spec.specs.Infer.{tree_of_data}
 use Rattle.mlr_event.specs.Rows.{with_field, with_fields}
 use Rattle.mlr_event.proofs.Putting.{with_fields-more}
-use Rattle.read_dkvp_nidx.proofs.Naming.{at-place}
+use Rattle.mlr_event.proofs.Naming.{at-place}
 use Rattle.read_dkvp_nidx.proofs.Piecewise.{length-with_field}
 use Rattle.read_dkvp_nidx.proofs.markdown.put_cells.Goals as goal
 

@@ -4,7 +4,7 @@ use Rattle.mlr_spec.specs.Pairs.{keys_of, value_at}
 use Rattle.mlr_event.specs.Reading.{paired}
 use Rattle.read_xtab_pprint.specs.Cells.{cells_left}
 use Rattle.read_xtab_pprint.specs.Pprint.{words_of}
-use Rattle.read_xtab_pprint.proofs.Naming.{at-place, free-at, keys-at}
+use Rattle.mlr_event.proofs.Naming.{at-place, free-at, keys-at}
 use Rattle.read_xtab_pprint.proofs.table.push_cells.Goals as goal
 
 pub push_text-requires : goal.push_text-requires

@@ -5,7 +5,7 @@ use Rattle.mlr_event.proofs.Putting.{with_fields-more}
 use Rattle.read_xtab_pprint.specs.Cells.{cells_left}
 use Rattle.read_xtab_pprint.specs.Pprint.{words_of}
 use Rattle.read_xtab_pprint.specs.Counting.{length-with_field}
-use Rattle.read_xtab_pprint.proofs.Naming.{at-place}
+use Rattle.mlr_event.proofs.Naming.{at-place}
 use Rattle.read_xtab_pprint.proofs.table.put_cells.Goals as goal
 
 pub loop-cell-preserved : goal.loop-cell-preserved

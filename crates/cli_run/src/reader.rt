@@ -1,0 +1,83 @@
+ghost use Rattle.std.specs.Prelude.{◌≡◌, ◌+◌, ◌<◌, ◌^◌, ◌++◌, ℕ, List, length, OnOk};
+ghost use Rattle.mlr_event.specs.declared.event.Event.{Event};
+ghost use Rattle.mlr_lines.specs.Standing.{Adds};
+ghost use Rattle.cli_run.specs.Command.{csv_fed_of, csv_read_of, line_fed_of, line_read_of, block_fed_of, block_read_of};
+ghost use Rattle.cli_run.specs.Readers.{CsvStands, LineStands, BlockStands};
+ghost use Rattle.cli_run.specs.Sources.{Source};
+
+use mlr_event::Events;
+use mlr_spec::NoMemory;
+use read_csv::CsvReader;
+use read_dkvp_nidx::LineReader;
+use read_xtab_pprint::BlockReader;
+
+/// A reader of one file: its bytes come in any pieces, and the events that they fix go out.
+pub(crate) trait ByteReader {
+    /// The reader was made for this source, and these bytes came so far.
+    ghost stands: { Self → Source → List ℕ → Type 0 };
+
+    /// What bytes fix of a file, whatever follows them.
+    ghost fed: { Source → List ℕ → List Event };
+
+    /// What a whole file gives.
+    ghost whole: { Source → List ℕ → List Event };
+
+    /// Takes a piece of the file, and puts out what it fixes.
+    fn feed(&mut self, piece: &[u8], out: &mut Events) -> Result<(), NoMemory>
+        requires { (source : Source) × (bytes : List ℕ) × stands self.old source bytes × (length bytes + length piece.now < 2 ^ 62) }
+        ensures stands { (source : Source) (bytes : List ℕ) → stands self.old source bytes → OnOk result (stands self.new source (bytes ++ piece.now)) }
+        ensures adds { (source : Source) (bytes : List ℕ) → stands self.old source bytes → OnOk result (Adds out.old out.new (fed source bytes) (fed source (bytes ++ piece.now))) };
+
+    /// Takes the end of the file, and puts out the rest.
+    fn end(&mut self, out: &mut Events) -> Result<(), NoMemory>
+        requires { (source : Source) × (bytes : List ℕ) × stands self.old source bytes × (length bytes < 2 ^ 62) }
+        ensures { (source : Source) (bytes : List ℕ) → stands self.old source bytes → OnOk result (Adds out.old out.new (fed source bytes) (whole source bytes)) };
+}
+
+impl ByteReader for CsvReader {
+    ghost stands = { λ reader source bytes. CsvStands reader source bytes };
+
+    ghost fed = { λ source bytes. csv_fed_of source bytes };
+
+    ghost whole = { λ source bytes. csv_read_of source bytes };
+
+    fn feed(&mut self, piece: &[u8], out: &mut Events) -> Result<(), NoMemory> {
+        CsvReader::feed(self, piece, out)
+    }
+
+    fn end(&mut self, out: &mut Events) -> Result<(), NoMemory> {
+        CsvReader::end(self, out)
+    }
+}
+
+impl ByteReader for LineReader {
+    ghost stands = { λ reader source bytes. LineStands reader source bytes };
+
+    ghost fed = { λ source bytes. line_fed_of source bytes };
+
+    ghost whole = { λ source bytes. line_read_of source bytes };
+
+    fn feed(&mut self, piece: &[u8], out: &mut Events) -> Result<(), NoMemory> {
+        LineReader::feed(self, piece, out)
+    }
+
+    fn end(&mut self, out: &mut Events) -> Result<(), NoMemory> {
+        LineReader::end(self, out)
+    }
+}
+
+impl ByteReader for BlockReader {
+    ghost stands = { λ reader source bytes. BlockStands reader source bytes };
+
+    ghost fed = { λ source bytes. block_fed_of source bytes };
+
+    ghost whole = { λ source bytes. block_read_of source bytes };
+
+    fn feed(&mut self, piece: &[u8], out: &mut Events) -> Result<(), NoMemory> {
+        BlockReader::feed(self, piece, out)
+    }
+
+    fn end(&mut self, out: &mut Events) -> Result<(), NoMemory> {
+        BlockReader::end(self, out)
+    }
+}
