@@ -1,0 +1,9 @@
+mod Joined
+mod Walks
+mod Texts
+mod Escapes
+mod Columns
+mod Growing
+mod Taking
+mod Widths
+mod Examples

@@ -1,0 +1,27 @@
+use Rattle.std.proofs.Common.{◌≡◌, ap, sym, ◌∙◌, ◌∷◌, [], ◌++◌, map, append_assoc}
+use Rattle.mlr_spec.specs.Json.{joined}
+use Rattle.writers.specs.declared.form.RowStyle.TheVariants as row
+use Rattle.writers.specs.declared.form.FieldForm.TheVariants as form
+use Rattle.writers.specs.Cells.{texts}
+use Rattle.writers.specs.Csv.{csv_line, never_empty}
+use Rattle.writers.specs.Rows.{field_in, field_text}
+use Rattle.writers.proofs.Texts.{last-part, line-empty, line-some, row-fields}
+use Rattle.writers.proofs.rows.append_csv_line.Goals.{then-len-before+in_ok-append, else-len-before}
+use Rattle.writers.proofs.rows.append_csv_line.Goals as goal
+
+pub returns : goal.returns
+returns c =
+    let opts = c.args.opts.now in
+    let r = c.args.fields.now in
+    let into = c.args.out.now in
+    let line = joined opts.ofs (map (field_in row.Csv opts) (texts c.args.part r)) in
+    let front : c.append_fields.new.out ≡ into ++ line =
+    c.in_ok-append_fields.ensures ∙ ap (λ s. into ++ joined s (map (field_text (form.Row row.Csv c.args.part) opts) r)) c.as_slice.ensures
+    ∙ ap (λ fields. into ++ joined opts.ofs fields) (row-fields row.Csv c.args.part opts r) in
+    let whole : c.if-len-before.out ≡ into ++ never_empty line =
+    elim c.if-len-before.branch [
+      | then-len-before+in_ok-append w ↦ line-empty into line c.append_fields.new.out c.if-len-before.out front (sym c.len.ensures ∙ w.if-len-before.true ∙ c.len-before.ensures) (w.out-is ∙ w.in_ok-append.ensures)
+      | else-len-before w ↦ w.out-is ∙ line-some into line c.append_fields.new.out front (λ e. w.if-len-before.false (c.len.ensures ∙ e ∙ sym c.len-before.ensures))
+    ] in
+    last-part c.append-2.result c.append-2.new.self c.if-len-before.out (10 ∷ []) (into ++ csv_line opts (texts c.args.part r)) c.append-2.ensures
+    (ap (λ t. t ++ 10 ∷ []) whole ∙ append_assoc into (never_empty line) (10 ∷ []))

@@ -1,0 +1,37 @@
+-- CSV, after RFC 4180.
+use Rattle.std.specs.Prelude.{ℕ, Bool, ◌||◌, ◌==◌, if◌then◌else◌, List, [], ◌∷◌, ◌++◌, map, is_some}
+use Rattle.std.specs.List.{flat_map, list_any}
+use Rattle.mlr_spec.specs.Json.{joined}
+use Rattle.mlr_spec.specs.Split.{place_in}
+use Rattle.mlr_spec.specs.Tree.{Tree}
+use Rattle.writers.specs.declared.form.Part.TheVariants.{Keys, Values}
+use Rattle.writers.specs.declared.options.WriteOpts.{WriteOpts}
+use Rattle.writers.specs.Cells.{texts}
+use Rattle.writers.specs.Headed.{headed}
+use Rattle.writers.specs.Run.{Run}
+
+-- in quotes, a quote is written twice
+abbrev pub csv_escaped : ℕ → List ℕ
+csv_escaped b = if b == 34 then 34 ∷ 34 ∷ [] else b ∷ []
+
+abbrev pub quoted : List ℕ → List ℕ
+quoted text = 34 ∷ flat_map csv_escaped text ++ 34 ∷ []
+
+-- a quote, LF or CR
+abbrev pub wants_quotes : ℕ → Bool
+wants_quotes b = b == 34 || b == 10 || b == 13
+
+-- a key or a value stands in quotes if it holds one of these or the separator, or if all do
+abbrev pub csv_field : WriteOpts → List ℕ → List ℕ
+csv_field opts text = if opts.quote_all || list_any wants_quotes text || is_some (place_in opts.ofs text) then quoted text else text
+
+-- a line that would be empty is two quotes
+abbrev pub never_empty : List ℕ → List ℕ
+never_empty [] = 34 ∷ 34 ∷ []
+never_empty (b ∷ line) = b ∷ line
+
+abbrev pub csv_line : WriteOpts → List (List ℕ) → List ℕ
+csv_line opts fields = never_empty (joined opts.ofs (map (csv_field opts) fields)) ++ 10 ∷ []
+
+abbrev pub csv_record : WriteOpts → Run → List (List ℕ × Tree) → List ℕ
+csv_record opts run r = headed opts.headerless run r (csv_line opts (texts Keys r)) (csv_line opts (texts Values r))

@@ -1,0 +1,25 @@
+-- TSV: tab, newline and backslash are written as `\t`, `\n` and `\\`.
+use Rattle.std.specs.Prelude.{ℕ, ◌==◌, if◌then◌else◌, List, [], ◌∷◌, ◌++◌, map, codes}
+use Rattle.std.specs.List.{flat_map}
+use Rattle.mlr_spec.specs.Json.{joined}
+use Rattle.mlr_spec.specs.Tree.{Tree}
+use Rattle.writers.specs.declared.form.Part.TheVariants.{Keys, Values}
+use Rattle.writers.specs.declared.options.WriteOpts.{WriteOpts}
+use Rattle.writers.specs.Cells.{texts}
+use Rattle.writers.specs.Headed.{headed}
+use Rattle.writers.specs.Run.{Run}
+
+abbrev pub tsv_escaped : ℕ → List ℕ
+tsv_escaped b =
+    if b == 9 then codes "\\t" else (
+    if b == 10 then codes "\\n" else (
+    if b == 92 then codes "\\\\" else b ∷ []))
+
+abbrev pub tsv_field : List ℕ → List ℕ
+tsv_field text = flat_map tsv_escaped text
+
+abbrev pub tsv_line : WriteOpts → List (List ℕ) → List ℕ
+tsv_line opts fields = joined opts.ofs (map tsv_field fields) ++ 10 ∷ []
+
+abbrev pub tsv_record : WriteOpts → Run → List (List ℕ × Tree) → List ℕ
+tsv_record opts run r = headed opts.headerless run r (tsv_line opts (texts Keys r)) (tsv_line opts (texts Values r))

@@ -1,0 +1,25 @@
+-- XTAB: a line for each field, whose values stand in one column; an empty line between records.
+use Rattle.std.specs.Prelude.{ℕ, ◌-◌, true, max, List, [], ◌∷◌, ◌++◌, replicate}
+use Rattle.writers.specs.Width.{code_points}
+use Rattle.std.specs.List.{flat_map, fold}
+use Rattle.mlr_spec.specs.Tree.{Tree}
+use Rattle.writers.specs.Cells.{cell_text}
+use Rattle.writers.specs.Headed.{unless_empty, behind_gap}
+use Rattle.writers.specs.Run.{Run}
+
+-- a text and the spaces behind it that fill its column, whose width counts code points
+abbrev pub padded : ℕ → List ℕ → List ℕ
+padded width text = text ++ replicate (width - code_points text) 32
+
+abbrev pub longest_key : List (List ℕ × Tree) → ℕ
+longest_key r = fold (λ width field. max width (code_points field.0)) 0 r
+
+abbrev pub xtab_line : ℕ → List ℕ × Tree → List ℕ
+xtab_line width field = padded width field.0 ++ 32 ∷ cell_text field.1 ++ 10 ∷ []
+
+abbrev pub xtab_record : Run → List (List ℕ × Tree) → List ℕ
+xtab_record run r = unless_empty r (behind_gap run (flat_map (xtab_line (longest_key r)) r))
+
+abbrev pub xtab_after : Run → List (List ℕ × Tree) → Run
+xtab_after run [] = run
+xtab_after run (field ∷ r) = record run { any = true }

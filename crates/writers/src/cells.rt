@@ -1,0 +1,60 @@
+ghost use Rattle.std.specs.Prelude.{◌≡◌, ◌++◌, IfOk, OnOk};
+ghost use Rattle.mlr_spec.specs.Tree.{is_collection};
+ghost use Rattle.mlr_value.specs.Value.{tree_of};
+ghost use Rattle.writers.specs.Cells.{cell_text, part_text, shaped};
+
+use crate::WriteOpts;
+use crate::form::Part;
+use mlr_json::append_json_value;
+use mlr_record::Record;
+use mlr_spec::{JsonStyle, NoMemory};
+use mlr_value::{Bytes, Value, append_text};
+
+/// The record, flattened or unflattened as the options say.
+pub(crate) fn shaped(opts: &WriteOpts, fields: Record) -> Result<Record, NoMemory>
+    ensures { IfOk result (λ made. made ≡ shaped opts.now fields) }
+{
+    let mut fields = fields;
+    if opts.flatten {
+        fields.flatten(opts.flatsep.as_slice())?;
+    } else if opts.unflatten && opts.flatsep.len() > 0 {
+        fields.unflatten(opts.flatsep.as_slice())?;
+    }
+    Ok(fields)
+}
+
+/// Puts the value as one text behind `out`.
+#[inline]
+pub(crate) fn append_cell(value: &Value, out: &mut Bytes) -> Result<(), NoMemory>
+    ensures { OnOk result (out.new ≡ out.old ++ cell_text (tree_of value.now)) }
+{
+    if is_collection(value) {
+        append_json_value(value, JsonStyle::Single, out)
+    } else {
+        append_text(value, out)
+    }
+}
+
+/// Whether a value is a map or an array.
+#[inline]
+fn is_collection(value: &Value) -> bool
+    ensures { result ≡ is_collection (tree_of value.now) }
+{
+    matches!(value, Value::Map(_) | Value::Array(_))
+}
+
+/// Puts the key or the value of a field behind `out`.
+#[inline]
+pub(crate) fn append_part(
+    part: Part,
+    key: &[u8],
+    value: &Value,
+    out: &mut Bytes,
+) -> Result<(), NoMemory>
+    ensures { OnOk result (out.new ≡ out.old ++ part_text part (key.now, tree_of value.now)) }
+{
+    match part {
+        Part::Keys => out.append(key),
+        Part::Values => append_cell(value, out),
+    }
+}

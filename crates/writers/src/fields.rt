@@ -1,0 +1,109 @@
+ghost use Rattle.std.specs.Prelude.{◌≡◌, ◌++◌, OnOk, map, codes};
+ghost use Rattle.mlr_spec.specs.Json.{joined};
+ghost use Rattle.mlr_value.specs.Value.{tree_of};
+ghost use Rattle.writers.specs.Cells.{cell_text, part_text};
+ghost use Rattle.writers.specs.Dkvp.{dkvp_field};
+ghost use Rattle.writers.specs.Joined.{separated};
+ghost use Rattle.writers.specs.Rows.{field_in, field_text, line_text};
+
+use crate::WriteOpts;
+use crate::cells::append_cell;
+use crate::escape::append_field;
+use crate::form::{FieldForm, Part, RowStyle};
+use mlr_json::append_json_field;
+use mlr_record::Record;
+use mlr_spec::NoMemory;
+use mlr_value::{Bytes, Value};
+
+/// Puts a record behind `out` as one line, of fields between OFS.
+pub(crate) fn append_line(
+    form: FieldForm,
+    opts: &WriteOpts,
+    fields: &Record,
+    scratch: &mut Bytes,
+    out: &mut Bytes,
+) -> Result<(), NoMemory>
+    ensures { OnOk result (out.new ≡ out.old ++ line_text form opts.now fields.now) }
+{
+    append_fields(form, opts, opts.ofs.as_slice(), fields, scratch, out)?;
+    out.append(b"\n")
+}
+
+/// Puts all fields of the record behind `out`, with a separator between each two.
+pub(crate) fn append_fields(
+    form: FieldForm,
+    opts: &WriteOpts,
+    separator: &[u8],
+    fields: &Record,
+    scratch: &mut Bytes,
+    out: &mut Bytes,
+) -> Result<(), NoMemory>
+    ensures { OnOk result (out.new ≡ out.old ++ joined separator.now (map (field_text form opts.now) fields.now)) }
+{
+    for place in 0..fields.len() {
+        append_separator(separator, place > 0, out)?;
+        let (key, value) = fields.entry(place);
+        append_form(form, opts, key, value, scratch, out)?;
+    }
+    Ok(())
+}
+
+/// The separator, if there is a text before.
+#[inline]
+pub(crate) fn append_separator(separator: &[u8], any: bool, out: &mut Bytes) -> Result<(), NoMemory>
+    ensures { OnOk result (out.new ≡ out.old ++ separated separator.now any) }
+{
+    if any { out.append(separator) } else { Ok(()) }
+}
+
+#[inline]
+fn append_form(
+    form: FieldForm,
+    opts: &WriteOpts,
+    key: &[u8],
+    value: &Value,
+    scratch: &mut Bytes,
+    out: &mut Bytes,
+) -> Result<(), NoMemory>
+    ensures { OnOk result (out.new ≡ out.old ++ field_text form opts.now (key.now, tree_of value.now)) }
+{
+    match form {
+        FieldForm::Pair => append_pair(opts, key, value, out),
+        FieldForm::Value => append_cell(value, out),
+        FieldForm::Json(style) => append_json_field(key, value, style, out),
+        FieldForm::Row(style, Part::Keys) => append_field(style, opts, key, out),
+        FieldForm::Row(style, Part::Values) => append_value(style, opts, value, scratch, out),
+        FieldForm::Dashes => out.append(b"---"),
+    }
+}
+
+fn append_pair(opts: &WriteOpts, key: &[u8], value: &Value, out: &mut Bytes) -> Result<(), NoMemory>
+    ensures { OnOk result (out.new ≡ out.old ++ dkvp_field opts.now (key.now, tree_of value.now)) }
+{
+    out.append(key)?;
+    out.append(opts.ops.as_slice())?;
+    append_cell(value, out)
+}
+
+/// A value in a row: out of its own text, or out of what it prints, which is put into a buffer that is kept.
+#[inline]
+fn append_value(
+    style: RowStyle,
+    opts: &WriteOpts,
+    value: &Value,
+    scratch: &mut Bytes,
+    out: &mut Bytes,
+) -> Result<(), NoMemory>
+    ensures { OnOk result (out.new ≡ out.old ++ field_in style opts.now (cell_text (tree_of value.now))) }
+{
+    match value {
+        Value::Str(text) | Value::Frac(text) | Value::Wide(text) => {
+            append_field(style, opts, text.as_slice(), out)
+        }
+        _ => {
+            scratch.clear();
+            append_cell(value, scratch)?;
+            append_field(style, opts, scratch.as_slice(), out)
+        }
+    }
+}

@@ -1,0 +1,133 @@
+ghost use Rattle.std.specs.Prelude.{◌≡◌, ◌++◌, [], OnOk};
+ghost use Rattle.mlr_spec.specs.Json.{json_record};
+ghost use Rattle.writers.specs.Json.{json_after, json_end, json_written, line_end_missing, list_lead, style_of};
+ghost use Rattle.writers.specs.Standing.{run_of};
+
+use crate::WriteOpts;
+use crate::fields::append_fields;
+use crate::form::FieldForm;
+use crate::state::State;
+use mlr_record::Record;
+use mlr_spec::{JsonStyle, NoMemory};
+use mlr_value::Bytes;
+
+/// Puts a record behind `out`: in a list, or on lines of its own.
+pub(crate) fn append_json(
+    opts: &WriteOpts,
+    state: &mut State,
+    fields: &Record,
+    scratch: &mut Bytes,
+    out: &mut Bytes,
+) -> Result<(), NoMemory>
+    ensures run { OnOk result (run_of state.new ≡ json_after opts.now (run_of state.old)) }
+    ensures text { OnOk result (out.new ≡ out.old ++ json_written opts.now (run_of state.old) fields.now) }
+{
+    let style = style_of(opts);
+    if opts.listwrap {
+        append_lead(state, out)?;
+        append_record(style, opts, fields, scratch, out)?;
+    } else {
+        append_record(style, opts, fields, scratch, out)?;
+        out.append(b"\n")?;
+    }
+    state.any = true;
+    state.mid = opts.listwrap;
+    Ok(())
+}
+
+/// Puts the bracket of the list or a comma behind `out`.
+fn append_lead(state: &State, out: &mut Bytes) -> Result<(), NoMemory>
+    ensures { OnOk result (out.new ≡ out.old ++ list_lead (run_of state.now)) }
+{
+    if state.any {
+        out.append(b",\n")
+    } else {
+        out.append(b"[\n")
+    }
+}
+
+/// Puts the line end behind `out` that is missing, if one is.
+pub(crate) fn append_line_end(state: &State, out: &mut Bytes) -> Result<(), NoMemory>
+    ensures { OnOk result (out.new ≡ out.old ++ line_end_missing (run_of state.now)) }
+{
+    if state.mid { out.append(b"\n") } else { Ok(()) }
+}
+
+/// Puts the end of the list behind `out`, if there is a list.
+pub(crate) fn append_json_end(
+    opts: &WriteOpts,
+    state: &State,
+    out: &mut Bytes,
+) -> Result<(), NoMemory>
+    ensures { OnOk result (out.new ≡ out.old ++ json_end opts.now (run_of state.now)) }
+{
+    if !opts.listwrap {
+        return Ok(());
+    }
+    if state.any {
+        append_line_end(state, out)?;
+    } else {
+        out.append(b"[\n")?;
+    }
+    out.append(b"]\n")
+}
+
+fn style_of(opts: &WriteOpts) -> JsonStyle
+    ensures { result ≡ style_of opts.now }
+{
+    if opts.stacked {
+        JsonStyle::Stacked
+    } else {
+        JsonStyle::Single
+    }
+}
+
+/// Puts a record behind `out` as a map at the first level.
+pub(crate) fn append_record(
+    style: JsonStyle,
+    opts: &WriteOpts,
+    fields: &Record,
+    scratch: &mut Bytes,
+    out: &mut Bytes,
+) -> Result<(), NoMemory>
+    ensures { OnOk result (out.new ≡ out.old ++ json_record style fields.now) }
+{
+    match style {
+        JsonStyle::Stacked => append_stacked(opts, fields, scratch, out),
+        JsonStyle::Single => append_single(opts, fields, scratch, out),
+    }
+}
+
+fn append_stacked(
+    opts: &WriteOpts,
+    fields: &Record,
+    scratch: &mut Bytes,
+    out: &mut Bytes,
+) -> Result<(), NoMemory>
+    ensures { OnOk result (out.new ≡ out.old ++ json_record JsonStyle.Stacked fields.now) }
+{
+    if fields.len() == 0 {
+        return out.append(b"{}");
+    }
+    let form = FieldForm::Json(JsonStyle::Stacked);
+    out.append(b"{\n  ")?;
+    append_fields(form, opts, b",\n  ", fields, scratch, out)?;
+    out.append(b"\n}")
+}
+
+fn append_single(
+    opts: &WriteOpts,
+    fields: &Record,
+    scratch: &mut Bytes,
+    out: &mut Bytes,
+) -> Result<(), NoMemory>
+    ensures { OnOk result (out.new ≡ out.old ++ json_record JsonStyle.Single fields.now) }
+{
+    if fields.len() == 0 {
+        return out.append(b"{}");
+    }
+    let form = FieldForm::Json(JsonStyle::Single);
+    out.append(b"{")?;
+    append_fields(form, opts, b", ", fields, scratch, out)?;
+    out.append(b"}")
+}

@@ -1,0 +1,48 @@
+ghost use Rattle.std.specs.Prelude.{◌≡◌, [], OnOk};
+ghost use Rattle.std.specs.Str.{bytes_eq};
+ghost use Rattle.writers.specs.declared.form.Part.TheVariants.{Keys};
+ghost use Rattle.writers.specs.Cells.{same_texts, texts};
+
+use mlr_record::Record;
+use mlr_spec::NoMemory;
+use mlr_value::Bytes;
+use std::alloc::Global;
+
+/// Whether these are the keys of the record, in its order.
+#[inline]
+pub(crate) fn are_keys(keys: &[Bytes], fields: &Record) -> bool
+    ensures { result ≡ same_texts keys.now (texts Keys fields.now) }
+{
+    if keys.len() != fields.len() {
+        return false;
+    }
+    for (place, key) in keys.iter().enumerate() {
+        if !same_text(key.as_slice(), fields.entry(place).0) {
+            return false;
+        }
+    }
+    true
+}
+
+#[inline]
+fn same_text(key: &[u8], other: &[u8]) -> bool
+    ensures { result ≡ bytes_eq key.now other.now }
+{
+    key == other
+}
+
+/// Puts the keys of the record in the place of others. It takes memory for a key of more than 16 bytes, and for more
+/// keys than there ever were.
+pub(crate) fn put_keys(
+    alloc: Global,
+    fields: &Record,
+    keys: &mut Vec<Bytes>,
+) -> Result<(), NoMemory>
+    ensures { OnOk result (keys.new.items ≡ texts Keys fields.now) }
+{
+    keys.clear();
+    for place in 0..fields.len() {
+        keys.push(Bytes::copy_of(alloc, fields.entry(place).0)?)?;
+    }
+    Ok(())
+}

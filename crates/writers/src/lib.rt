@@ -1,0 +1,25 @@
+//! Writers: records and texts become the text of an output, in one of nine formats. What a writer holds back of the
+//! records so far is the open block of PPRINT and the line end of a record in a JSON list.
+#![tactic(auto)]
+
+mod cells;
+mod escape;
+mod fields;
+mod form;
+mod json;
+mod keys;
+mod laws;
+mod options;
+mod pprint;
+mod rows;
+mod stage;
+mod state;
+#[cfg(test)]
+mod tests;
+mod width;
+mod writer;
+mod xtab;
+
+pub use laws::growth_law;
+pub use options::WriteOpts;
+pub use writer::Writer;

@@ -1,0 +1,53 @@
+ghost use Rattle.std.specs.Prelude.{◌≡◌, IfOk};
+
+use mlr_event::Format;
+use mlr_spec::NoMemory;
+use mlr_value::Bytes;
+use std::alloc::Global;
+
+/// How records are written. What another format means has no effect.
+#[derive(Debug, PartialEq, Eq, Drop)]
+pub struct WriteOpts {
+    pub format: Format,
+    /// What stands between two fields (CSV, TSV, DKVP, NIDX).
+    pub ofs: Bytes,
+    /// What stands between a key and its value (DKVP).
+    pub ops: Bytes,
+    /// No header is written (CSV, TSV, PPRINT).
+    pub headerless: bool,
+    /// Every key and value stands in quotes (CSV).
+    pub quote_all: bool,
+    /// Columns stand between bars (PPRINT).
+    pub barred: bool,
+    /// Each field stands on a line of its own (JSON).
+    pub stacked: bool,
+    /// All records are one list (JSON).
+    pub listwrap: bool,
+    /// Each record is flattened.
+    pub flatten: bool,
+    /// Each record is unflattened, if it isn't flattened.
+    pub unflatten: bool,
+    /// What joins the names on a path of a flattened name.
+    pub flatsep: Bytes,
+}
+
+impl WriteOpts {
+    /// A copy. It takes memory for texts of more than 16 bytes.
+    pub fn copy(&self, alloc: Global) -> Result<WriteOpts, NoMemory>
+        ensures { IfOk result (λ copy. copy ≡ self.now) }
+    {
+        Ok(WriteOpts {
+            format: self.format,
+            ofs: Bytes::copy_of(alloc, self.ofs.as_slice())?,
+            ops: Bytes::copy_of(alloc, self.ops.as_slice())?,
+            headerless: self.headerless,
+            quote_all: self.quote_all,
+            barred: self.barred,
+            stacked: self.stacked,
+            listwrap: self.listwrap,
+            flatten: self.flatten,
+            unflatten: self.unflatten,
+            flatsep: Bytes::copy_of(alloc, self.flatsep.as_slice())?,
+        })
+    }
+}

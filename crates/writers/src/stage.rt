@@ -1,0 +1,10 @@
+/// What may still come.
+#[derive(Clone, Copy, Debug, PartialEq, Eq)]
+pub(crate) enum Stage {
+    /// More records and texts, or the end.
+    Open,
+    /// Nothing: the end has come.
+    Ended,
+    /// Nothing: there was no memory.
+    Broken,
+}

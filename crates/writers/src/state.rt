@@ -1,0 +1,34 @@
+ghost use Rattle.std.specs.Prelude.{◌≡◌};
+ghost use Rattle.writers.specs.Run.{start};
+ghost use Rattle.writers.specs.Standing.{run_of};
+
+use mlr_record::Record;
+use mlr_value::Bytes;
+use std::alloc::Global;
+
+/// How far an output has come.
+#[derive(Drop)]
+pub(crate) struct State {
+    /// Whether a record was written.
+    pub(crate) any: bool,
+    /// Whether the last thing was a record whose line end is missing.
+    pub(crate) mid: bool,
+    /// The keys of the records since the last header; none where the next record begins a run.
+    pub(crate) keys: Vec<Bytes>,
+    /// The records of the run that are held back.
+    pub(crate) rows: Vec<Record>,
+}
+
+impl State {
+    /// Nothing was written. It takes no memory.
+    pub(crate) fn new(alloc: Global) -> Self
+        ensures { run_of result ≡ start }
+    {
+        State {
+            any: false,
+            mid: false,
+            keys: Vec::new(alloc),
+            rows: Vec::new(alloc),
+        }
+    }
+}

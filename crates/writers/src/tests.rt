@@ -1,0 +1,332 @@
+//! Records and texts written in each format.
+
+use crate::{WriteOpts, Writer, growth_law};
+use mlr_event::{Body, Format};
+use mlr_json::{JsonRead, read_json_value};
+use mlr_record::Record;
+use mlr_spec::{InferOpts, NoMemory};
+use mlr_value::{Bytes, Value, from_data};
+use std::alloc::Global;
+
+/// A flag of the command line.
+#[derive(Clone, Copy)]
+enum Flag {
+    Headerless,
+    QuoteAll,
+    Barred,
+    OneLine,
+    NoList,
+    Flatten,
+    Unflatten,
+}
+
+/// The options of a format where no flag is given.
+fn plain(alloc: Global, format: Format) -> Result<WriteOpts, NoMemory> {
+    let ofs: &[u8] = match format {
+        Format::Tsv => b"\t",
+        Format::Nidx => b" ",
+        _ => b",",
+    };
+    Ok(WriteOpts {
+        format,
+        ofs: Bytes::copy_of(alloc, ofs)?,
+        ops: Bytes::copy_of(alloc, b"=")?,
+        headerless: false,
+        quote_all: false,
+        barred: false,
+        stacked: true,
+        listwrap: true,
+        flatten: false,
+        unflatten: false,
+        flatsep: Bytes::copy_of(alloc, b".")?,
+    })
+}
+
+fn set(opts: &mut WriteOpts, flag: Flag) {
+    match flag {
+        Flag::Headerless => opts.headerless = true,
+        Flag::QuoteAll => opts.quote_all = true,
+        Flag::Barred => opts.barred = true,
+        Flag::OneLine => opts.stacked = false,
+        Flag::NoList => opts.listwrap = false,
+        Flag::Flatten => opts.flatten = true,
+        Flag::Unflatten => opts.unflatten = true,
+    }
+}
+
+/// A value: of JSON, where the text begins with a brace.
+fn value_of(alloc: Global, text: &[u8]) -> Result<Value, NoMemory> {
+    if text.starts_with(b"{") {
+        match read_json_value(alloc, text) {
+            JsonRead::Ok(value) => Ok(value),
+            _ => Ok(Value::Error),
+        }
+    } else {
+        from_data(alloc, text, InferOpts::plain())
+    }
+}
+
+/// Puts a field, of a key before `=` and a value.
+fn put_field(alloc: Global, part: &[u8], record: &mut Record) -> Result<(), NoMemory> {
+    match part.iter().position(|b| *b == b'=') {
+        Some(place) => record.put(&part[..place], value_of(alloc, &part[place + 1..])?),
+        None => Ok(()),
+    }
+}
+
+/// The fields between `|`.
+fn record_of(alloc: Global, text: &[u8]) -> Result<Record, NoMemory> {
+    let mut record = Record::new(alloc)?;
+    for part in text.split(|b| *b == b'|') {
+        put_field(alloc, part, &mut record)?;
+    }
+    Ok(record)
+}
+
+/// A line that begins with `#` is a text, each other one a record.
+fn body_of(alloc: Global, line: &[u8]) -> Result<Body, NoMemory> {
+    match line {
+        [b'#', text @ ..] => Ok(Body::Text(Bytes::copy_of(alloc, text)?)),
+        _ => Ok(Body::Rec(record_of(alloc, line)?)),
+    }
+}
+
+/// What is written of the lines, before the end or with it.
+fn written(alloc: Global, opts: &WriteOpts, lines: &[u8], ended: bool) -> Result<Bytes, NoMemory> {
+    let mut writer = Writer::new(alloc, opts)?;
+    let mut out = Bytes::new(alloc);
+    for line in lines.split(|b| *b == b'\n') {
+        writer.take(body_of(alloc, line)?, &mut out)?;
+    }
+    if ended {
+        writer.end(&mut out)?;
+    }
+    Ok(out)
+}
+
+/// Records and texts in two runs.
+const LINES: &[u8] = b"a=1|bcd=\na=20|bcd=5\n#[text]\ne=6";
+
+/// A format with flags, lines, what is written of them before the end, and what the end adds.
+const CASES: [(Format, &[Flag], &[u8], &[u8], &[u8]); 34] = [
+    (
+        Format::Csv,
+        &[],
+        LINES,
+        b"a,bcd\n1,\n20,5\n[text]\ne\n6\n",
+        b"",
+    ),
+    (
+        Format::Tsv,
+        &[],
+        LINES,
+        b"a\tbcd\n1\t\n20\t5\n[text]\ne\n6\n",
+        b"",
+    ),
+    (
+        Format::Dkvp,
+        &[],
+        LINES,
+        b"a=1,bcd=\na=20,bcd=5\n[text]e=6\n",
+        b"",
+    ),
+    (Format::Nidx, &[], LINES, b"1 \n20 5\n[text]6\n", b""),
+    (
+        Format::Json,
+        &[Flag::OneLine],
+        LINES,
+        b"[\n{\"a\": 1, \"bcd\": \"\"},\n{\"a\": 20, \"bcd\": 5}\n[text],\n{\"e\": 6}",
+        b"\n]\n",
+    ),
+    (
+        Format::Jsonl,
+        &[],
+        LINES,
+        b"{\"a\": 1, \"bcd\": \"\"}\n{\"a\": 20, \"bcd\": 5}\n[text]{\"e\": 6}\n",
+        b"",
+    ),
+    (
+        Format::Xtab,
+        &[],
+        LINES,
+        b"a   1\nbcd \n\na   20\nbcd 5\n[text]\ne 6\n",
+        b"",
+    ),
+    (
+        Format::Pprint,
+        &[],
+        LINES,
+        b"[text]a  bcd\n1  -\n20 5\n",
+        b"\ne\n6\n",
+    ),
+    (
+        Format::Markdown,
+        &[],
+        LINES,
+        b"| a | bcd |\n| --- | --- |\n| 1 |  |\n| 20 | 5 |\n[text]\n| e |\n| --- |\n| 6 |\n",
+        b"",
+    ),
+    (Format::Csv, &[], b"\na=1\n\na=2", b"a\n1\n\na\n2\n", b""),
+    (Format::Dkvp, &[], b"\na=1\n\na=2", b"\na=1\n\na=2\n", b""),
+    (
+        Format::Json,
+        &[],
+        b"\na=1\n\na=2",
+        b"[\n{},\n{\n  \"a\": 1\n},\n{},\n{\n  \"a\": 2\n}",
+        b"\n]\n",
+    ),
+    (
+        Format::Jsonl,
+        &[],
+        b"\na=1\n\na=2",
+        b"{}\n{\"a\": 1}\n{}\n{\"a\": 2}\n",
+        b"",
+    ),
+    (Format::Xtab, &[], b"\na=1\n\na=2", b"a 1\n\na 2\n", b""),
+    (
+        Format::Xtab,
+        &[],
+        b"\xc3\xa9=1|\x80b=2",
+        b"\xc3\xa9  1\n\x80b 2\n",
+        b"",
+    ),
+    (Format::Pprint, &[], b"\na=1\n\na=2", b"a\n1\n", b"\na\n2\n"),
+    (Format::Csv, &[], b"a=x,y|b=z", b"a,b\n\"x,y\",z\n", b""),
+    (
+        Format::Csv,
+        &[],
+        b"a=say \"x\"",
+        b"a\n\"say \"\"x\"\"\"\n",
+        b"",
+    ),
+    (Format::Csv, &[], b"a\r=x\ry", b"\"a\r\"\n\"x\ry\"\n", b""),
+    (Format::Csv, &[], b"=", b"\"\"\n\"\"\n", b""),
+    (Format::Csv, &[], b"a=|b=0.5", b"a,b\n,0.5\n", b""),
+    (
+        Format::Csv,
+        &[Flag::Headerless, Flag::QuoteAll],
+        b"a=1|b=x y\nc=3",
+        b"\"1\",\"x y\"\n\"3\"\n",
+        b"",
+    ),
+    (
+        Format::Tsv,
+        &[],
+        b"a=x\ty\\z|b=",
+        b"a\tb\nx\\ty\\\\z\t\n",
+        b"",
+    ),
+    (
+        Format::Markdown,
+        &[],
+        b"a=x\\y",
+        b"| a |\n| --- |\n| x\\y |\n",
+        b"",
+    ),
+    (
+        Format::Pprint,
+        &[Flag::Headerless],
+        b"a=1|b=\xc3\xa9\na=20|b=x y\nc=3",
+        b"1  \xc3\xa9\n20 x y\n",
+        b"\n3\n",
+    ),
+    (
+        Format::Pprint,
+        &[Flag::Headerless, Flag::Barred],
+        b"a=1|b=\xc3\xa9\na=20|b=x y\nc=3",
+        b"+----+-----+\n| 1  | \xc3\xa9   |\n| 20 | x y |\n+----+-----+\n",
+        b"\n+---+\n| 3 |\n+---+\n",
+    ),
+    (
+        Format::Pprint,
+        &[Flag::Barred],
+        b"a=1|b=\xc3\xa9",
+        b"",
+        b"+---+---+\n| a | b |\n+---+---+\n| 1 | \xc3\xa9 |\n+---+---+\n",
+    ),
+    (
+        Format::Xtab,
+        &[],
+        b"a_key_of_23_code_points=1|b=2",
+        b"a_key_of_23_code_points 1\nb                       2\n",
+        b"",
+    ),
+    (
+        Format::Json,
+        &[Flag::OneLine, Flag::NoList],
+        b"a=1|b=2\n#[text]\nc=3",
+        b"{\"a\": 1, \"b\": 2}\n[text]{\"c\": 3}\n",
+        b"",
+    ),
+    (
+        Format::Json,
+        &[],
+        b"#[text]\n#[more]",
+        b"[text][more]",
+        b"[\n]\n",
+    ),
+    (
+        Format::Csv,
+        &[],
+        b"a={\"x\": 1, \"y\": {\"z\": [1, 2]}}",
+        b"a\n\"{\"\"x\"\": 1, \"\"y\"\": {\"\"z\"\": [1, 2]}}\"\n",
+        b"",
+    ),
+    (
+        Format::Dkvp,
+        &[Flag::Flatten],
+        b"a={\"x\": 1, \"y\": {\"z\": [1, 2]}}",
+        b"a.x=1,a.y.z.1=1,a.y.z.2=2\n",
+        b"",
+    ),
+    (
+        Format::Json,
+        &[],
+        b"a={\"x\": 1, \"y\": {\"z\": [1, 2]}}",
+        b"[\n{\n  \"a\": {\n    \"x\": 1,\n    \"y\": {\n      \"z\": [1, 2]\n    }\n  }\n}",
+        b"\n]\n",
+    ),
+    (
+        Format::Jsonl,
+        &[Flag::Unflatten],
+        b"a.x=1|a.y=2",
+        b"{\"a\": {\"x\": 1, \"y\": 2}}\n",
+        b"",
+    ),
+];
+
+#[test]
+fn cases_written(rt: HostRuntime) -> Result<(), NoMemory> {
+    let alloc = rt.alloc();
+    for (i, case) in CASES.iter().enumerate() {
+        let (format, flags, lines, fixed, end) = *case;
+        let mut opts = plain(alloc, format)?;
+        for flag in flags {
+            set(&mut opts, *flag);
+        }
+        let open = written(alloc, &opts, lines, false)?;
+        assert_eq!(rt; open.as_slice(), fixed, "open at {i}");
+        let mut want = open;
+        want.append(end)?;
+        let whole = written(alloc, &opts, lines, true)?;
+        assert_eq!(rt; whole.as_slice(), want.as_slice(), "at {i}");
+    }
+    Ok(())
+}
+
+#[test]
+fn writer_broken_never_with_memory(rt: HostRuntime) -> Result<(), NoMemory> {
+    let alloc = rt.alloc();
+    let opts = plain(alloc, Format::Dkvp)?;
+    growth_law();
+    let copy = opts.copy(alloc)?;
+    assert!(rt; copy == opts);
+    let mut out = Bytes::new(alloc);
+    let mut writer = Writer::new(alloc, &copy)?;
+    writer.take(Body::Text(Bytes::copy_of(alloc, b"text")?), &mut out)?;
+    assert!(rt; !writer.is_broken());
+    writer.end(&mut out)?;
+    assert!(rt; !writer.is_broken());
+    assert_eq!(rt; out.as_slice(), b"text".as_slice());
+    Ok(())
+}

@@ -1,0 +1,85 @@
+ghost use Rattle.std.specs.Prelude.{◌≡◌, ◌+◌, ◌++◌, ◌-◌, ◌<◌, ◌≤◌, OnOk, drop, length, replicate};
+ghost use Rattle.writers.specs.Width.{code_points, points_of};
+
+use bstr::decode_utf8;
+use mlr_spec::NoMemory;
+use mlr_value::Bytes;
+
+/// How many code points the text has; each byte that is part of none counts as one.
+pub(crate) fn count_points(text: &[u8]) -> usize
+    ensures count { result ≡ code_points text.now }
+    ensures few { result ≤ length text.now }
+{
+    let mut count: usize = 0;
+    let mut rest = text;
+    while !rest.is_empty() {
+        let (points, behind) = next_piece(rest);
+        count += points;
+        rest = behind;
+    }
+    count
+}
+
+/// How many code points the first piece counts, and what stands behind it.
+#[inline]
+fn next_piece(text: &[u8]) -> (usize, &[u8])
+    requires { 0 < length text.now }
+    ensures points { code_points text.now ≡ result.0 + code_points result.1.now }
+    ensures few { result.0 + length result.1.now ≤ length text.now }
+    ensures some { length result.1.now < length text.now }
+{
+    let (found, size) = decode_utf8(text);
+    (points_of(found, size), behind(text, size))
+}
+
+/// How many code points a piece counts: bytes that are none count each.
+#[inline]
+fn points_of(found: Option<char>, size: usize) -> usize
+    ensures { result ≡ points_of (record { char = found; size = size }) }
+{
+    if found.is_some() { 1 } else { size }
+}
+
+/// The text from a place on.
+#[inline]
+pub(crate) fn behind(text: &[u8], place: usize) -> &[u8]
+    requires { place ≤ length text.now }
+    ensures { result.now ≡ drop place text.now }
+{
+    &text[place..]
+}
+
+/// Puts a byte behind `out`, so many times.
+#[inline]
+pub(crate) fn append_repeated(byte: u8, times: usize, out: &mut Bytes) -> Result<(), NoMemory>
+    ensures { OnOk result (out.new ≡ out.old ++ replicate times byte) }
+{
+    for _done in 0..times {
+        out.append(&[byte])?;
+    }
+    Ok(())
+}
+
+const SPACES: usize = 16;
+
+/// So many spaces.
+#[inline]
+fn spaces(count: usize) -> &'static [u8]
+    requires { count ≤ 16 }
+    ensures { result.now ≡ replicate count 32 }
+{
+    &b"                "[..count]
+}
+
+/// Puts the spaces behind `out` that a text of this length wants to fill its column.
+#[inline]
+pub(crate) fn append_padding(length: usize, width: usize, out: &mut Bytes) -> Result<(), NoMemory>
+    ensures { OnOk result (out.new ≡ out.old ++ replicate (width - length) 32) }
+{
+    let mut left = width.saturating_sub(length);
+    while left > SPACES {
+        out.append(spaces(SPACES))?;
+        left -= SPACES;
+    }
+    out.append(spaces(left))
+}

@@ -1,0 +1,201 @@
+ghost use Rattle.std.specs.Prelude.{◌≡◌, ◌↔◌, ℕ, List, [], ◌++◌, ◌∷◌, true, false, IsTrue, IfOk, OnOk, OnErr};
+ghost use Rattle.mlr_event.specs.declared.event.Body.{Body};
+ghost use Rattle.writers.specs.declared.options.WriteOpts.{WriteOpts};
+ghost use Rattle.writers.specs.Standing.{Adds, HasEnded, IsBroken, IsOpen, StandsFor, run_of};
+ghost use Rattle.writers.specs.Headed.{headed_after};
+ghost use Rattle.writers.specs.Rows.{row_text};
+ghost use Rattle.writers.specs.Written.{after, end_text, gives, record_after, record_text, written};
+
+use crate::WriteOpts;
+use crate::cells::shaped;
+use crate::fields::append_line;
+use crate::form::{FieldForm, RowStyle};
+use crate::json::{append_json, append_json_end, append_line_end, append_record};
+use crate::pprint::{append_pprint, end_block};
+use crate::rows::append_row;
+use crate::stage::Stage;
+use crate::state::State;
+use crate::xtab::append_xtab;
+use mlr_event::{Body, Format};
+use mlr_record::Record;
+use mlr_spec::{JsonStyle, NoMemory};
+use mlr_value::Bytes;
+use std::alloc::Global;
+
+/// Writes one output: records and texts come one after another, and their text is put behind a buffer as soon as it is
+/// known. It keeps the keys of the last record, and in PPRINT the records of the open block.
+#[derive(Drop)]
+pub struct Writer {
+    alloc: Global,
+    opts: WriteOpts,
+    state: State,
+    /// A buffer for what one value prints.
+    scratch: Bytes,
+    stage: Stage,
+}
+
+impl Writer {
+    /// Nothing came yet. It takes memory for options of more than 16 bytes.
+    pub fn new(alloc: Global, opts: &WriteOpts) -> Result<Writer, NoMemory>
+        ensures stands { IfOk result (λ writer. StandsFor opts.now writer []) }
+        ensures open { IfOk result (λ writer. IsOpen writer) }
+    {
+        Ok(Writer {
+            alloc,
+            opts: opts.copy(alloc)?,
+            state: State::new(alloc),
+            scratch: Bytes::new(alloc),
+            stage: Stage::Open,
+        })
+    }
+
+    /// Takes a record or a text, and puts what is known to be written now behind `out`.
+    pub fn take(&mut self, body: Body, out: &mut Bytes) -> Result<(), NoMemory>
+        requires { IsOpen self.old }
+        ensures stands { OnOk result ((opts : WriteOpts) (bodies : List Body) → StandsFor opts self.old bodies → StandsFor opts self.new (bodies ++ body ∷ [])) }
+        ensures adds { OnOk result ((opts : WriteOpts) (bodies : List Body) → StandsFor opts self.old bodies → Adds out.old out.new (written opts bodies false) (written opts (bodies ++ body ∷ []) false)) }
+        ensures open { OnOk result (IsOpen self.new) }
+        ensures err { OnErr result (IsBroken self.new) }
+    {
+        let taken = self.take_body(body, out);
+        if taken.is_err() {
+            self.stage = Stage::Broken;
+        }
+        taken
+    }
+
+    /// Takes the end, and puts what is left behind `out`.
+    pub fn end(&mut self, out: &mut Bytes) -> Result<(), NoMemory>
+        requires { IsOpen self.old }
+        ensures adds { OnOk result ((opts : WriteOpts) (bodies : List Body) → StandsFor opts self.old bodies → Adds out.old out.new (written opts bodies false) (written opts bodies true)) }
+        ensures ended { OnOk result (HasEnded self.new) }
+        ensures err { OnErr result (IsBroken self.new) }
+    {
+        let ended = self.take_end(out);
+        self.stage = if ended.is_ok() {
+            Stage::Ended
+        } else {
+            Stage::Broken
+        };
+        ended
+    }
+
+    /// Whether a call found no memory. Then nothing more may be asked of it.
+    pub fn is_broken(&self) -> bool
+        ensures { IsTrue result ↔ IsBroken self.now }
+    {
+        self.stage == Stage::Broken
+    }
+
+    fn take_body(&mut self, body: Body, out: &mut Bytes) -> Result<(), NoMemory>
+        ensures run { OnOk result (run_of self.new.state ≡ after self.old.opts (run_of self.old.state) body) }
+        ensures text { OnOk result (out.new ≡ out.old ++ gives self.old.opts (run_of self.old.state) body) }
+        ensures opts { self.new.opts ≡ self.old.opts }
+        ensures stage { self.new.stage ≡ self.old.stage }
+    {
+        match body {
+            Body::Rec(fields) => {
+                let fields = shaped(&self.opts, fields)?;
+                self.take_record(fields, out)
+            }
+            Body::Text(text) => {
+                append_line_end(&self.state, out)?;
+                self.state.mid = false;
+                out.append(text.as_slice())
+            }
+        }
+    }
+
+    /// Takes a record in the shape in which it is written.
+    fn take_record(&mut self, fields: Record, out: &mut Bytes) -> Result<(), NoMemory>
+        ensures run { OnOk result (run_of self.new.state ≡ record_after self.old.opts.format self.old.opts (run_of self.old.state) fields) }
+        ensures text { OnOk result (out.new ≡ out.old ++ record_text self.old.opts.format self.old.opts (run_of self.old.state) fields) }
+        ensures opts { self.new.opts ≡ self.old.opts }
+        ensures stage { self.new.stage ≡ self.old.stage }
+    {
+        match self.opts.format {
+            Format::Csv => self.take_row(RowStyle::Csv, &fields, out),
+            Format::Tsv => self.take_row(RowStyle::Tsv, &fields, out),
+            Format::Markdown => self.take_row(RowStyle::Markdown, &fields, out),
+            Format::Json => append_json(
+                &self.opts,
+                &mut self.state,
+                &fields,
+                &mut self.scratch,
+                out,
+            ),
+            Format::Jsonl => {
+                append_record(
+                    JsonStyle::Single,
+                    &self.opts,
+                    &fields,
+                    &mut self.scratch,
+                    out,
+                )?;
+                out.append(b"\n")
+            }
+            Format::Dkvp => append_line(
+                FieldForm::Pair,
+                &self.opts,
+                &fields,
+                &mut self.scratch,
+                out,
+            ),
+            Format::Nidx => append_line(
+                FieldForm::Value,
+                &self.opts,
+                &fields,
+                &mut self.scratch,
+                out,
+            ),
+            Format::Xtab => append_xtab(&mut self.state, &fields, out),
+            Format::Pprint => append_pprint(
+                &self.opts,
+                &mut self.state,
+                fields,
+                self.alloc,
+                &mut self.scratch,
+                out,
+            ),
+        }
+    }
+
+    /// Takes a record of a format with headers.
+    fn take_row(
+        &mut self,
+        style: RowStyle,
+        fields: &Record,
+        out: &mut Bytes,
+    ) -> Result<(), NoMemory>
+        ensures run { OnOk result (run_of self.new.state ≡ headed_after (run_of self.old.state) fields.now) }
+        ensures text { OnOk result (out.new ≡ out.old ++ row_text style self.old.opts (run_of self.old.state) fields.now) }
+        ensures opts { self.new.opts ≡ self.old.opts }
+        ensures stage { self.new.stage ≡ self.old.stage }
+    {
+        append_row(
+            style,
+            &self.opts,
+            &mut self.state,
+            fields,
+            self.alloc,
+            &mut self.scratch,
+            out,
+        )
+    }
+
+    fn take_end(&mut self, out: &mut Bytes) -> Result<(), NoMemory>
+        ensures text { OnOk result (out.new ≡ out.old ++ end_text self.old.opts.format self.old.opts (run_of self.old.state)) }
+    {
+        match self.opts.format {
+            Format::Json => append_json_end(&self.opts, &self.state, out),
+            Format::Pprint => end_block(
+                &self.opts,
+                &mut self.state,
+                self.alloc,
+                &mut self.scratch,
+                out,
+            ),
+            _ => Ok(()),
+        }
+    }
+}
