@@ -10,7 +10,7 @@ use Rattle.mlr_spec.specs.JsonTokens.{Piece, raw, unit, Lexeme, blank, mark, wor
 use Rattle.mlr_json.specs.Stable.{is_run, StaysFound}
 
 -- a run that ends before the text ends there with bytes behind it too
-run-stays : (p : ℕ → Bool) (text more : List ℕ) → prefix_len p text < length text → prefix_len p (text ++ more) ≡ prefix_len p text
+pub run-stays : (p : ℕ → Bool) (text more : List ℕ) → prefix_len p text < length text → prefix_len p (text ++ more) ≡ prefix_len p text
 run-stays p text more below =
     elim (cases_Bool (eqb (prefix_len p text) (length text))) [
       | inl y ↦ let same : prefix_len p text ≡ length text = eqb-true (prefix_len p text) (length text) y in absurd (omega arith)
@@ -114,7 +114,7 @@ unit-stays text more lexeme len is =
               omega arith
         ]
 
-escape-stays : (text more : List ℕ) (lexeme : Lexeme) (len : ℕ) → front_escape text ≡ found lexeme len → front_escape (text ++ more) ≡ found lexeme len
+pub escape-stays : (text more : List ℕ) (lexeme : Lexeme) (len : ℕ) → front_escape text ≡ found lexeme len → front_escape (text ++ more) ≡ found lexeme len
 escape-stays [] more lexeme len is = absurd (let e : begun ≡ found lexeme len = is in cc)
 escape-stays (c ∷ text) more lexeme len is =
     elim (cases_Bool (c == 117)) [

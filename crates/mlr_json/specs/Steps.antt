@@ -33,5 +33,10 @@ is_in_map [] = false
 is_in_map (Array items ∷ frames) = false
 is_in_map (Map pairs key ∷ frames) = true
 
+-- whether a bracket is open
+abbrev pub is_within : List Frame → Bool
+is_within [] = false
+is_within (frame ∷ frames) = true
+
 abbrev pub takes_text : List Frame → Phase → Bool
 takes_text frames at = takes_value at || takes_key at && is_in_map frames

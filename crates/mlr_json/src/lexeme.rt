@@ -133,7 +133,7 @@ fn blank_len(text: &[u8]) -> usize
 
 /// How many bytes of a word a text begins with.
 #[inline(always)]
-fn word_len(text: &[u8]) -> usize
+pub fn word_len(text: &[u8]) -> usize
     ensures { result ≡ prefix_len is_word_byte text.now }
 {
     for (place, byte) in text.iter().enumerate() {

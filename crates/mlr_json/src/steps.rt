@@ -4,7 +4,7 @@ ghost use Rattle.mlr_spec.specs.JsonGrammar.{text_value};
 ghost use Rattle.mlr_value.specs.Value.{tree_of};
 ghost use Rattle.mlr_json.specs.declared.frame.Frame.{Frame};
 ghost use Rattle.mlr_json.specs.Machine.{step, on, wrong, with_value, with_key, map_ended, array_ended, comma_read, colon_read, takes_value, takes_key};
-ghost use Rattle.mlr_json.specs.Steps.{frames_of, Stands, IsStep, is_in_map, takes_text};
+ghost use Rattle.mlr_json.specs.Steps.{frames_of, Stands, IsStep, is_in_map, is_within, takes_text};
 
 use crate::{Frame, Machine, Phase, Went};
 use mlr_spec::{JsonMark, NoMemory};
@@ -24,6 +24,13 @@ impl Machine {
             frames: Vec::new(alloc),
             phase: Phase::Value,
         }
+    }
+
+    /// Whether a bracket is open, so that the value isn't whole.
+    pub fn is_within(&self) -> bool
+        ensures { result ≡ is_within (frames_of self.now) }
+    {
+        !self.frames.is_empty()
     }
 
     /// Whether a string may come next.
@@ -83,7 +90,8 @@ impl Machine {
         }
     }
 
-    fn takes_value(&self) -> bool
+    /// Whether a value may come next.
+    pub fn takes_value(&self) -> bool
         ensures { result ≡ takes_value self.now.phase }
     {
         matches!(self.phase, Phase::Value | Phase::FirstItem)

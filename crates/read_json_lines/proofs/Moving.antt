@@ -1,0 +1,109 @@
+-- A piece of a file, from what stands before it to what stands behind it.
+use Rattle.std.proofs.Common.{◌≡◌, ℕ, Bool, true, false, ◌==◌, ◌||◌, ◌⊎◌, List, [], ◌∷◌, ◌++◌, length, take, Option, Some, None, inl, inr, refl, ap, sym, subst, ◌∙◌, arith, append_assoc, is_some}
+use Rattle.std.proofs.lemmas.Bool.{true≢false, eqb-true}
+use Rattle.std.proofs.lemmas.List.{append-nil}
+use Rattle.mlr_event.specs.declared.event.Ctx.{Ctx}
+use Rattle.mlr_event.specs.declared.event.Event.{Event}
+use Rattle.mlr_event.specs.declared.names.FileRef.{FileRef}
+use Rattle.mlr_event.specs.declared.options.ReadOpts.{ReadOpts}
+use Rattle.mlr_event.specs.Reading.{ctx_after, events_of}
+use Rattle.mlr_event.specs.Stream.{has_fault, events_behind, ctx_behind}
+use Rattle.mlr_event.proofs.Streams.{events_of-append, ctx_after-append, has_fault-append}
+use Rattle.mlr_lines.specs.Standing.{Adds}
+use Rattle.read_json_lines.specs.declared.stream.Stream.{Stream}
+use Rattle.read_json_lines.specs.Files.{file_items, json_fed}
+use Rattle.read_json_lines.specs.Streams.{IsFit, Turned, future}
+use Rattle.read_json_lines.specs.Standing.{Gave, Moves, StandsBy, StandsWith, byte_order_mark}
+use Rattle.read_json_lines.proofs.Taking.{nothing-behind}
+use Rattle.read_json_lines.proofs.Standings.{marked-nothing, gave-fed}
+
+pub nothing-left : (text : List ℕ) → (length text == 0) ≡ true → text ≡ []
+nothing-left [] is = refl
+nothing-left (b ∷ t) is = absurd (omega (arith, eqb-true (length (b ∷ t)) 0 is))
+
+module _ (opts : ReadOpts) (file : FileRef) (start : Ctx) where
+  -- before a piece
+  pub stands-start : (mark : Option ℕ) (stream : Stream) (bytes piece : List ℕ) → StandsBy mark opts file start stream bytes → StandsWith mark opts file start stream (bytes ++ piece) piece (json_fed opts file start bytes)
+  stands-start (Some n) stream bytes piece stands =
+      (stands.0, stands.1, ap (λ x. x ++ piece) stands.2, ap (events_of start) (ap (file_items false opts.infer file) stands.2 ∙ marked-nothing opts.infer file n stands.1))
+  stands-start None stream bytes piece gave = record {
+    given = gave.given;
+    at = gave.at;
+    stopped = gave.stopped;
+    fit = gave.fit;
+    put_is = ap (events_of start) (gave-fed opts file start stream bytes gave);
+    items = λ whole rest. ap (file_items whole opts.infer file) (append_assoc bytes piece rest) ∙ gave.items whole (piece ++ rest);
+  }
+
+  module _ (all : List ℕ) where
+    pub moves-none : (mark : Option ℕ) (stream : Stream) (left : List ℕ) (put before : List Event) → StandsWith mark opts file start stream all left put → Moves opts file start mark stream all left put before before
+    moves-none mark stream left put before stands = record {
+      more = [];
+      events = sym (append-nil before);
+      stands = subst (λ p. StandsWith mark opts file start stream all left p) (sym (append-nil put)) stands;
+    }
+
+    pub moves-both : (mark after_mark : Option ℕ) (stream new : Stream) (left rest : List ℕ) (put before between after : List Event) → Moves opts file start mark stream all left put before between
+        → ((p : List Event) → StandsWith mark opts file start stream all left p → Moves opts file start after_mark new all rest p between after) → Moves opts file start after_mark new all rest put before after
+    moves-both mark after_mark stream new left rest put before between after first then =
+        let second = then (put ++ first.more) first.stands in
+        record {
+          more = first.more ++ second.more;
+          events = second.events ∙ ap (λ e. e ++ second.more) first.events ∙ append_assoc before first.more second.more;
+          stands = subst (λ p. StandsWith after_mark opts file start new all rest p) (append_assoc put first.more second.more) second.stands;
+        }
+
+    -- the stream takes what is left
+    pub moves-fed : (mark : Option ℕ) (stream new : Stream) (left : List ℕ) (put before after : List Event) → is_some mark ≡ false → stream.stopped ≡ false
+        → (IsFit stream → Turned stream new left [] before after) → StandsWith mark opts file start stream all left put → Moves opts file start mark new all [] put before after
+    moves-fed (Some n) stream new left put before after none running fed stands = absurd (true≢false none)
+    moves-fed None stream new left put before after none running fed goes =
+        let turned = fed goes.fit in
+        let given = goes.given in
+        let more = turned.more in
+        let goes_on : has_fault given ≡ false = sym goes.stopped ∙ running in
+        record {
+          more = events_of stream.at more;
+          events = turned.puts.events;
+          stands = record {
+            given = given ++ more;
+            at = turned.puts.at ∙ ap (λ a. ctx_after a more) goes.at ∙ sym (ctx_after-append start given more ∙ ap (λ b. ctx_behind b (ctx_after start given) more) goes_on);
+            stopped = turned.puts.stopped ∙ sym (has_fault-append given more ∙ ap (λ b. b || has_fault more) goes_on);
+            fit = turned.fit;
+            put_is = ap (λ p. p ++ events_of stream.at more) goes.put_is ∙ ap (λ a. events_of start given ++ events_of a more) goes.at
+                ∙ sym (events_of-append start given more ∙ ap (λ b. events_of start given ++ events_behind b (ctx_after start given) more) goes_on);
+            items = λ whole rest. goes.items whole rest ∙ ap (λ x. given ++ x) (turned.items whole rest) ∙ sym (append_assoc given more (future new whole ([] ++ rest)));
+          };
+        }
+
+    -- behind a piece
+    pub stands-end : (mark : Option ℕ) (stream : Stream) (left : List ℕ) (put : List Event) → (left ≡ []) ⊎ (stream.stopped ≡ true) → StandsWith mark opts file start stream all left put
+        → StandsBy mark opts file start stream all × (json_fed opts file start all ≡ put)
+    stands-end (Some n) stream left put (inr stopped) stands = absurd (true≢false (sym stopped ∙ stands.0.goes_on))
+    stands-end (Some n) stream left put (inl none) stands =
+        let all_is : all ≡ take n byte_order_mark = stands.2 ∙ ap (λ x. take n byte_order_mark ++ x) none ∙ append-nil (take n byte_order_mark) in
+        ((stands.0, stands.1, all_is), ap (events_of start) (ap (file_items false opts.infer file) all_is ∙ marked-nothing opts.infer file n stands.1) ∙ sym stands.3)
+    stands-end None stream left put ends goes =
+        let gave : Gave opts file start stream all = record {
+          given = goes.given;
+          at = goes.at;
+          stopped = goes.stopped;
+          fit = goes.fit;
+          items = λ whole rest. goes.items whole rest ∙ ap (λ x. goes.given ++ x) (by whole rest ends);
+        } in
+        (gave, ap (events_of start) (gave-fed opts file start stream all gave) ∙ sym goes.put_is)
+      where
+        by : (whole : Bool) (rest : List ℕ) → (left ≡ []) ⊎ (stream.stopped ≡ true) → future stream whole (left ++ rest) ≡ future stream whole rest
+        by whole rest (inl none) = ap (λ l. future stream whole (l ++ rest)) none
+        by whole rest (inr stopped) = nothing-behind stream _ stopped ∙ sym (nothing-behind stream _ stopped)
+
+  -- a piece was taken
+  pub record Taken (mark : Option ℕ) (stream : Stream) (bytes piece : List ℕ) (before after : List Event) : Type 0 where
+    pub stands : StandsBy mark opts file start stream (bytes ++ piece)
+    pub adds : Adds before after (json_fed opts file start bytes) (json_fed opts file start (bytes ++ piece))
+
+  pub taken : (mark : Option ℕ) (stream : Stream) (bytes piece left : List ℕ) (before after : List Event) → (left ≡ []) ⊎ (stream.stopped ≡ true)
+      → Moves opts file start mark stream (bytes ++ piece) left (json_fed opts file start bytes) before after → Taken mark stream bytes piece before after
+  taken mark stream bytes piece left before after ends moves =
+      let ended = stands-end (bytes ++ piece) mark stream left (json_fed opts file start bytes ++ moves.more) ends moves.stands in
+      record { stands = ended.0; adds = (moves.more, ended.1, moves.events) }

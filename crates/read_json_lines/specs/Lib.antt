@@ -1,0 +1,5 @@
+pub mod Records
+pub mod Files
+pub mod Turns
+pub mod Streams
+pub mod Standing

@@ -1,0 +1,36 @@
+-- The turns of the code as the definitions have them.
+use Rattle.std.specs.Prelude.{◌≡◌, ℕ, List, Option, Some, None}
+use Rattle.mlr_spec.specs.Tree.{Tree, mapping, pairs_in}
+use Rattle.mlr_json.specs.Steps.{frames_of}
+use Rattle.read_json_lines.specs.declared.stand.Stand.{Stand}
+use Rattle.read_json_lines.specs.declared.stand.Turn.{Turn}
+use Rattle.read_json_lines.specs.declared.stand.Turn.TheVariants.{On, Record, Fault}
+use Rattle.read_json_lines.specs.Records as records
+use Rattle.mlr_spec.specs.JsonTokens.{text_token}
+use Rattle.read_json_lines.specs.declared.listing.Trouble.{Trouble}
+use Rattle.read_json_lines.specs.Records.{State, goes, gives, fails, turn}
+
+abbrev pub state_of : Stand → State
+state_of stand = record { list = stand.list; frames = frames_of stand.machine; phase = stand.machine.phase }
+
+-- the fields of a value that is a map
+abbrev pub record_in : Tree → Option (List (List ℕ × Tree))
+record_in (mapping pairs) = Some (pairs_in pairs)
+record_in _ = None
+
+-- what a token led to
+abbrev pub IsTurn : records.Turn → Turn → State → Type 0
+IsTurn (goes next) On s = s ≡ next
+IsTurn (gives pairs next) (Record made) s = (made ≡ pairs) × (s ≡ next)
+IsTurn (fails trouble) (Fault seen) s = seen ≡ trouble
+IsTurn _ _ s = ⊥
+
+-- what is wrong with each string here, or each leads on
+abbrev pub IsOn : records.Turn → Type 0
+IsOn (goes next) = Unit {0}
+IsOn (gives pairs next) = ⊥
+IsOn (fails trouble) = ⊥
+
+abbrev pub RefusesText : State → Option Trouble → Type 0
+RefusesText s None = (text : List ℕ) → IsOn (turn s (text_token text))
+RefusesText s (Some trouble) = (text : List ℕ) → turn s (text_token text) ≡ fails trouble

@@ -1,0 +1,475 @@
+ghost use Rattle.std.specs.Prelude.{ℕ, ◌≡◌, ◌+◌, ◌^◌, ◌<◌, ◌≤◌, ◌++◌, ◌∷◌, [], true, false, length, drop, take, IfOk, OnOk, is_some, None};
+ghost use Rattle.mlr_spec.specs.JsonTokens.{front_outside, found, sign, token_of_word};
+ghost use Rattle.mlr_spec.specs.JsonTokens as lexeme;
+ghost use Rattle.mlr_json.specs.Seen.{lexeme_seen};
+ghost use Rattle.mlr_event.specs.Reading as item;
+ghost use Rattle.read_json_lines.specs.Records.{fault_of};
+ghost use Rattle.read_json_lines.specs.Streams.{HasPut, IsFit, Opens, Pushes, Puts, Starts, Takes, Turned, and_token, count_of, future, is_between, is_quote, or_stop, text_tokens, token_of_value, turn_items, waits};
+
+use crate::listing::Trouble;
+use crate::stand::{Stand, Turn};
+use crate::strings::OpenText;
+use mlr_event::rows::next_ctx;
+use mlr_event::{Ctx, Event, Events, Fault, FileRef};
+use mlr_json::{Front, Lexeme, StringBuilder, front_of, word_len, word_value};
+use mlr_spec::{InferOpts, JsonMark, NoMemory};
+use mlr_value::Value;
+use std::alloc::Global;
+use std::mem::replace;
+
+/// A file behind its byte order mark, as far as it has come.
+#[derive(Drop)]
+pub(crate) struct Stream {
+    pub(crate) alloc: Global,
+    pub(crate) infer: InferOpts,
+    pub(crate) file: FileRef,
+    /// The place of the first byte that isn't read yet.
+    pub(crate) place: u64,
+    pub(crate) stand: Stand,
+    /// The string that is open.
+    pub(crate) text: Option<OpenText>,
+    /// The bytes that aren't read yet: of a word that may go on, or of an escape.
+    pub(crate) begun: Vec<u8>,
+    /// The context of the last record.
+    pub(crate) at: Ctx,
+    /// A fault came, and nothing comes behind it.
+    pub(crate) stopped: bool,
+}
+
+impl Stream {
+    /// No bytes yet. It takes no memory.
+    pub(crate) fn new(alloc: Global, infer: InferOpts, file: FileRef, start: Ctx) -> Self
+        ensures starts { Starts result infer file start 1 }
+    {
+        Stream {
+            alloc,
+            infer,
+            file,
+            place: 1,
+            stand: Stand::new(alloc),
+            text: None,
+            begun: Vec::new(alloc),
+            at: start,
+            stopped: false,
+        }
+    }
+
+    /// Takes a piece of the file, and puts the events of the records that it ends behind `out`.
+    pub(crate) fn feed(&mut self, piece: &[u8], out: &mut Events) -> Result<(), NoMemory>
+        requires goes_on { self.old.stopped ≡ false }
+        requires room { count_of self.old + length piece.now < 2 ^ 63 }
+        ensures turned { OnOk result (IsFit self.old → Turned self.old self.new piece.now [] out.old out.new) }
+        ensures room { OnOk result (count_of self.new ≤ count_of self.old + length piece.now) }
+    {
+        let mut left = piece;
+        while !self.stopped && !left.is_empty() {
+            left = self.turn(left, out)?;
+        }
+        Ok(())
+    }
+
+    /// Takes the end of the file.
+    pub(crate) fn end(&mut self, out: &mut Events) -> Result<(), NoMemory>
+        requires goes_on { self.old.stopped ≡ false }
+        requires room { count_of self.old < 2 ^ 63 }
+        ensures ended { OnOk result (IsFit self.old → Puts self.old self.new out.old out.new (future self.old true [])) }
+        ensures room { OnOk result (count_of self.new ≤ count_of self.old + 1) }
+    {
+        if self.text.is_some() {
+            let place = self.place + self.begun.len() as u64;
+            return self.fail(Trouble::Syntax, place, out);
+        }
+        if !self.begun.is_empty() {
+            self.end_word(out)?;
+            if self.stopped {
+                return Ok(());
+            }
+        }
+        self.end_between(out)
+    }
+
+    /// Takes the end of the file behind all bytes, where no string is open.
+    fn end_between(&mut self, out: &mut Events) -> Result<(), NoMemory>
+        requires goes_on { self.old.stopped ≡ false }
+        requires text { is_some self.old.text ≡ false }
+        requires begun { self.old.begun.items ≡ [] }
+        ensures ended { OnOk result (Puts self.old self.new out.old out.new (future self.old true [])) }
+        ensures same { OnOk result (self.new ≡ record self.old { stopped = self.new.stopped }) }
+    {
+        if self.stand.is_at_rest() {
+            return Ok(());
+        }
+        self.fail(Trouble::Syntax, self.place, out)
+    }
+
+    /// Takes a front of a text, and says what is left of it.
+    fn turn<'a>(&mut self, text: &'a [u8], out: &mut Events) -> Result<&'a [u8], NoMemory>
+        requires bytes { 0 < length text.now }
+        requires goes_on { self.old.stopped ≡ false }
+        requires room { count_of self.old + length text.now < 2 ^ 63 }
+        ensures turned { IfOk result (λ left. IsFit self.old → Turned self.old self.new text.now left.now out.old out.new) }
+        ensures room { IfOk result (λ left. count_of self.new + length left.now ≤ count_of self.old + length text.now) }
+        ensures falls { IfOk result (λ left. waits self.new (length left.now) < waits self.old (length text.now)) }
+    {
+        if self.text.is_some() {
+            if self.begun.is_empty() {
+                self.turn_inside(text, out)
+            } else {
+                self.end_escape(text, out)
+            }
+        } else if self.begun.is_empty() {
+            self.turn_outside(text, out)
+        } else {
+            self.go_on(text, out)
+        }
+    }
+
+    /// Takes what stands between strings.
+    fn turn_outside<'a>(&mut self, text: &'a [u8], out: &mut Events) -> Result<&'a [u8], NoMemory>
+        requires bytes { 0 < length text.now }
+        requires goes_on { self.old.stopped ≡ false }
+        requires room { count_of self.old + length text.now < 2 ^ 63 }
+        requires text { is_some self.old.text ≡ false }
+        requires begun { self.old.begun.items ≡ [] }
+        ensures turned { IfOk result (λ left. Turned self.old self.new text.now left.now out.old out.new) }
+        ensures room { IfOk result (λ left. count_of self.new + length left.now ≤ count_of self.old + length text.now) }
+        ensures shorter { IfOk result (λ left. length left.now < length text.now) }
+    {
+        match front_of(false, text) {
+            Front::Found(lexeme, len) => self.turn_lexeme(lexeme, len, text, out),
+            Front::Bad(offset) => {
+                self.fail(Trouble::Syntax, self.place + offset as u64, out)?;
+                Ok(behind(text, text.len()))
+            }
+            Front::Begun => Ok(text),
+        }
+    }
+
+    /// Takes the lexeme at the front of a text, between strings.
+    fn turn_lexeme<'a>(
+        &mut self,
+        lexeme: Lexeme<'_>,
+        len: usize,
+        text: &'a [u8],
+        out: &mut Events,
+    ) -> Result<&'a [u8], NoMemory>
+        requires bytes { 0 < len }
+        requires within { len ≤ length text.now }
+        requires front { front_outside text.now ≡ found (lexeme_seen lexeme) len }
+        requires outside { is_between (lexeme_seen lexeme) ≡ true }
+        requires goes_on { self.old.stopped ≡ false }
+        requires room { count_of self.old + length text.now < 2 ^ 63 }
+        requires text { is_some self.old.text ≡ false }
+        requires begun { self.old.begun.items ≡ [] }
+        ensures turned { IfOk result (λ left. Turned self.old self.new text.now left.now out.old out.new) }
+        ensures room { IfOk result (λ left. count_of self.new + length left.now ≤ count_of self.old + length text.now) }
+        ensures left { IfOk result (λ left. left.now ≡ drop len text.now) }
+    {
+        match lexeme {
+            Lexeme::Word(word) => self.turn_word(word, len, text, out),
+            Lexeme::Mark(mark) => {
+                self.take_mark(mark, out)?;
+                self.place += len as u64;
+                Ok(behind(text, len))
+            }
+            Lexeme::Quote => {
+                self.open_text(out)?;
+                self.place += len as u64;
+                Ok(behind(text, len))
+            }
+            Lexeme::Blank => {
+                self.place += len as u64;
+                Ok(behind(text, len))
+            }
+            Lexeme::Raw(_) | Lexeme::Unit(_) => unreachable!(),
+        }
+    }
+
+    /// Takes a word at the front of a text, or keeps it where it may go on. Where none may stand, no byte of it may.
+    fn turn_word<'a>(
+        &mut self,
+        word: &[u8],
+        len: usize,
+        text: &'a [u8],
+        out: &mut Events,
+    ) -> Result<&'a [u8], NoMemory>
+        requires bytes { 0 < len }
+        requires within { len ≤ length text.now }
+        requires front { front_outside text.now ≡ found (lexeme.word word.now) len }
+        requires goes_on { self.old.stopped ≡ false }
+        requires room { count_of self.old + length text.now < 2 ^ 63 }
+        requires text { is_some self.old.text ≡ false }
+        requires begun { self.old.begun.items ≡ [] }
+        ensures turned { IfOk result (λ left. Turned self.old self.new text.now left.now out.old out.new) }
+        ensures room { IfOk result (λ left. count_of self.new + length left.now ≤ count_of self.old + length text.now) }
+        ensures left { IfOk result (λ left. left.now ≡ drop len text.now) }
+    {
+        if !self.stand.takes_word() {
+            self.fail(Trouble::Syntax, self.place, out)?;
+            return Ok(behind(text, len));
+        }
+        if len == text.len() {
+            self.begun.extend_from_slice(word)?;
+            return Ok(behind(text, len));
+        }
+        self.take_word(word, out)?;
+        self.place += len as u64;
+        Ok(behind(text, len))
+    }
+
+    /// Goes on with the word that has begun, or ends it.
+    fn go_on<'a>(&mut self, text: &'a [u8], out: &mut Events) -> Result<&'a [u8], NoMemory>
+        requires bytes { 0 < length text.now }
+        requires goes_on { self.old.stopped ≡ false }
+        requires room { count_of self.old + length text.now < 2 ^ 63 }
+        requires text { is_some self.old.text ≡ false }
+        requires begun { 0 < length self.old.begun.items }
+        ensures turned { IfOk result (λ left. IsFit self.old → Turned self.old self.new text.now left.now out.old out.new) }
+        ensures room { IfOk result (λ left. count_of self.new + length left.now ≤ count_of self.old + length text.now) }
+        ensures falls { IfOk result (λ left. waits self.new (length left.now) < waits self.old (length text.now)) }
+    {
+        let len = word_len(text);
+        if len > 0 {
+            self.begun.extend_from_slice(front(text, len))?;
+            return Ok(behind(text, len));
+        }
+        self.end_word(out)?;
+        Ok(text)
+    }
+
+    /// Takes the word that has begun.
+    fn end_word(&mut self, out: &mut Events) -> Result<(), NoMemory>
+        requires goes_on { self.old.stopped ≡ false }
+        requires nr { self.old.at.nr < 2 ^ 63 }
+        requires fnr { self.old.at.fnr < 2 ^ 63 }
+        requires room { self.old.place + length self.old.begun.items < 2 ^ 63 }
+        ensures takes { OnOk result (Takes self.old self.new out.old out.new (λ rest. or_stop self.old.place (token_of_word self.old.infer self.old.begun.items) rest)) }
+        ensures begun { OnOk result (self.new.begun.items ≡ []) }
+        ensures same { OnOk result (self.new ≡ record self.old { place = self.old.place + length self.old.begun.items; begun = self.new.begun; stand = self.new.stand; at = self.new.at; stopped = self.new.stopped }) }
+    {
+        let value = word_value(self.alloc, self.begun.as_slice(), self.infer)?;
+        let place = self.place;
+        self.place += self.begun.len() as u64;
+        self.begun.clear();
+        self.take_value(value, place, out)
+    }
+
+    fn take_mark(&mut self, mark: JsonMark, out: &mut Events) -> Result<(), NoMemory>
+        requires goes_on { self.old.stopped ≡ false }
+        requires nr { self.old.at.nr < 2 ^ 63 }
+        requires fnr { self.old.at.fnr < 2 ^ 63 }
+        ensures takes { OnOk result (Takes self.old self.new out.old out.new (λ rest. and_token self.old.place (sign mark) rest)) }
+        ensures same { OnOk result (self.new ≡ record self.old { stand = self.new.stand; at = self.new.at; stopped = self.new.stopped }) }
+    {
+        let turn = self.stand.mark(mark)?;
+        self.put(turn, self.place, out)
+    }
+
+    fn take_word(&mut self, word: &[u8], out: &mut Events) -> Result<(), NoMemory>
+        requires goes_on { self.old.stopped ≡ false }
+        requires nr { self.old.at.nr < 2 ^ 63 }
+        requires fnr { self.old.at.fnr < 2 ^ 63 }
+        ensures takes { OnOk result (Takes self.old self.new out.old out.new (λ rest. or_stop self.old.place (token_of_word self.old.infer word.now) rest)) }
+        ensures same { OnOk result (self.new ≡ record self.old { stand = self.new.stand; at = self.new.at; stopped = self.new.stopped }) }
+    {
+        let value = word_value(self.alloc, word, self.infer)?;
+        self.take_value(value, self.place, out)
+    }
+
+    /// Takes a word that has this value, if it has one.
+    fn take_value(
+        &mut self,
+        value: Option<Value>,
+        place: u64,
+        out: &mut Events,
+    ) -> Result<(), NoMemory>
+        requires goes_on { self.old.stopped ≡ false }
+        requires nr { self.old.at.nr < 2 ^ 63 }
+        requires fnr { self.old.at.fnr < 2 ^ 63 }
+        ensures takes { OnOk result (Takes self.old self.new out.old out.new (λ rest. or_stop place (token_of_value value) rest)) }
+        ensures same { OnOk result (self.new ≡ record self.old { stand = self.new.stand; at = self.new.at; stopped = self.new.stopped }) }
+    {
+        let turn = match value {
+            None => Turn::Fault(Trouble::Syntax),
+            Some(value) => self.stand.word(value)?,
+        };
+        self.put(turn, place, out)
+    }
+
+    /// Takes the first quote of a string.
+    fn open_text(&mut self, out: &mut Events) -> Result<(), NoMemory>
+        requires goes_on { self.old.stopped ≡ false }
+        ensures opens { OnOk result (Opens self.old self.new out.old out.new) }
+        ensures same { OnOk result (self.new ≡ record self.old { text = self.new.text; stopped = self.new.stopped }) }
+    {
+        if let Some(trouble) = self.stand.refused_text() {
+            return self.fail(trouble, self.place, out);
+        }
+        self.text = Some(OpenText {
+            builder: StringBuilder::new(self.alloc),
+            place: self.place,
+        });
+        Ok(())
+    }
+
+    /// Takes what stands within a string.
+    fn turn_inside<'a>(&mut self, text: &'a [u8], out: &mut Events) -> Result<&'a [u8], NoMemory>
+        requires bytes { 0 < length text.now }
+        requires goes_on { self.old.stopped ≡ false }
+        requires room { count_of self.old + length text.now < 2 ^ 63 }
+        requires text { is_some self.old.text ≡ true }
+        requires begun { self.old.begun.items ≡ [] }
+        ensures turned { IfOk result (λ left. IsFit self.old → Turned self.old self.new text.now left.now out.old out.new) }
+        ensures room { IfOk result (λ left. count_of self.new + length left.now ≤ count_of self.old + length text.now) }
+        ensures shorter { IfOk result (λ left. length left.now < length text.now) }
+    {
+        match front_of(true, text) {
+            Front::Found(lexeme, len) => {
+                if is_quote(lexeme) {
+                    self.close_text(out)?;
+                    self.place += len as u64;
+                    return Ok(behind(text, len));
+                }
+                self.push_piece(lexeme)?;
+                self.place += len as u64;
+                Ok(behind(text, len))
+            }
+            Front::Begun => {
+                self.begun.extend_from_slice(text)?;
+                Ok(behind(text, text.len()))
+            }
+            Front::Bad(offset) => {
+                self.fail(Trouble::Syntax, self.place + offset as u64, out)?;
+                Ok(behind(text, text.len()))
+            }
+        }
+    }
+
+    /// Takes one more byte of an escape that has begun.
+    fn end_escape<'a>(&mut self, text: &'a [u8], out: &mut Events) -> Result<&'a [u8], NoMemory>
+        requires bytes { 0 < length text.now }
+        requires goes_on { self.old.stopped ≡ false }
+        requires room { count_of self.old + length text.now < 2 ^ 63 }
+        requires text { is_some self.old.text ≡ true }
+        requires begun { 0 < length self.old.begun.items }
+        ensures turned { IfOk result (λ left. IsFit self.old → Turned self.old self.new text.now left.now out.old out.new) }
+        ensures room { IfOk result (λ left. count_of self.new + length left.now ≤ count_of self.old + length text.now) }
+        ensures shorter { IfOk result (λ left. length left.now < length text.now) }
+    {
+        let mut escape = replace(&mut self.begun, Vec::new(self.alloc));
+        escape.extend_from_slice(front(text, 1))?;
+        match front_of(true, escape.as_slice()) {
+            Front::Found(lexeme, len) => {
+                self.push_piece(lexeme)?;
+                self.place += len as u64;
+                Ok(behind(text, 1))
+            }
+            Front::Begun => {
+                self.begun.extend_from_slice(escape.as_slice())?;
+                Ok(behind(text, 1))
+            }
+            Front::Bad(offset) => {
+                self.fail(Trouble::Syntax, self.place + offset as u64, out)?;
+                Ok(behind(text, 1))
+            }
+        }
+    }
+
+    /// Puts a piece into the string that is open.
+    fn push_piece(&mut self, lexeme: Lexeme<'_>) -> Result<(), NoMemory>
+        requires text { is_some self.old.text ≡ true }
+        ensures pushes { OnOk result (Pushes self.old.text self.new.text (lexeme_seen lexeme.entry)) }
+        ensures open { OnOk result (is_some self.new.text ≡ true) }
+        ensures same { OnOk result (self.new ≡ record self.old { text = self.new.text }) }
+    {
+        if let Some(open) = &mut self.text {
+            match lexeme {
+                Lexeme::Raw(bytes) => open.builder.push_raw(bytes)?,
+                Lexeme::Unit(code) => open.builder.push_unit(code)?,
+                Lexeme::Quote | Lexeme::Blank | Lexeme::Mark(_) | Lexeme::Word(_) => {}
+            }
+        }
+        Ok(())
+    }
+
+    /// Takes the last quote of the string that is open.
+    fn close_text(&mut self, out: &mut Events) -> Result<(), NoMemory>
+        requires text { is_some self.old.text ≡ true }
+        requires goes_on { self.old.stopped ≡ false }
+        requires nr { self.old.at.nr < 2 ^ 63 }
+        requires fnr { self.old.at.fnr < 2 ^ 63 }
+        ensures takes { OnOk result (Takes self.old self.new out.old out.new (λ rest. text_tokens self.old.text [] rest)) }
+        ensures closed { OnOk result (self.new.text ≡ None) }
+        ensures same { OnOk result (self.new ≡ record self.old { text = self.new.text; stand = self.new.stand; at = self.new.at; stopped = self.new.stopped }) }
+    {
+        let Some(open) = self.text.take() else {
+            return Ok(());
+        };
+        let text = open.builder.finish()?;
+        let turn = self.stand.text(text)?;
+        self.put(turn, open.place, out)
+    }
+
+    /// Puts what a token led to.
+    fn put(&mut self, turn: Turn, place: u64, out: &mut Events) -> Result<(), NoMemory>
+        requires goes_on { self.old.stopped ≡ false }
+        requires nr { self.old.at.nr < 2 ^ 63 }
+        requires fnr { self.old.at.fnr < 2 ^ 63 }
+        ensures { OnOk result (HasPut self.old self.new out.old out.new (turn_items self.old.file turn place)) }
+    {
+        match turn {
+            Turn::On => Ok(()),
+            Turn::Record(record) => {
+                self.at = next_ctx(self.at);
+                out.push(Event::Rec(record, self.at))
+            }
+            Turn::Fault(trouble) => self.fail(trouble, place, out),
+        }
+    }
+
+    pub(crate) fn fail(
+        &mut self,
+        trouble: Trouble,
+        place: u64,
+        out: &mut Events,
+    ) -> Result<(), NoMemory>
+        ensures { OnOk result (HasPut self.old self.new out.old out.new (item.fault (fault_of self.old.file trouble place) ∷ [])) }
+    {
+        self.stopped = true;
+        out.push(Event::Fault(fault_of(trouble, self.file, place)))
+    }
+}
+
+fn fault_of(trouble: Trouble, file: FileRef, byte: u64) -> Fault
+    ensures { result ≡ fault_of file trouble byte }
+{
+    match trouble {
+        Trouble::Syntax => Fault::JsonSyntax { file, byte },
+        Trouble::Deep => Fault::JsonDeep { file, byte },
+        Trouble::Kind => Fault::JsonKind { file, byte },
+    }
+}
+
+/// The text behind its first bytes.
+#[inline(always)]
+fn behind(text: &[u8], len: usize) -> &[u8]
+    requires { len ≤ length text.now }
+    ensures { result.now ≡ drop len text.now }
+{
+    &text[len..]
+}
+
+/// The first bytes of a text.
+#[inline(always)]
+fn front(text: &[u8], len: usize) -> &[u8]
+    requires { len ≤ length text.now }
+    ensures { result.now ≡ take len text.now }
+{
+    &text[..len]
+}
+
+fn is_quote(lexeme: Lexeme<'_>) -> bool
+    ensures { result ≡ is_quote (lexeme_seen lexeme.entry) }
+{
+    matches!(lexeme, Lexeme::Quote)
+}
