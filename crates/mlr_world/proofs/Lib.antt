@@ -2,3 +2,4 @@ pub mod Changes
 mod MemoryTexts
 mod MemoryInputs
 mod MemoryOutputs
+mod SureContents

@@ -1,7 +1,7 @@
 -- What a reading that goes on does to the takes.
-use Rattle.std.proofs.Common.{◌≡◌, ℕ, zero, suc, ◌+◌, true, false, List, [], ◌∷◌, ◌++◌, length, take, drop, get_or, set, map, Some, IsSome, All, refl, ap, subst, sym, ◌∙◌, arith}
+use Rattle.std.proofs.Common.{◌≡◌, ℕ, zero, suc, ◌+◌, true, false, List, [], ◌∷◌, ◌++◌, length, take, drop, get_or, set, map, Some, IsSome, All, inl, inr, refl, ap, subst, sym, ◌∙◌, arith}
 use Rattle.std.specs.Option.{option_map}
-use Rattle.std.proofs.lemmas.List.{append_assoc, map-append, get_or_default, length-take, length-drop, take-append-drop, take_all}
+use Rattle.std.proofs.lemmas.List.{append_assoc, map-append, get_or_default, length-take, length-drop, take-append-drop, take_all, length-set, get_or-set_same}
 use Rattle.std.proofs.lemmas.List.Elements.{All-push}
 use Rattle.std.proofs.Math.Seq.{take-add}
 use Rattle.mlr_event.specs.declared.names.InputName.{InputName}
@@ -11,7 +11,7 @@ use Rattle.mlr_world.specs.declared.memory_inputs.Reading.{Reading}
 use Rattle.mlr_world.specs.Inputs.{ReadTakes}
 use Rattle.mlr_world.specs.MemoryTexts.{same_input, IsFirstPlace}
 use Rattle.mlr_world.specs.MemorySource.{contents_at}
-use Rattle.mlr_world.specs.MemoryInputs.{name_at, text_at, take_of, takes_of, last_name, IsReading, TakesFrom}
+use Rattle.mlr_world.specs.MemoryInputs.{name_at, text_at, take_of, takes_of, last_name, IsReading, TakesFrom, TakesMost, TakesMostFrom}
 use Rattle.mlr_world.specs.Taken.{Take, begun, grown, ended, with_last, last_take}
 use Rattle.mlr_world.proofs.MemoryTexts.{first_at-place, same_input-true}
 
@@ -98,6 +98,19 @@ module _ (contents : List (InputName × List ℕ)) (readings : List Reading) (i 
         entry = ap Some met_end;
         all = rw last_of (fine.first ∙ ap Some (sym (take_all reading.count text h.0)));
       }
+
+  -- the last take after a reading was written
+  last_of-set : (reading' : Reading) → last_take (takes_of contents (set readings i reading')) ≡ Some (take_of contents reading')
+  last_of-set reading' =
+      last_take-map (take_of contents) (set readings i reading') i reading' (simp length-set last)
+      ∙ ap (λ r. Some (take_of contents r)) (get_or-set_same readings i reading' reading' (omega (arith, last)))
+
+  pub took-most : (max n : ℕ) → TakesMostFrom max (text_at contents reading.place) reading.count (got.Some n)
+      → TakesMost max (got.Some n) (Some (contents_at contents)) (Some (takes_of contents (set readings i (record { place = reading.place; count = reading.count + n; ended = reading.ended }))))
+  took-most max n (inl whole) = inl whole
+  took-most max n (inr all) = inr
+      (rw (last_of-set (record { place = reading.place; count = reading.count + n; ended = reading.ended }))
+      (fine.first ∙ ap Some (sym (take_all (reading.count + n) (text_at contents reading.place) (omega (arith, all))))))
 
   pub name-grew : (n : ℕ) → last_name (takes_of contents (set readings i (record { place = reading.place; count = reading.count + n; ended = reading.ended }))) ≡ last_name (takes_of contents readings)
   name-grew n = ap last_name (grew n) ∙ last_name-with (grown (take n (drop reading.count (text_at contents reading.place)))) (λ take. refl) (takes_of contents readings)

@@ -3,7 +3,8 @@ use Rattle.std.proofs.Common.{◌≡◌, ℕ, zero, suc, ◌+◌, ◌<◌, Bool,
 use Rattle.std.specs.List.{list_any}
 use Rattle.std.specs.Str.{bytes_eq}
 use Rattle.std.proofs.lemmas.Bool.{or_parts, false_from_ne_true}
-use Rattle.std.proofs.lemmas.List.{get_or_read}
+use Rattle.std.proofs.lemmas.List.{get_or_read, length-append}
+use Rattle.std.proofs.Math.Seq.{take-append_seam, get_or-append_seam}
 use Rattle.std.proofs.lemmas.List.Folds.{list_any_more}
 use Rattle.std.proofs.lemmas.Slice.Eq.{bytes_eq-Decides}
 use Rattle.mlr_event.specs.declared.names.InputName.{InputName}
@@ -108,6 +109,11 @@ module _ {E : Type 0} (test : E → Bool) (entries : List E) (i : ℕ) (entry : 
 
   pub is_first_place : test entry ≡ true → IsFirstPlace test entries (Some i)
   is_first_place passes = (below, absent, λ d. ap test (sym (get_or_read entries i entry below is d)) ∙ passes)
+
+-- a search that has come to the end, and one more entry there
+pub is_first_place-pushed : {E : Type 0} (test : E → Bool) (entries : List E) (entry : E) → list_any test entries ≡ false → test entry ≡ true → IsFirstPlace test (entries ++ entry ∷ []) (Some (length entries))
+is_first_place-pushed test entries entry absent passes =
+    (simp length-append (omega arith), ap (list_any test) (take-append_seam entries (entry ∷ [])) ∙ absent, λ d. ap test (get_or-append_seam entries entry [] d) ∙ passes)
 
 pub list_any-map : {E F : Type 0} (test : F → Bool) (make : E → F) (entries : List E) → list_any test (map make entries) ≡ list_any (λ entry. test (make entry)) entries
 list_any-map test make [] = refl

@@ -5,5 +5,6 @@ pub mod Outputs
 pub mod MemoryTexts
 pub mod MemorySource
 pub mod MemoryInputs
+pub mod SureContents
 pub mod MemorySink
 pub mod MemoryOutputs

@@ -1,11 +1,12 @@
 -- The inputs in memory: what each name holds, and what was taken.
-use Rattle.std.specs.Prelude.{◌≡◌, ◌≤◌, ◌<◌, ◌+◌, ◌++◌, ℕ, Bool, true, false, List, [], length, take, drop, map, Option, Some, None, slice_index_or}
+use Rattle.std.specs.Prelude.{◌≡◌, ◌≤◌, ◌<◌, ◌+◌, ◌++◌, ◌⊎◌, ℕ, Bool, true, false, List, [], length, take, drop, map, Option, Some, None, slice_index_or}
 use Rattle.std.specs.Option.{option_map}
 use Rattle.mlr_event.specs.declared.names.InputName.{InputName}
 use Rattle.mlr_event.specs.declared.names.InputName.TheVariants as input
 use Rattle.mlr_world.specs.declared.inputs.Got.{Got}
 use Rattle.mlr_world.specs.declared.inputs.Got.TheVariants as got
 use Rattle.mlr_world.specs.declared.memory_inputs.Reading.{Reading}
+use Rattle.mlr_world.specs.Inputs.{Contents, IsAllTaken}
 use Rattle.mlr_world.specs.MemorySource.{contents_at}
 use Rattle.mlr_world.specs.Taken.{Take, last_take}
 
@@ -53,3 +54,17 @@ TakesFrom max text place (got.Some n) into into' =
 TakesFrom max text place got.End into into' = (length text ≤ place) × (into' ≡ into)
 TakesFrom max text place got.Failed into into' = ⊥
 TakesFrom max text place got.NoMemory into into' = into' ≡ into
+
+-- one that gives bytes gives as many as it may, or all that are left
+abbrev pub TakesMostFrom : ℕ → List ℕ → ℕ → Got → Type 0
+TakesMostFrom max text place (got.Some n) = (n ≡ max) ⊎ (length text ≡ place + n)
+TakesMostFrom max text place got.End = Unit {0}
+TakesMostFrom max text place got.Failed = Unit {0}
+TakesMostFrom max text place got.NoMemory = Unit {0}
+
+-- the same, by what was taken when it is done
+abbrev pub TakesMost : ℕ → Got → Option Contents → Option (List Take) → Type 0
+TakesMost max (got.Some n) contents now = (n ≡ max) ⊎ IsAllTaken contents now
+TakesMost max got.End contents now = Unit {0}
+TakesMost max got.Failed contents now = Unit {0}
+TakesMost max got.NoMemory contents now = Unit {0}

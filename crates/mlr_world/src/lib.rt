@@ -8,6 +8,8 @@ mod memory_outputs;
 mod outputs;
 mod real_inputs;
 mod real_outputs;
+mod sure_inputs;
+mod sure_outputs;
 
 pub use inputs::{Got, Inputs, Opened};
 pub use memory_inputs::MemInputs;
@@ -15,3 +17,5 @@ pub use memory_outputs::MemOutputs;
 pub use outputs::{Done, Outputs};
 pub use real_inputs::RealInputs;
 pub use real_outputs::{ErrorStream, RealOutputs};
+pub use sure_inputs::SureInputs;
+pub use sure_outputs::SureOutputs;

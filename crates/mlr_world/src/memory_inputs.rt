@@ -1,11 +1,11 @@
-ghost use Rattle.std.specs.Prelude.{◌≡◌, ◌<◌, ◌≤◌, false, Some, IfOk, IfSome, IsSome, All, length};
+ghost use Rattle.std.specs.Prelude.{◌≡◌, ◌<◌, ◌≤◌, false, Some, IfOk, IfSome, IsSome, All, length, min};
 ghost use Rattle.mlr_event.specs.declared.names.InputName.{InputName};
 ghost use Rattle.mlr_world.specs.Counts.{Counted};
 ghost use Rattle.mlr_world.specs.Taken.{Take};
 ghost use Rattle.mlr_world.specs.Inputs.{OpenTakes, OpenFinds, opens, open_failed, ReadTakes, read_failed};
 ghost use Rattle.mlr_world.specs.MemoryTexts.{same_input, IsFirstPlace};
 ghost use Rattle.mlr_world.specs.MemorySource.{Source, source_of, contents_at};
-ghost use Rattle.mlr_world.specs.MemoryInputs.{takes_of, last_name, IsReading, TakesFrom};
+ghost use Rattle.mlr_world.specs.MemoryInputs.{takes_of, last_name, IsReading, TakesFrom, TakesMost, TakesMostFrom};
 
 use crate::{Got, Inputs, Opened};
 use mlr_event::InputName;
@@ -35,10 +35,10 @@ impl Failing {
 
 /// What was taken from one input: of the entry at this place, so many of its first bytes.
 #[derive(Clone, Copy)]
-struct Reading {
-    place: usize,
-    count: usize,
-    ended: bool,
+pub(crate) struct Reading {
+    pub(crate) place: usize,
+    pub(crate) count: usize,
+    pub(crate) ended: bool,
 }
 
 /// Inputs in memory, for tests: they give what they are told to hold, in pieces of the sizes that they are told,
@@ -141,7 +141,7 @@ impl Inputs for MemInputs {
 }
 
 /// The place of the first entry with this name.
-fn place_of(contents: &[(InputName, Bytes)], name: &InputName) -> Option<usize>
+pub(crate) fn place_of(contents: &[(InputName, Bytes)], name: &InputName) -> Option<usize>
     ensures { IsFirstPlace (λ entry. same_input entry.0 name.now) contents.now result }
 {
     for (place, entry) in contents.iter().enumerate() {
@@ -163,7 +163,7 @@ fn size_at(pieces: &[usize], number: usize) -> usize
 }
 
 /// Goes on with the last reading.
-fn take_on(
+pub(crate) fn take_on(
     contents: &[(InputName, Bytes)],
     readings: &mut Vec<Reading>,
     max: usize,
@@ -177,6 +177,7 @@ fn take_on(
     ensures taken { ReadTakes max result (Some (contents_at contents.now))
         (Some (takes_of contents.now readings.old.items))
         (Some (takes_of contents.now readings.new.items)) into.old into.new }
+    ensures most { TakesMost (min max size) result (Some (contents_at contents.now)) (Some (takes_of contents.now readings.new.items)) }
     ensures no_fault { read_failed result ≡ false }
     ensures fine { All (IsReading contents.now) readings.new.items }
     ensures name { last_name (takes_of contents.now readings.new.items)
@@ -209,7 +210,8 @@ fn take_from(text: &[u8], place: usize, max: usize, size: usize, into: &mut Byte
     requires some { 0 < max }
     requires piece { 0 < size }
     requires within { place ≤ length text.now }
-    ensures { TakesFrom max text.now place result into.old into.new }
+    ensures taken { TakesFrom max text.now place result into.old into.new }
+    ensures most { TakesMostFrom (min max size) text.now place result }
 {
     let left = &text[place..];
     if left.is_empty() {

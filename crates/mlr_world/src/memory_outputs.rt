@@ -1,4 +1,4 @@
-ghost use Rattle.std.specs.Prelude.{◌≡◌, ◌++◌, ◌∷◌, [], Some, IfOk, if◌then◌else◌, is_ok};
+ghost use Rattle.std.specs.Prelude.{◌≡◌, ◌++◌, ◌∷◌, [], false, Some, IfOk, if◌then◌else◌, is_ok};
 ghost use Rattle.std.specs.Option.{option_map};
 ghost use Rattle.mlr_event.specs.declared.names.Target.{Target};
 ghost use Rattle.mlr_world.specs.Counts.{Counted, Tallied};
@@ -17,9 +17,9 @@ use std::marker::Model;
 
 /// A target with its bytes.
 #[derive(Drop)]
-struct HeldText {
-    target: Target,
-    text: Vec<u8>,
+pub(crate) struct HeldText {
+    pub(crate) target: Target,
+    pub(crate) text: Vec<u8>,
 }
 
 /// Outputs in memory, for tests: they keep what is written, have room for so many bytes, and fail at the calls
@@ -73,10 +73,7 @@ impl MemOutputs {
     pub fn bytes_of(&self, target: &Target) -> Option<&[u8]>
         ensures { option_map (λ bytes. bytes.now) result ≡ held_at self.now.held target.now }
     {
-        match place_of(&self.held, target) {
-            Some(place) => Some(self.held[place].text.as_slice()),
-            None => None,
-        }
+        text_of(&self.held, target)
     }
 }
 
@@ -125,8 +122,18 @@ fn count(done: Done, faults: &mut u64, shortages: &mut u64)
     }
 }
 
+/// The bytes of this target.
+pub(crate) fn text_of<'a>(entries: &'a [HeldText], target: &Target) -> Option<&'a [u8]>
+    ensures { option_map (λ bytes. bytes.now) result ≡ held_at (pairs_of entries.now) target.now }
+{
+    match place_of(entries, target) {
+        Some(place) => Some(entries[place].text.as_slice()),
+        None => None,
+    }
+}
+
 /// The place of the first entry of this target.
-fn place_of(entries: &[HeldText], target: &Target) -> Option<usize>
+pub(crate) fn place_of(entries: &[HeldText], target: &Target) -> Option<usize>
     ensures { IsFirstPlace (is_of target.now) entries.now result }
 {
     for (place, entry) in entries.iter().enumerate() {
@@ -138,7 +145,7 @@ fn place_of(entries: &[HeldText], target: &Target) -> Option<usize>
 }
 
 /// These texts, and empty ones for standard output and standard error behind them.
-fn first_texts(
+pub(crate) fn first_texts(
     alloc: Global,
     given: &[(Target, Bytes)],
     room: usize,
@@ -201,6 +208,20 @@ fn open_text(
     if fails {
         return Done::Failed;
     }
+    open_entry(alloc, entries, target, mode, room)
+}
+
+/// Opens a target, which is added where it isn't there.
+pub(crate) fn open_entry(
+    alloc: Global,
+    entries: &mut Vec<HeldText>,
+    target: &Target,
+    mode: Mode,
+    room: usize,
+) -> Done
+    ensures bytes { ChangesOnly target.now (OpenLeaves mode result) (held_at (pairs_of entries.old.items)) (held_at (pairs_of entries.new.items)) }
+    ensures no_fault { call_failed result ≡ false }
+{
     match place_of(entries, target) {
         Some(place) => {
             start_text(&mut entries[place].text, mode);

@@ -1,7 +1,7 @@
-use Rattle.std.proofs.Common.{◌≡◌, ◌+◌, ◌-◌, length, subst, arith}
+use Rattle.std.proofs.Common.{min, ◌≡◌, ◌+◌, ◌-◌, length, subst, arith}
 use Rattle.mlr_world.specs.declared.inputs.Got.TheVariants as got
-use Rattle.mlr_world.specs.MemoryInputs.{TakesFrom}
-use Rattle.mlr_world.proofs.MemoryInputs.{text-read, took, ended_at, name-grew, name-ended}
+use Rattle.mlr_world.specs.MemoryInputs.{TakesFrom, TakesMostFrom}
+use Rattle.mlr_world.proofs.MemoryInputs.{text-read, took, took-most, ended_at, name-grew, name-ended}
 use Rattle.mlr_world.proofs.memory_inputs.take_on.Goals as goal
 
 pub returns-in-Some-clause-taken : goal.returns-in-Some-clause-taken
@@ -13,7 +13,18 @@ returns-in-Some-clause-taken c =
     let last : i + 1 ≡ length readings = omega arith in
     let text = text-read contents readings i reading last c.index-reading.ensures c.requires.fine c.index-contents-reading.result c.as_slice-text.result.now c.as_slice-text.ensures in
     took contents readings i reading last c.index-reading.ensures c.requires.fine c.args.max c.in-Some.count c.args.into.now c.take_from-got.new.into
-    (subst (λ t. TakesFrom c.args.max t reading.count (got.Some c.in-Some.count) c.args.into.now c.take_from-got.new.into) text c.in-Some.ensures)
+    (subst (λ t. TakesFrom c.args.max t reading.count (got.Some c.in-Some.count) c.args.into.now c.take_from-got.new.into) text c.in-Some.ensures.taken)
+
+pub returns-in-Some-clause-most : goal.returns-in-Some-clause-most
+returns-in-Some-clause-most c =
+    let contents = c.args.contents.now in
+    let readings = c.args.readings.now.items in
+    let i = c.len-last.result - 1 in
+    let reading = c.index-reading.result.now in
+    let last : i + 1 ≡ length readings = omega arith in
+    let text = text-read contents readings i reading last c.index-reading.ensures c.requires.fine c.index-contents-reading.result c.as_slice-text.result.now c.as_slice-text.ensures in
+    took-most contents readings i reading last c.index-reading.ensures c.requires.fine (min c.args.max c.args.size) c.in-Some.count
+    (subst (λ t. TakesMostFrom (min c.args.max c.args.size) t reading.count (got.Some c.in-Some.count)) text c.in-Some.ensures.most)
 
 pub returns-in-Some-clause-name : goal.returns-in-Some-clause-name
 returns-in-Some-clause-name c =
@@ -32,7 +43,7 @@ returns-in-End-clause-taken c =
     let text = text-read contents readings i reading last c.index-reading.ensures c.requires.fine c.index-contents-reading.result c.as_slice-text.result.now c.as_slice-text.ensures in
     rw c.in-End.is
     (ended_at contents readings i reading last c.index-reading.ensures c.requires.fine c.args.max c.args.into.now c.take_from-got.new.into
-    (subst (λ t. TakesFrom c.args.max t reading.count got.End c.args.into.now c.take_from-got.new.into) text c.in-End.ensures))
+    (subst (λ t. TakesFrom c.args.max t reading.count got.End c.args.into.now c.take_from-got.new.into) text c.in-End.ensures.taken))
 
 pub returns-in-End-clause-name : goal.returns-in-End-clause-name
 returns-in-End-clause-name c =

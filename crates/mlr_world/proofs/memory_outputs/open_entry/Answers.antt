@@ -4,18 +4,18 @@ use Rattle.mlr_world.specs.Outputs.{OpenLeaves}
 use Rattle.mlr_world.specs.MemoryOutputs.{is_of}
 use Rattle.mlr_world.specs.declared.outputs.Done.TheVariants as done
 use Rattle.mlr_world.proofs.MemoryOutputs.{changes-set, changes-push}
-use Rattle.mlr_world.proofs.memory_outputs.open_text.Goals as goal
+use Rattle.mlr_world.proofs.memory_outputs.open_entry.Goals as goal
 
-pub returns-in-Some : goal.returns-in-Some
-returns-in-Some c =
+pub returns-in-Some-clause-bytes : goal.returns-in-Some-clause-bytes
+returns-in-Some-clause-bytes c =
     let target = c.args.target.now in
     let entries = c.args.entries.now.items in
     let found = subst (λ entries. IsFirstPlace (is_of target) entries (Some c.in-Some.place)) c.deref.ensures.value c.in-Some.ensures in
     changes-set entries target c.in-Some.place c.index_mut.result.now found c.index_mut.ensures.value (OpenLeaves c.args.mode done.Ok)
     (record { target = c.index_mut.result.now.target; text = c.start_text.new.text }) refl c.start_text.ensures
 
-pub returns-in-Ok : goal.returns-in-Ok
-returns-in-Ok c =
+pub returns-in-Ok-clause-bytes : goal.returns-in-Ok-clause-bytes
+returns-in-Ok-clause-bytes c =
     let target = c.args.target.now in
     let entries = c.args.entries.now.items in
     let absent = subst (λ entries. IsFirstPlace (is_of target) entries None) c.deref.ensures.value c.in-None.ensures in

@@ -1,0 +1,14 @@
+use Rattle.std.proofs.Common.{Some, refl, subst}
+use Rattle.mlr_world.specs.MemoryTexts.{IsFirstPlace}
+use Rattle.mlr_world.specs.Outputs.{WriteLeaves}
+use Rattle.mlr_world.specs.MemoryOutputs.{is_of}
+use Rattle.mlr_world.proofs.MemoryOutputs.{changes-set}
+use Rattle.mlr_world.proofs.sure_outputs.append_text.Goals as goal
+
+pub returns-in-Some-clause-bytes : goal.returns-in-Some-clause-bytes
+returns-in-Some-clause-bytes c =
+    let target = c.args.target.now in
+    let entries = c.args.entries.now.items in
+    let found = subst (λ entries. IsFirstPlace (is_of target) entries (Some c.in-Some.place)) c.deref.ensures.value c.in-Some.ensures in
+    changes-set entries target c.in-Some.place c.index_mut.result.now found c.index_mut.ensures.value (WriteLeaves c.args.bytes.now c.append_whole.result)
+    (record { target = c.index_mut.result.now.target; text = c.append_whole.new.text }) refl c.append_whole.ensures.bytes

@@ -1,0 +1,204 @@
+ghost use Rattle.std.specs.Prelude.{◌≡◌, ◌≤◌, ◌++◌, ◌∷◌, [], false, Some, IfOk, IfSome, IsSome, if◌then◌else◌, is_ok};
+ghost use Rattle.mlr_event.specs.declared.names.InputName.{InputName};
+ghost use Rattle.mlr_world.specs.Counts.{Counted};
+ghost use Rattle.mlr_world.specs.Taken.{Take};
+ghost use Rattle.mlr_world.specs.Inputs.{OpenTakes, OpenFinds, opens, open_failed, ReadTakes, read_failed};
+ghost use Rattle.mlr_world.specs.MemoryTexts.{same_input, IsFirstPlace};
+ghost use Rattle.mlr_world.specs.MemorySource.{Source, source_of};
+ghost use Rattle.mlr_world.specs.MemoryInputs.{TakesMost};
+ghost use Rattle.mlr_world.specs.SureContents.{sure_contents, AddsEmpty};
+
+use crate::memory_inputs::{Reading, place_of, take_on};
+use crate::{Got, Inputs, Opened};
+use mlr_event::InputName;
+use mlr_spec::NoMemory;
+use mlr_value::Bytes;
+use std::alloc::Global;
+use std::marker::Model;
+
+/// Inputs in memory that never fail. A name that isn't listed is empty.
+#[derive(Drop)]
+pub struct SureInputs {
+    alloc: Global,
+    /// What was given, and behind it an empty entry for each other name that was opened.
+    entries: Vec<(InputName, Bytes)>,
+    given: usize,
+    readings: Vec<Reading>,
+    is_open: bool,
+}
+
+impl Model for SureInputs {
+    ghost use Rattle.std.specs.Prelude.{take};
+    ghost use Rattle.mlr_world.specs.MemorySource.{Source};
+
+    ghost Value = { Source };
+
+    ghost use Rattle.mlr_world.specs.MemoryInputs.{takes_of, open_of};
+    ghost use Rattle.mlr_world.specs.SureContents.{SureState};
+
+    ghost view = { λ s. record { contents = take s.given s.entries.items; taken = takes_of s.entries.items s.readings.items; open_name = open_of s.is_open (takes_of s.entries.items s.readings.items); faults = 0 } };
+
+    ghost invariant = { λ s. SureState s.given s.entries.items s.readings.items };
+}
+
+impl SureInputs {
+    /// Inputs with these contents, where the first entry of a name counts.
+    pub fn new(alloc: Global, contents: Vec<(InputName, Bytes)>) -> Result<SureInputs, NoMemory>
+        ensures { IfOk result (λ made. made ≡ source_of contents.items) }
+    {
+        Ok(SureInputs {
+            alloc,
+            readings: Vec::with_capacity(alloc, contents.len())?,
+            given: contents.len(),
+            entries: contents,
+            is_open: false,
+        })
+    }
+}
+
+impl Inputs for SureInputs {
+    ghost contents = { λ s. Some (sure_contents s.contents) };
+
+    ghost taken = { λ s. Some s.taken };
+
+    ghost open_name = { λ s. s.open_name };
+
+    ghost faults = { λ s _. 0 };
+
+    fn open(&mut self, name: &InputName) -> Opened {
+        self.is_open = false;
+        let place = match place_or_add(self.alloc, &mut self.entries, name) {
+            Ok(place) => place,
+            Err(NoMemory) => return Opened::NoMemory,
+        };
+        let reading = Reading {
+            place,
+            count: 0,
+            ended: false,
+        };
+        match self.readings.push(reading) {
+            Ok(()) => {
+                self.is_open = true;
+                Opened::Ok
+            }
+            Err(_) => Opened::NoMemory,
+        }
+    }
+
+    /// Takes as many bytes as are left, at most `max`.
+    fn read(&mut self, max: usize, into: &mut Bytes) -> Got
+        requires open { IsSome self.old.open_name }
+        requires some { 1 ≤ max }
+        ensures contents { self.new.contents ≡ self.old.contents }
+        ensures open { self.new.open_name ≡ self.old.open_name }
+        ensures taken { ReadTakes max result (Some (sure_contents self.old.contents)) (Some self.old.taken) (Some self.new.taken) into.old into.new }
+        ensures no_fault { read_failed result ≡ false }
+        ensures most { TakesMost max result (Some (sure_contents self.new.contents)) (Some self.new.taken) }
+    {
+        take_on(&self.entries, &mut self.readings, max, usize::MAX, into)
+    }
+}
+
+/// The place of the first entry with this name, which is added where there is none.
+fn place_or_add(
+    alloc: Global,
+    entries: &mut Vec<(InputName, Bytes)>,
+    name: &InputName,
+) -> Result<usize, NoMemory>
+    ensures found { IfOk result (λ place. IsFirstPlace (λ entry. same_input entry.0 name.now) entries.new.items (Some place)) }
+    ensures added { AddsEmpty entries.old.items entries.new.items }
+{
+    match place_of(entries, name) {
+        Some(place) => Ok(place),
+        None => {
+            let place = entries.len();
+            add_empty(alloc, entries, name)?;
+            Ok(place)
+        }
+    }
+}
+
+fn add_empty(
+    alloc: Global,
+    entries: &mut Vec<(InputName, Bytes)>,
+    name: &InputName,
+) -> Result<(), NoMemory>
+    ensures { entries.new.items ≡ (if is_ok result then entries.old.items ++ (name.now, []) ∷ [] else entries.old.items) }
+{
+    entries.push((name.copy(alloc)?, Bytes::new(alloc)))?;
+    Ok(())
+}
+
+#[cfg(test)]
+mod tests {
+    use super::*;
+
+    fn file(alloc: Global, name: &[u8]) -> Result<InputName, NoMemory> {
+        Ok(InputName::File(Bytes::copy_of(alloc, name)?))
+    }
+
+    /// Inputs that hold `abc` in a file, `second` in a later entry of it, and `xy` in standard input.
+    fn inputs(alloc: Global) -> Result<SureInputs, NoMemory> {
+        let mut contents = Vec::new(alloc);
+        contents.push((file(alloc, b"in")?, Bytes::copy_of(alloc, b"abc")?))?;
+        contents.push((file(alloc, b"in")?, Bytes::copy_of(alloc, b"second")?))?;
+        contents.push((InputName::Stdin, Bytes::copy_of(alloc, b"xy")?))?;
+        SureInputs::new(alloc, contents)
+    }
+
+    /// Opens an input and reads three times.
+    fn three_reads(
+        inputs: &mut SureInputs,
+        name: &InputName,
+        max: usize,
+        all: &mut Bytes,
+    ) -> Result<[Got; 3], Opened>
+        requires { 1 ≤ max }
+    {
+        match inputs.open(name) {
+            Opened::Ok => {}
+            other => return Err(other),
+        }
+        let first = inputs.read(max, all);
+        let second = inputs.read(max, all);
+        let third = inputs.read(max, all);
+        Ok([first, second, third])
+    }
+
+    #[test]
+    fn reads_to_the_end(rt: HostRuntime) -> Result<(), NoMemory> {
+        let mut inputs = inputs(rt.alloc())?;
+        let name = file(rt.alloc(), b"in")?;
+        let mut all = Bytes::new(rt.alloc());
+        let got = three_reads(&mut inputs, &name, 2, &mut all);
+        assert_eq!(rt; got, Ok([Got::Some(2), Got::Some(1), Got::End]));
+        assert_eq!(rt; all.as_slice(), b"abc".as_slice());
+        Ok(())
+    }
+
+    #[test]
+    fn another_name_is_empty(rt: HostRuntime) -> Result<(), NoMemory> {
+        let mut inputs = inputs(rt.alloc())?;
+        let other = file(rt.alloc(), b"other")?;
+        let mut all = Bytes::new(rt.alloc());
+        for _ in 0..2 {
+            let got = three_reads(&mut inputs, &other, 9, &mut all);
+            assert_eq!(rt; got, Ok([Got::End, Got::End, Got::End]));
+        }
+        assert!(rt; all.is_empty());
+        Ok(())
+    }
+
+    #[test]
+    fn reads_one_input_after_another(rt: HostRuntime) -> Result<(), NoMemory> {
+        let mut inputs = inputs(rt.alloc())?;
+        let other = file(rt.alloc(), b"other")?;
+        let mut all = Bytes::new(rt.alloc());
+        for name in [&InputName::Stdin, &other, &InputName::Stdin] {
+            let got = three_reads(&mut inputs, name, 1, &mut all);
+            assert!(rt; got.is_ok());
+        }
+        assert_eq!(rt; all.as_slice(), b"xyxy".as_slice());
+        Ok(())
+    }
+}

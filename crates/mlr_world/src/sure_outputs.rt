@@ -1,0 +1,165 @@
+ghost use Rattle.std.specs.Prelude.{◌≡◌, false, Some, IfOk};
+ghost use Rattle.std.specs.Option.{option_map};
+ghost use Rattle.mlr_event.specs.declared.names.Target.{Target};
+ghost use Rattle.mlr_world.specs.Counts.{Counted, Tallied};
+ghost use Rattle.mlr_world.specs.Outputs.{ChangesAt, ChangesOnly, OpenLeaves, WriteLeaves, CloseLeaves, call_failed, lacked_memory};
+ghost use Rattle.mlr_world.specs.MemorySink.{Sink, sink_of, held_at};
+ghost use Rattle.mlr_world.specs.MemoryOutputs.{pairs_of};
+
+use crate::memory_outputs::{HeldText, first_texts, open_entry, place_of, text_of};
+use crate::{Done, Outputs};
+use mlr_event::{Mode, Target};
+use mlr_spec::NoMemory;
+use mlr_value::Bytes;
+use std::alloc::Global;
+use std::marker::Model;
+
+/// Outputs in memory that never fail. They grow as they are written.
+#[derive(Drop)]
+pub struct SureOutputs {
+    alloc: Global,
+    held: Vec<HeldText>,
+    shortages: u64,
+}
+
+impl Model for SureOutputs {
+    ghost use Rattle.mlr_world.specs.MemorySink.{Sink};
+
+    ghost Value = { Sink };
+
+    ghost use Rattle.mlr_world.specs.MemoryOutputs.{pairs_of};
+
+    ghost view = { λ s. record { held = pairs_of s.held.items; faults = 0; shortages = s.shortages } };
+}
+
+impl SureOutputs {
+    /// Outputs that hold these texts, where the first entry of a target counts, and standard output and standard
+    /// error, which are empty unless they stand in the list.
+    pub fn new(alloc: Global, held: Vec<(Target, Bytes)>) -> Result<SureOutputs, NoMemory>
+        ensures { IfOk result (λ made. made ≡ sink_of held.items) }
+    {
+        Ok(SureOutputs {
+            alloc,
+            held: first_texts(alloc, &held, 0)?,
+            shortages: 0,
+        })
+    }
+
+    /// The bytes of this target, None if it isn't there.
+    pub fn bytes_of(&self, target: &Target) -> Option<&[u8]>
+        ensures { option_map (λ bytes. bytes.now) result ≡ held_at self.now.held target.now }
+    {
+        text_of(&self.held, target)
+    }
+}
+
+impl Outputs for SureOutputs {
+    ghost held = { λ s. Some (held_at s.held) };
+
+    ghost faults = { λ s _. 0 };
+
+    ghost shortages = { λ s. s.shortages };
+
+    fn open(&mut self, target: &Target, mode: Mode) -> Done {
+        let done = open_entry(self.alloc, &mut self.held, target, mode, 0);
+        count_shortage(done, &mut self.shortages);
+        done
+    }
+
+    /// For a target that isn't there it answers NoMemory: nothing could be written, and no fault is to be counted.
+    fn write(&mut self, target: &Target, bytes: &[u8]) -> Done {
+        let done = append_text(&mut self.held, target, bytes);
+        count_shortage(done, &mut self.shortages);
+        done
+    }
+
+    fn close(&mut self, _target: &Target) -> Done {
+        Done::Ok
+    }
+}
+
+/// Counts a shortage, where that is how the call ended.
+fn count_shortage(done: Done, shortages: &mut u64)
+    ensures { Tallied (lacked_memory done) shortages.old shortages.new }
+{
+    match done {
+        Done::Ok | Done::Failed => {}
+        Done::NoMemory => *shortages = shortages.saturating_add(1),
+    }
+}
+
+/// Puts the bytes behind those of the target.
+fn append_text(entries: &mut Vec<HeldText>, target: &Target, bytes: &[u8]) -> Done
+    ensures bytes { ChangesOnly target.now (WriteLeaves bytes.now result) (held_at (pairs_of entries.old.items)) (held_at (pairs_of entries.new.items)) }
+    ensures no_fault { call_failed result ≡ false }
+{
+    match place_of(entries, target) {
+        Some(place) => append_whole(&mut entries[place].text, bytes),
+        None => Done::NoMemory,
+    }
+}
+
+fn append_whole(text: &mut Vec<u8>, bytes: &[u8]) -> Done
+    ensures bytes { WriteLeaves bytes.now result (Some text.old.items) (Some text.new.items) }
+    ensures no_fault { call_failed result ≡ false }
+{
+    match text.extend_from_slice(bytes) {
+        Ok(()) => Done::Ok,
+        Err(_) => Done::NoMemory,
+    }
+}
+
+#[cfg(test)]
+mod tests {
+    use super::*;
+
+    fn file(alloc: Global, name: &[u8]) -> Result<Target, NoMemory> {
+        Ok(Target::File(Bytes::copy_of(alloc, name)?))
+    }
+
+    /// Outputs that hold `old` in a file, and `second` in a later entry of it.
+    fn outputs(alloc: Global) -> Result<SureOutputs, NoMemory> {
+        let mut held = Vec::new(alloc);
+        held.push((file(alloc, b"out")?, Bytes::copy_of(alloc, b"old")?))?;
+        held.push((file(alloc, b"out")?, Bytes::copy_of(alloc, b"second")?))?;
+        SureOutputs::new(alloc, held)
+    }
+
+    #[test]
+    fn holds_what_is_written(rt: HostRuntime) -> Result<(), NoMemory> {
+        let target = file(rt.alloc(), b"out")?;
+        for (mode, want) in [(Mode::Fresh, b"new" as &[u8]), (Mode::Append, b"oldnew")] {
+            let mut outputs = outputs(rt.alloc())?;
+            assert_eq!(rt; outputs.bytes_of(&target), Some(b"old" as &[u8]));
+            assert_eq!(rt; outputs.open(&target, mode), Done::Ok);
+            assert_eq!(rt; outputs.write(&target, b"ne"), Done::Ok);
+            assert_eq!(rt; outputs.write(&target, b"w"), Done::Ok);
+            assert_eq!(rt; outputs.close(&target), Done::Ok);
+            assert_eq!(rt; outputs.bytes_of(&target), Some(want));
+        }
+        Ok(())
+    }
+
+    #[test]
+    fn standard_streams_are_there(rt: HostRuntime) -> Result<(), NoMemory> {
+        let mut outputs = outputs(rt.alloc())?;
+        assert_eq!(rt; outputs.write(&Target::Stdout, b"a"), Done::Ok);
+        assert_eq!(rt; outputs.write(&Target::Stdout, b"b"), Done::Ok);
+        assert_eq!(rt; outputs.bytes_of(&Target::Stdout), Some(b"ab" as &[u8]));
+        assert_eq!(rt; outputs.bytes_of(&Target::Stderr), Some(b"" as &[u8]));
+        Ok(())
+    }
+
+    #[test]
+    fn another_target_is_there_once_opened(rt: HostRuntime) -> Result<(), NoMemory> {
+        let other = file(rt.alloc(), b"other")?;
+        let mut outputs = outputs(rt.alloc())?;
+        assert_eq!(rt; outputs.close(&other), Done::Ok);
+        assert_eq!(rt; outputs.write(&other, b"text"), Done::NoMemory);
+        assert_eq!(rt; outputs.bytes_of(&other), None);
+        assert_eq!(rt; outputs.open(&other, Mode::Append), Done::Ok);
+        assert_eq!(rt; outputs.write(&other, b"text"), Done::Ok);
+        assert_eq!(rt; outputs.bytes_of(&other), Some(b"text" as &[u8]));
+        Ok(())
+    }
+}
