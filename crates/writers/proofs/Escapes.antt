@@ -1,6 +1,9 @@
 -- Texts without escapes.
-use Rattle.std.proofs.Common.{◌≡◌, ℕ, ◌==◌, ◌||◌, Bool, true, false, if◌then◌else◌, List, [], ◌∷◌, ◌++◌, codes, refl, ap, ap₂, ◌∙◌}
+use Rattle.std.proofs.Common.{◌≡◌, ℕ, ◌+◌, ◌==◌, ◌||◌, ◌&&◌, Bool, true, false, if◌then◌else◌, List, [], ◌∷◌, ◌++◌, length, codes, Option, Some, None, is_some, refl, ap, ap₂, sym, ◌∙◌, arith}
 use Rattle.std.specs.List.{flat_map, list_any}
+use Rattle.std.specs.Option.{option_map}
+use Rattle.std.specs.Prelude.{slice_index}
+use Rattle.mlr_spec.specs.Split.{place_in}
 use Rattle.writers.specs.declared.form.RowStyle.{RowStyle}
 use Rattle.writers.specs.declared.form.RowStyle.TheVariants as row
 use Rattle.writers.specs.Rows.{escaped_in, is_escaped}
@@ -24,3 +27,27 @@ plain-text style [] none = refl
 plain-text style (b ∷ text) none =
     let parts = neither (is_escaped style b) (list_any (is_escaped style) text) none in
     ap₂ (λ x y. x ++ y) (plain-byte style b parts.0) (plain-text style text parts.1)
+
+still-some : (found : Option ℕ) → is_some (option_map (λ place. place + 1) found) ≡ is_some found
+still-some None = refl
+still-some (Some place) = refl
+
+-- a byte among others, at the front of a text or behind it
+among-all : (here special later behind : Bool) (found : Option ℕ) → behind ≡ (later || is_some found)
+    → (special || here || behind) ≡ (special || later || is_some (if here && true then Some 0 else option_map (λ place. place + 1) found))
+among-all true true later behind found is = refl
+among-all true false true behind found is = refl
+among-all true false false behind found is = refl
+among-all false true later behind found is = refl
+among-all false false later behind found is = is ∙ ap (λ t. later || t) (sym (still-some found))
+
+-- a separator of one byte stands where the byte does
+one-byte : (test : ℕ → Bool) (s : ℕ) (text : List ℕ) → list_any (λ b. test b || b == s) text ≡ (list_any test text || is_some (place_in (s ∷ []) text))
+one-byte test s [] = refl
+one-byte test s (b ∷ text) = among-all (b == s) (test b) (list_any test text) (list_any (λ b. test b || b == s) text) (place_in (s ∷ []) text) (one-byte test s text)
+
+pub byte-separator : (test : ℕ → Bool) (separator text : List ℕ) → length separator ≡ 1
+    → list_any (λ b. test b || b == slice_index separator 0) text ≡ (list_any test text || is_some (place_in separator text))
+byte-separator test [] text one = absurd (omega (arith, one))
+byte-separator test (s ∷ []) text one = one-byte test s text
+byte-separator test (s ∷ t ∷ separator) text one = absurd (omega (arith, one))

@@ -9,13 +9,13 @@ use Rattle.writers.specs.Standing.{Adds, StandsFor, run_of}
 use Rattle.writers.specs.Written.{after, end_text, given, gives, run_behind, written}
 
 module _ (opts : WriteOpts) where
-  given-append : (run : Run) (bodies more : List Body) → given opts run (bodies ++ more) ≡ given opts run bodies ++ given opts (run_behind opts run bodies) more
+  pub given-append : (run : Run) (bodies more : List Body) → given opts run (bodies ++ more) ≡ given opts run bodies ++ given opts (run_behind opts run bodies) more
   given-append run [] more = refl
   given-append run (body ∷ bodies) more =
       ap (λ t. gives opts run body ++ t) (given-append (after opts run body) bodies more)
       ∙ sym (append_assoc (gives opts run body) (given opts (after opts run body) bodies) (given opts (run_behind opts (after opts run body) bodies) more))
 
-  run-append : (run : Run) (bodies more : List Body) → run_behind opts run (bodies ++ more) ≡ run_behind opts (run_behind opts run bodies) more
+  pub run-append : (run : Run) (bodies more : List Body) → run_behind opts run (bodies ++ more) ≡ run_behind opts (run_behind opts run bodies) more
   run-append run [] more = refl
   run-append run (body ∷ bodies) more = run-append (after opts run body) bodies more
 

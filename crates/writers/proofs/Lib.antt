@@ -3,7 +3,7 @@ mod Walks
 mod Texts
 mod Escapes
 mod Columns
-mod Growing
+pub mod Growing
 mod Taking
 mod Widths
 mod Examples

@@ -1,6 +1,6 @@
-ghost use Rattle.std.specs.Prelude.{◌≡◌, ◌++◌, IfOk, OnOk};
+ghost use Rattle.std.specs.Prelude.{◌≡◌, ◌++◌, IfOk, IfSome, OnOk};
 ghost use Rattle.mlr_spec.specs.Tree.{is_collection};
-ghost use Rattle.mlr_value.specs.Value.{tree_of};
+ghost use Rattle.mlr_value.specs.Value.{int_text, tree_of};
 ghost use Rattle.writers.specs.Cells.{cell_text, part_text, shaped};
 
 use crate::WriteOpts;
@@ -8,7 +8,7 @@ use crate::form::Part;
 use mlr_json::append_json_value;
 use mlr_record::Record;
 use mlr_spec::{JsonStyle, NoMemory};
-use mlr_value::{Bytes, Value, append_text};
+use mlr_value::{Bytes, IntValue, Value, append_text};
 
 /// The record, flattened or unflattened as the options say.
 pub(crate) fn shaped(opts: &WriteOpts, fields: Record) -> Result<Record, NoMemory>
@@ -35,6 +35,31 @@ pub(crate) fn append_cell(value: &Value, out: &mut Bytes) -> Result<(), NoMemory
     }
 }
 
+/// The text of a value that holds it, so that nothing need be printed.
+#[inline]
+pub(crate) fn held_text(value: &Value) -> Option<&[u8]>
+    ensures { IfSome result (λ text. text.now ≡ cell_text (tree_of value.now)) }
+{
+    match value {
+        Value::Empty => Some(b""),
+        Value::Str(text) | Value::Frac(text) | Value::Wide(text) => Some(text.as_slice()),
+        Value::Int(int) => held_spelling(int),
+        _ => None,
+    }
+}
+
+/// How an int was spelled, unless it is printed in decimal.
+#[inline]
+fn held_spelling(int: &IntValue) -> Option<&[u8]>
+    ensures { IfSome result (λ text. text.now ≡ int_text int.now) }
+{
+    if int.spelling.is_empty() {
+        None
+    } else {
+        Some(int.spelling.as_slice())
+    }
+}
+
 /// Whether a value is a map or an array.
 #[inline]
 fn is_collection(value: &Value) -> bool
@@ -56,5 +81,16 @@ pub(crate) fn append_part(
     match part {
         Part::Keys => out.append(key),
         Part::Values => append_cell(value, out),
+    }
+}
+
+/// The key of a field, or the text that its value holds.
+#[inline]
+pub(crate) fn held_part<'t>(part: Part, key: &'t [u8], value: &'t Value) -> Option<&'t [u8]>
+    ensures { IfSome result (λ text. text.now ≡ part_text part (key.now, tree_of value.now)) }
+{
+    match part {
+        Part::Keys => Some(key),
+        Part::Values => held_text(value),
     }
 }

@@ -31,11 +31,32 @@ pub(crate) fn append_field(
 fn append_csv(opts: &WriteOpts, text: &[u8], out: &mut Bytes) -> Result<(), NoMemory>
     ensures { OnOk result (out.new ≡ out.old ++ csv_field opts.now text.now) }
 {
-    if opts.quote_all || has_special(text) || holds(opts.ofs.as_slice(), text) {
+    if opts.quote_all || is_special(opts.ofs.as_slice(), text) {
         append_quoted(text, out)
     } else {
         out.append(text)
     }
+}
+
+/// Whether a quote, LF, CR or the separator stands in the text.
+#[inline]
+fn is_special(separator: &[u8], text: &[u8]) -> bool
+    ensures { result ≡ (list_any wants_quotes text.now || is_some (place_in separator.now text.now)) }
+{
+    if separator.len() == 1 {
+        has_special_or(separator[0], text)
+    } else {
+        has_special(text) || holds(separator, text)
+    }
+}
+
+/// Whether a quote, LF, CR or the byte stands in the text. Most texts are short, so that one walk is the fastest.
+#[inline]
+fn has_special_or(byte: u8, text: &[u8]) -> bool
+    ensures { result ≡ list_any (λ b. wants_quotes b || b == byte) text.now }
+{
+    text.iter()
+        .any(|b| *b == b'"' || *b == b'\n' || *b == b'\r' || *b == byte)
 }
 
 /// Whether a quote, LF or CR stands in the text.

@@ -7,7 +7,7 @@ ghost use Rattle.writers.specs.Joined.{separated};
 ghost use Rattle.writers.specs.Rows.{field_in, field_text, line_text};
 
 use crate::WriteOpts;
-use crate::cells::append_cell;
+use crate::cells::{append_cell, held_text};
 use crate::escape::append_field;
 use crate::form::{FieldForm, Part, RowStyle};
 use mlr_json::append_json_field;
@@ -85,7 +85,7 @@ fn append_pair(opts: &WriteOpts, key: &[u8], value: &Value, out: &mut Bytes) -> 
     append_cell(value, out)
 }
 
-/// A value in a row: out of its own text, or out of what it prints, which is put into a buffer that is kept.
+/// A value in a row: out of the text that it holds, or out of what it prints, which is put into a buffer that is kept.
 #[inline]
 fn append_value(
     style: RowStyle,
@@ -96,11 +96,9 @@ fn append_value(
 ) -> Result<(), NoMemory>
     ensures { OnOk result (out.new ≡ out.old ++ field_in style opts.now (cell_text (tree_of value.now))) }
 {
-    match value {
-        Value::Str(text) | Value::Frac(text) | Value::Wide(text) => {
-            append_field(style, opts, text.as_slice(), out)
-        }
-        _ => {
+    match held_text(value) {
+        Some(text) => append_field(style, opts, text, out),
+        None => {
             scratch.clear();
             append_cell(value, scratch)?;
             append_field(style, opts, scratch.as_slice(), out)

@@ -10,7 +10,7 @@ ghost use Rattle.writers.specs.Pprint.{block, block_by, block_end, block_ended, 
 ghost use Rattle.writers.specs.Standing.{run_of};
 
 use crate::WriteOpts;
-use crate::cells::append_part;
+use crate::cells::{append_part, held_part};
 use crate::fields::append_separator;
 use crate::form::Part;
 use crate::keys::{are_keys, put_keys};
@@ -188,8 +188,25 @@ fn length_at(
     let Some((key, value)) = fields.at(column) else {
         return Ok(0);
     };
-    scratch.clear();
-    append_shown(part, key, value, scratch)
+    match held_part(part, key, value) {
+        Some(text) => Ok(count_shown(text)),
+        None => {
+            scratch.clear();
+            append_shown(part, key, value, scratch)
+        }
+    }
+}
+
+/// How many code points a text shows: an empty one is a dash.
+#[inline]
+fn count_shown(text: &[u8]) -> usize
+    ensures { result ≡ code_points (shown text.now) }
+{
+    if text.len() == 0 {
+        1
+    } else {
+        count_points(text)
+    }
 }
 
 /// Puts the key or the value of a field behind `out`, or a dash if it is empty. It answers how many code points it put.

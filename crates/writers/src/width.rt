@@ -1,12 +1,33 @@
-ghost use Rattle.std.specs.Prelude.{◌≡◌, ◌+◌, ◌++◌, ◌-◌, ◌<◌, ◌≤◌, OnOk, drop, length, replicate};
+ghost use Rattle.std.specs.Prelude.{◌≡◌, ◌+◌, ◌++◌, ◌-◌, ◌<◌, ◌≤◌, OnOk, drop, length, nat_lt, replicate};
+ghost use Rattle.std.specs.List.{list_all};
 ghost use Rattle.writers.specs.Width.{code_points, points_of};
 
 use bstr::decode_utf8;
 use mlr_spec::NoMemory;
 use mlr_value::Bytes;
 
-/// How many code points the text has; each byte that is part of none counts as one.
+/// How many code points the text has; each byte that is part of none counts as one. ASCII needs no decoding.
+#[inline]
 pub(crate) fn count_points(text: &[u8]) -> usize
+    ensures count { result ≡ code_points text.now }
+    ensures few { result ≤ length text.now }
+{
+    if is_ascii(text) {
+        text.len()
+    } else {
+        count_pieces(text)
+    }
+}
+
+#[inline]
+fn is_ascii(text: &[u8]) -> bool
+    ensures { result ≡ list_all (λ b. nat_lt b 128) text.now }
+{
+    text.iter().all(|b| *b < 128)
+}
+
+/// How many code points the text has, each decoded.
+fn count_pieces(text: &[u8]) -> usize
     ensures count { result ≡ code_points text.now }
     ensures few { result ≤ length text.now }
 {

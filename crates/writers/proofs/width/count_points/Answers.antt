@@ -1,8 +1,6 @@
-use Rattle.std.proofs.Common.{◌≡◌, length, arith, rules}
-use Rattle.writers.proofs.Widths.{points-none}
+use Rattle.std.proofs.Common.{sym}
+use Rattle.writers.proofs.Widths.{ascii-points}
 use Rattle.writers.proofs.width.count_points.Goals as goal
 
-pub returns-clause-count : goal.returns-clause-count
-returns-clause-count c =
-    let none : length c.loop-rest.rest.now ≡ 0 = search rules in
-    omega (arith, c.loop-rest.invariant.0, points-none c.loop-rest.rest.now none)
+pub returns-then-is_ascii-clause-count : goal.returns-then-is_ascii-clause-count
+returns-then-is_ascii-clause-count c = sym (ascii-points c.args.text.now (sym c.if-is_ascii.ensures))
