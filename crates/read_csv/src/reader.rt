@@ -1,4 +1,4 @@
-ghost use Rattle.std.specs.Prelude.{◌≡◌, ◌↔◌, ◌+◌, ◌^◌, ◌≤◌, ℕ, List, [], ◌++◌, true, length, IsTrue, IfOk, OnOk, OnErr};
+ghost use Rattle.std.specs.Prelude.{◌≡◌, ◌↔◌, ◌+◌, ◌^◌, ◌≤◌, ℕ, List, [], ◌++◌, true, length, max, IsTrue, IfOk, OnOk, OnErr};
 ghost use Rattle.mlr_event.specs.declared.event.Ctx.{Ctx};
 ghost use Rattle.mlr_event.specs.declared.names.FileRef.{FileRef};
 ghost use Rattle.mlr_event.specs.declared.options.ReadOpts.{ReadOpts};
@@ -44,7 +44,7 @@ impl CsvReader {
         requires fnr { start.fnr ≤ 2 ^ 62 }
         ensures stands { IfOk result (λ reader. StandsFor opts.now file start reader []) }
         ensures open { IfOk result (λ reader. IsOpen reader) }
-        ensures room { IfOk result (λ reader. used reader ≤ 2 ^ 62) }
+        ensures room { IfOk result (λ reader. used reader ≤ max 1 (max start.nr start.fnr)) }
     {
         let rules = RowRules {
             alloc,

@@ -1,4 +1,4 @@
-ghost use Rattle.std.specs.Prelude.{◌≡◌, ◌↔◌, ◌+◌, ◌^◌, ◌<◌, ◌≤◌, ℕ, List, [], ◌++◌, true, length, IsTrue, IfOk, OnOk, OnErr};
+ghost use Rattle.std.specs.Prelude.{◌≡◌, ◌↔◌, ◌+◌, ◌^◌, ◌<◌, ◌≤◌, ℕ, List, [], ◌++◌, true, length, max, IsTrue, IfOk, OnOk, OnErr};
 ghost use Rattle.mlr_event.specs.declared.event.Ctx.{Ctx};
 ghost use Rattle.mlr_event.specs.declared.names.FileRef.{FileRef};
 ghost use Rattle.mlr_event.specs.declared.options.ReadOpts.{ReadOpts};
@@ -37,7 +37,7 @@ fn first_rules(alloc: Global, opts: ReadOpts, file: FileRef, start: Ctx) -> Bloc
     requires nr { start.nr ≤ 2 ^ 62 }
     requires fnr { start.fnr ≤ 2 ^ 62 }
     ensures begins { Begins result opts file start }
-    ensures room { count_of result ≤ 2 ^ 62 }
+    ensures room { count_of result ≤ max 1 (max start.nr start.fnr) }
 {
     match opts.format {
         Format::Xtab => BlockRules::Xtab(XtabRules {
@@ -73,7 +73,7 @@ impl BlockReader {
         requires fnr { start.fnr ≤ 2 ^ 62 }
         ensures stands { IfOk result (λ reader. StandsFor opts.now file start reader []) }
         ensures open { IfOk result (λ reader. IsOpen reader) }
-        ensures room { IfOk result (λ reader. used reader ≤ 2 ^ 62) }
+        ensures room { IfOk result (λ reader. used reader ≤ max 1 (max start.nr start.fnr)) }
     {
         let rules = first_rules(alloc, opts.copy(alloc)?, file, start);
         Ok(BlockReader {
