@@ -1,9 +1,12 @@
-pub mod Joined
 pub mod Takes
-pub mod Messages
-pub mod Showing
-pub mod Turning
-pub mod Going
 pub mod Growing
+pub mod Showing
+pub mod Given
+pub mod Turning
+pub mod Putting
+pub mod Going
 pub mod Opened
 pub mod Top
+pub mod Completing
+pub mod Whole
+pub mod Messages

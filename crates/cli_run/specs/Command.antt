@@ -1,89 +1,84 @@
--- What a command line reads, and what that gives.
-use Rattle.std.specs.Prelude.{ℕ, Bool, true, false, List, [], ◌∷◌, codes}
-use Rattle.mlr_event.specs.declared.event.Event.{Event}
-use Rattle.mlr_event.specs.declared.names.FileRef.TheVariants.{Main}
-use Rattle.mlr_event.specs.declared.options.Comments.TheVariants.{Keep}
+-- What the words of a command line ask for.
+use Rattle.std.specs.Prelude.{ℕ, ◌+◌, if◌then◌else◌, List, [], ◌∷◌, codes, drop, map, Option, Some, None}
+use Rattle.std.specs.Str.{bytes_eq}
+use Rattle.mlr_event.specs.declared.names.InputName.{InputName}
+use Rattle.mlr_event.specs.declared.names.InputName.TheVariants.{Stdin, File}
 use Rattle.mlr_event.specs.declared.options.Format.{Format}
-use Rattle.mlr_event.specs.declared.options.Format.TheVariants as format
-use Rattle.mlr_event.specs.declared.options.ReadOpts.{ReadOpts}
-use Rattle.read_csv.specs.Rows.{csv_fed, csv_read}
-use Rattle.read_dkvp_nidx.specs.Lines.{line_fed, line_read}
-use Rattle.read_xtab_pprint.specs.Blocks.{block_fed, block_read}
-use Rattle.cli_run.specs.Answer.{read_format}
-use Rattle.cli_run.specs.Sources.{Source, Gives, gives_by}
+use Rattle.mlr_event.specs.declared.options.Format.TheVariants.{Csv, Tsv, Json, Jsonl, Dkvp, Nidx, Xtab, Pprint, Markdown}
+use Rattle.cli_run.specs.declared.command.Command.{Command}
+use Rattle.cli_run.specs.declared.command.Line.{Line}
+use Rattle.cli_run.specs.declared.command.Line.TheVariants.{Accepted, Refused}
 
--- the separator of fields where none is given
-abbrev pub default_ifs : Format → List ℕ
-default_ifs format.Tsv = 9 ∷ []
-default_ifs format.Nidx = codes " "
-default_ifs _ = codes ","
+-- the flags that name the format of the input, of the output, and of both
+abbrev pub input_flag : List ℕ → Option Format
+input_flag word =
+    if bytes_eq word (codes "--icsv") then Some Csv else (
+    if bytes_eq word (codes "--itsv") then Some Tsv else (
+    if bytes_eq word (codes "--ijson") then Some Json else (
+    if bytes_eq word (codes "--ijsonl") then Some Jsonl else (
+    if bytes_eq word (codes "--idkvp") then Some Dkvp else (
+    if bytes_eq word (codes "--inidx") then Some Nidx else (
+    if bytes_eq word (codes "--ixtab") then Some Xtab else (
+    if bytes_eq word (codes "--ipprint") then Some Pprint else (
+    if bytes_eq word (codes "--imd") then Some Markdown else None))))))))
 
--- how a format is read where no option is given
-abbrev pub default_options : Format → ReadOpts
-default_options fmt = record {
-  format = fmt;
-  ifs = default_ifs fmt;
-  ips = codes "=";
-  implicit = false;
-  ragged = false;
-  dedupe = true;
-  comments = Keep;
-  infer = record { none = false; octal = false };
-}
+abbrev pub output_flag : List ℕ → Option Format
+output_flag word =
+    if bytes_eq word (codes "--ocsv") then Some Csv else (
+    if bytes_eq word (codes "--otsv") then Some Tsv else (
+    if bytes_eq word (codes "--ojson") then Some Json else (
+    if bytes_eq word (codes "--ojsonl") then Some Jsonl else (
+    if bytes_eq word (codes "--odkvp") then Some Dkvp else (
+    if bytes_eq word (codes "--onidx") then Some Nidx else (
+    if bytes_eq word (codes "--oxtab") then Some Xtab else (
+    if bytes_eq word (codes "--opprint") then Some Pprint else (
+    if bytes_eq word (codes "--omd") then Some Markdown else None))))))))
 
--- the first file, before its first record
-abbrev pub first_source : ReadOpts → Source
-first_source opts = record { opts = opts; file = Main 1; ctx = record { nr = 0; fnr = 0; filenum = 1 } }
+abbrev pub both_flag : List ℕ → Option Format
+both_flag word =
+    if bytes_eq word (codes "--csv") then Some Csv else (
+    if bytes_eq word (codes "--tsv") then Some Tsv else (
+    if bytes_eq word (codes "--json") then Some Json else (
+    if bytes_eq word (codes "--jsonl") then Some Jsonl else (
+    if bytes_eq word (codes "--dkvp") then Some Dkvp else (
+    if bytes_eq word (codes "--nidx") then Some Nidx else (
+    if bytes_eq word (codes "--xtab") then Some Xtab else (
+    if bytes_eq word (codes "--pprint") then Some Pprint else None)))))))
 
--- what the bytes of a source fix, and what they give as a whole file
-abbrev pub csv_fed_of : Source → List ℕ → List Event
-csv_fed_of source bytes = csv_fed source.opts source.file source.ctx bytes
+-- a command line without flags: DKVP in and out, and the file names begin with this word
+abbrev pub plain : ℕ → Command
+plain names = record { input = Dkvp; output = Dkvp; names = names }
 
-abbrev pub csv_read_of : Source → List ℕ → List Event
-csv_read_of source bytes = csv_read source.opts source.file source.ctx bytes
+-- what a flag makes of a command, if the word is one
+abbrev pub flagged : List ℕ → Command → Option Command
+flagged word command = elim (input_flag word) [
+  | Some fmt ↦ Some (record command { input = fmt })
+  | None ↦ elim (output_flag word) [
+    | Some fmt ↦ Some (record command { output = fmt })
+    | None ↦ elim (both_flag word) [
+      | Some fmt ↦ Some (record command { input = fmt; output = fmt })
+      | None ↦ None
+    ]
+  ]
+]
 
-abbrev pub line_fed_of : Source → List ℕ → List Event
-line_fed_of source bytes = line_fed source.opts source.file source.ctx bytes
+-- Flags, of which a later one wins over an earlier one, then `cat`, then any file names; or the number of the first word at
+-- which no such line can go on, one past the last if words lack. The words begin with this number.
+abbrev pub line_from : ℕ → Command → List (List ℕ) → Line
+line_from n command [] = Refused n
+line_from n command (word ∷ words) = elim (flagged word command) [
+  | Some next ↦ line_from (n + 1) next words
+  | None ↦ if bytes_eq word (codes "cat") then Accepted (record command { names = n }) else Refused n
+]
 
-abbrev pub line_read_of : Source → List ℕ → List Event
-line_read_of source bytes = line_read source.opts source.file source.ctx bytes
+abbrev pub line_of : List (List ℕ) → Line
+line_of words = line_from 1 (plain 0) words
 
-abbrev pub block_fed_of : Source → List ℕ → List Event
-block_fed_of source bytes = block_fed source.opts source.file source.ctx bytes
+-- the names of the files that a command reads
+abbrev pub names_of : Command → List (List ℕ) → List (List ℕ)
+names_of command words = drop command.names words
 
-abbrev pub block_read_of : Source → List ℕ → List Event
-block_read_of source bytes = block_read source.opts source.file source.ctx bytes
-
--- what a source gives by the reader of a format
-abbrev pub gives_as : Format → Source → Gives
-gives_as format.Csv source = gives_by csv_fed_of csv_read_of source
-gives_as format.Tsv source = gives_by csv_fed_of csv_read_of source
-gives_as format.Dkvp source = gives_by line_fed_of line_read_of source
-gives_as format.Nidx source = gives_by line_fed_of line_read_of source
-gives_as format.Markdown source = gives_by line_fed_of line_read_of source
-gives_as format.Xtab source = gives_by block_fed_of block_read_of source
-gives_as format.Pprint source = gives_by block_fed_of block_read_of source
-gives_as _ source = λ all bytes. []
-
--- what the first file gives in a format
-abbrev pub gives_in : Format → Gives
-gives_in fmt = gives_as fmt (first_source (default_options fmt))
-
--- the formats that are built
-abbrev pub is_built : Format → Bool
-is_built format.Json = false
-is_built format.Jsonl = false
-is_built _ = true
-
--- what a command line makes of the bytes of standard input
-abbrev pub gives_of : List (List ℕ) → Gives
-gives_of words = gives_in (read_format words)
-
--- records are unflattened where the input isn't JSON
-abbrev pub nests_in : Format → Bool
-nests_in format.Json = false
-nests_in format.Jsonl = false
-nests_in _ = true
-
-abbrev pub nests : List (List ℕ) → Bool
-nests words = nests_in (read_format words)
+-- the inputs in their order: standard input where no file is named
+abbrev pub inputs_of : List (List ℕ) → List InputName
+inputs_of [] = Stdin ∷ []
+inputs_of (name ∷ names) = File name ∷ map File names

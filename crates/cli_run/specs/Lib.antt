@@ -1,9 +1,9 @@
-pub mod Answer
-pub mod Message
-pub mod Shown
-pub mod Sources
-pub mod Lists
 pub mod Command
-pub mod Stream
+pub mod Options
+pub mod Sources
+pub mod Meaning
+pub mod Message
+pub mod Answer
 pub mod Run
 pub mod Readers
+pub mod Stream

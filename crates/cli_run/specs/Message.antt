@@ -4,6 +4,8 @@ use Rattle.std.specs.List.{flat_map}
 use Rattle.std.specs.Fmt.{decimal}
 use Rattle.mlr_event.specs.declared.fault.Fault.{Fault}
 use Rattle.mlr_event.specs.declared.fault.Fault.TheVariants as fault
+use Rattle.mlr_event.specs.declared.names.FileRef.{FileRef}
+use Rattle.mlr_event.specs.declared.names.FileRef.TheVariants.{Main, Left}
 use Rattle.mlr_event.specs.declared.names.InputName.{InputName}
 use Rattle.mlr_event.specs.declared.names.InputName.TheVariants as input
 use Rattle.mlr_event.specs.declared.names.Target.{Target}
@@ -13,6 +15,9 @@ use Rattle.mlr_world.specs.declared.outputs.Done.TheVariants as done
 use Rattle.mlr_world.specs.Outputs.{IsFrontOf, with_bytes}
 use Rattle.cli_run.specs.declared.answer.Ended.{Ended}
 use Rattle.cli_run.specs.declared.answer.Ended.TheVariants as answer
+use Rattle.cli_run.specs.declared.command.Line.{Line}
+use Rattle.cli_run.specs.declared.command.Line.TheVariants.{Accepted, Refused}
+use Rattle.cli_run.specs.Command.{line_of, names_of}
 
 -- the word with this number from 1; none of number 0 or past the last
 abbrev pub word_at : List (List ℕ) → ℕ → List ℕ
@@ -27,27 +32,43 @@ target_text target.Stdout = codes "(stdout)"
 target_text target.Stderr = codes "(stderr)"
 target_text (target.File name) = name
 
--- a fault, in the one input that there is
-abbrev pub line_pieces : ℕ → List ℕ → List (List ℕ)
-line_pieces line what = codes "mlr: (stdin): line " ∷ decimal line ∷ what ∷ []
+-- the name of the input with this number: standard input's where no file is named
+abbrev pub named : List (List ℕ) → ℕ → List ℕ
+named [] number = codes "(stdin)"
+named (name ∷ names) number = word_at (name ∷ names) number
 
-abbrev pub byte_pieces : ℕ → List ℕ → List (List ℕ)
-byte_pieces byte what = codes "mlr: (stdin): byte " ∷ decimal byte ∷ what ∷ []
+abbrev pub name_in : Line → List (List ℕ) → FileRef → List ℕ
+name_in (Accepted command) words (Main number) = named (names_of command words) number
+name_in (Accepted command) words (Left verb) = []
+name_in (Refused word) words file = []
 
-abbrev pub fault_pieces : Fault → List (List ℕ)
-fault_pieces (fault.Length file line want have) =
-    codes "mlr: (stdin): line " ∷ decimal line ∷ codes ": data length " ∷ decimal have ∷ codes ", header length " ∷ decimal want ∷ codes "\n" ∷ []
-fault_pieces (fault.Quote file line) = line_pieces line (codes ": unclosed quote\n")
-fault_pieces (fault.Table file line) = line_pieces line (codes ": bad table line\n")
-fault_pieces (fault.JsonSyntax file byte) = byte_pieces byte (codes ": bad JSON\n")
-fault_pieces (fault.JsonDeep file byte) = byte_pieces byte (codes ": nested deeper than 100\n")
-fault_pieces (fault.JsonKind file byte) = byte_pieces byte (codes ": not a map\n")
+abbrev pub file_text : List (List ℕ) → FileRef → List ℕ
+file_text words file = name_in (line_of words) words file
+
+-- a fault in an input
+abbrev pub line_pieces : List ℕ → ℕ → List ℕ → List (List ℕ)
+line_pieces file line what = codes "mlr: " ∷ file ∷ codes ": line " ∷ decimal line ∷ what ∷ []
+
+abbrev pub byte_pieces : List ℕ → ℕ → List ℕ → List (List ℕ)
+byte_pieces file byte what = codes "mlr: " ∷ file ∷ codes ": byte " ∷ decimal byte ∷ what ∷ []
+
+abbrev pub length_pieces : List ℕ → ℕ → ℕ → ℕ → List (List ℕ)
+length_pieces file line want have =
+    codes "mlr: " ∷ file ∷ codes ": line " ∷ decimal line ∷ codes ": data length " ∷ decimal have ∷ codes ", header length " ∷ decimal want ∷ codes "\n" ∷ []
+
+abbrev pub fault_pieces : List (List ℕ) → Fault → List (List ℕ)
+fault_pieces words (fault.Length file line want have) = length_pieces (file_text words file) line want have
+fault_pieces words (fault.Quote file line) = line_pieces (file_text words file) line (codes ": unclosed quote\n")
+fault_pieces words (fault.Table file line) = line_pieces (file_text words file) line (codes ": bad table line\n")
+fault_pieces words (fault.JsonSyntax file byte) = byte_pieces (file_text words file) byte (codes ": bad JSON\n")
+fault_pieces words (fault.JsonDeep file byte) = byte_pieces (file_text words file) byte (codes ": nested deeper than 100\n")
+fault_pieces words (fault.JsonKind file byte) = byte_pieces (file_text words file) byte (codes ": not a map\n")
 
 -- the pieces of a message
 abbrev pub pieces_of : List (List ℕ) → Ended → List (List ℕ)
 pieces_of words answer.Done = []
 pieces_of words (answer.Refused refusal) = codes "mlr: word " ∷ decimal refusal.word ∷ codes ": not built: " ∷ word_at words refusal.word ∷ codes "\n" ∷ []
-pieces_of words (answer.Data fault) = fault_pieces fault
+pieces_of words (answer.Data fault) = fault_pieces words fault
 pieces_of words (answer.Read name) = codes "mlr: cannot read " ∷ input_text name ∷ codes "\n" ∷ []
 pieces_of words (answer.Written target) = codes "mlr: cannot write " ∷ target_text target ∷ codes "\n" ∷ []
 pieces_of words answer.TooLong = codes "mlr: input too long\n" ∷ []

@@ -1,13 +1,14 @@
 //! The top call of `mlr`: it takes the words of the command line and the inputs and outputs, runs the command, and
-//! says how the run ended. So far it accepts a flag of an input format, if any, and `--ojson cat`, and reads standard
-//! input.
+//! says how the run ended. So far it accepts the flags of formats, then `cat`, and then file names.
 #![tactic(auto)]
 
 mod answer;
-mod json;
+mod command;
+mod input;
 mod laws;
 mod message;
 mod options;
+mod progress;
 mod reader;
 mod run;
 mod stream;

@@ -3,12 +3,12 @@ ghost use Rattle.std.specs.List.{flat_map};
 ghost use Rattle.mlr_event.specs.declared.names.Target.TheVariants.{Stderr};
 ghost use Rattle.mlr_world.specs.Counts.{Counted, Tallied};
 ghost use Rattle.mlr_world.specs.Outputs.{ChangesAt, call_failed, lacked_memory};
-ghost use Rattle.mlr_event.specs.declared.names.FileRef.{FileRef};
-ghost use Rattle.cli_run.specs.Message.{Puts, message_of, fault_pieces, line_pieces, byte_pieces, word_at, input_text, target_text};
+ghost use Rattle.cli_run.specs.Message.{Puts, message_of, fault_pieces, length_pieces, line_pieces, byte_pieces, file_text, named, word_at, input_text, target_text};
 
 use crate::Ended;
+use crate::command::{Line, line_of};
 use itoa::Buffer;
-use mlr_event::{Fault, InputName, Target};
+use mlr_event::{Fault, FileRef, InputName, Target};
 use mlr_value::Bytes;
 use mlr_world::{Done, Outputs};
 
@@ -47,14 +47,18 @@ pub(crate) fn write_message<O: Outputs>(
                 b"\n",
                 b"",
                 b"",
+                b"",
+                b"",
             )
         }
-        Ended::Data(fault) => write_fault(fault, digits, outputs),
+        Ended::Data(fault) => write_fault(words, fault, digits, outputs),
         Ended::Read(name) => say(
             outputs,
             b"mlr: cannot read ",
             input_text(name),
             b"\n",
+            b"",
+            b"",
             b"",
             b"",
             b"",
@@ -69,10 +73,14 @@ pub(crate) fn write_message<O: Outputs>(
             b"",
             b"",
             b"",
+            b"",
+            b"",
         ),
         Ended::TooLong => say(
             outputs,
             b"mlr: input too long\n",
+            b"",
+            b"",
             b"",
             b"",
             b"",
@@ -89,42 +97,85 @@ pub(crate) fn write_message<O: Outputs>(
             b"",
             b"",
             b"",
+            b"",
+            b"",
         ),
     }
 }
 
 /// Writes the message of a fault.
-fn write_fault<O: Outputs>(fault: &Fault, digits: &mut Digits, outputs: &mut O) -> Done
-    ensures bytes { ChangesAt Stderr (Puts (flat_map (λ piece. piece) (fault_pieces fault.now)) result) (O.held outputs.old) (O.held outputs.new) }
+fn write_fault<O: Outputs>(
+    words: &[Bytes],
+    fault: &Fault,
+    digits: &mut Digits,
+    outputs: &mut O,
+) -> Done
+    ensures bytes { ChangesAt Stderr (Puts (flat_map (λ piece. piece) (fault_pieces words.now fault.now)) result) (O.held outputs.old) (O.held outputs.new) }
     ensures counts { Counted (call_failed result) (O.faults outputs.old) (O.faults outputs.new) Stderr }
     ensures memory { Tallied (lacked_memory result) (O.shortages outputs.old) (O.shortages outputs.new) }
 {
     match fault {
         Fault::Length {
+            file,
             line,
             want,
             have,
-            ..
-        } => write_length(*line, *want, *have, digits, outputs),
-        Fault::Quote { line, .. } => say_line(*line, b": unclosed quote\n", digits, outputs),
-        Fault::Table { line, .. } => say_line(*line, b": bad table line\n", digits, outputs),
-        Fault::JsonSyntax { byte, .. } => say_byte(*byte, b": bad JSON\n", digits, outputs),
-        Fault::JsonDeep { byte, .. } => {
-            say_byte(*byte, b": nested deeper than 100\n", digits, outputs)
-        }
-        Fault::JsonKind { byte, .. } => say_byte(*byte, b": not a map\n", digits, outputs),
+        } => write_length(
+            file_text(words, *file),
+            *line,
+            *want,
+            *have,
+            digits,
+            outputs,
+        ),
+        Fault::Quote { file, line } => say_line(
+            file_text(words, *file),
+            *line,
+            b": unclosed quote\n",
+            digits,
+            outputs,
+        ),
+        Fault::Table { file, line } => say_line(
+            file_text(words, *file),
+            *line,
+            b": bad table line\n",
+            digits,
+            outputs,
+        ),
+        Fault::JsonSyntax { file, byte } => say_byte(
+            file_text(words, *file),
+            *byte,
+            b": bad JSON\n",
+            digits,
+            outputs,
+        ),
+        Fault::JsonDeep { file, byte } => say_byte(
+            file_text(words, *file),
+            *byte,
+            b": nested deeper than 100\n",
+            digits,
+            outputs,
+        ),
+        Fault::JsonKind { file, byte } => say_byte(
+            file_text(words, *file),
+            *byte,
+            b": not a map\n",
+            digits,
+            outputs,
+        ),
     }
 }
 
 /// Writes the message of a row of another length than its header.
 fn write_length<O: Outputs>(
+    file: &[u8],
     line: u64,
     want: u64,
     have: u64,
     digits: &mut Digits,
     outputs: &mut O,
 ) -> Done
-    ensures bytes { (file : FileRef) → ChangesAt Stderr (Puts (flat_map (λ piece. piece) (fault_pieces (Fault.Length file line want have))) result) (O.held outputs.old) (O.held outputs.new) }
+    ensures bytes { ChangesAt Stderr (Puts (flat_map (λ piece. piece) (length_pieces file.now line want have)) result) (O.held outputs.old) (O.held outputs.new) }
     ensures counts { Counted (call_failed result) (O.faults outputs.old) (O.faults outputs.new) Stderr }
     ensures memory { Tallied (lacked_memory result) (O.shortages outputs.old) (O.shortages outputs.new) }
 {
@@ -133,7 +184,9 @@ fn write_length<O: Outputs>(
     let want = digits.third.format(want).as_bytes();
     say(
         outputs,
-        b"mlr: (stdin): line ",
+        b"mlr: ",
+        file,
+        b": line ",
         line,
         b": data length ",
         have,
@@ -144,44 +197,42 @@ fn write_length<O: Outputs>(
 }
 
 /// Writes what is wrong on a line.
-fn say_line<O: Outputs>(line: u64, what: &[u8], digits: &mut Digits, outputs: &mut O) -> Done
-    ensures bytes { ChangesAt Stderr (Puts (flat_map (λ piece. piece) (line_pieces line what.now)) result) (O.held outputs.old) (O.held outputs.new) }
+fn say_line<O: Outputs>(
+    file: &[u8],
+    line: u64,
+    what: &[u8],
+    digits: &mut Digits,
+    outputs: &mut O,
+) -> Done
+    ensures bytes { ChangesAt Stderr (Puts (flat_map (λ piece. piece) (line_pieces file.now line what.now)) result) (O.held outputs.old) (O.held outputs.new) }
     ensures counts { Counted (call_failed result) (O.faults outputs.old) (O.faults outputs.new) Stderr }
     ensures memory { Tallied (lacked_memory result) (O.shortages outputs.old) (O.shortages outputs.new) }
 {
     let line = digits.first.format(line).as_bytes();
     say(
-        outputs,
-        b"mlr: (stdin): line ",
-        line,
-        what,
-        b"",
-        b"",
-        b"",
-        b"",
+        outputs, b"mlr: ", file, b": line ", line, what, b"", b"", b"", b"",
     )
 }
 
 /// Writes what is wrong at a byte.
-fn say_byte<O: Outputs>(byte: u64, what: &[u8], digits: &mut Digits, outputs: &mut O) -> Done
-    ensures bytes { ChangesAt Stderr (Puts (flat_map (λ piece. piece) (byte_pieces byte what.now)) result) (O.held outputs.old) (O.held outputs.new) }
+fn say_byte<O: Outputs>(
+    file: &[u8],
+    byte: u64,
+    what: &[u8],
+    digits: &mut Digits,
+    outputs: &mut O,
+) -> Done
+    ensures bytes { ChangesAt Stderr (Puts (flat_map (λ piece. piece) (byte_pieces file.now byte what.now)) result) (O.held outputs.old) (O.held outputs.new) }
     ensures counts { Counted (call_failed result) (O.faults outputs.old) (O.faults outputs.new) Stderr }
     ensures memory { Tallied (lacked_memory result) (O.shortages outputs.old) (O.shortages outputs.new) }
 {
     let byte = digits.first.format(byte).as_bytes();
     say(
-        outputs,
-        b"mlr: (stdin): byte ",
-        byte,
-        what,
-        b"",
-        b"",
-        b"",
-        b"",
+        outputs, b"mlr: ", file, b": byte ", byte, what, b"", b"", b"", b"",
     )
 }
 
-/// Writes up to seven pieces to standard error.
+/// Writes up to nine pieces to standard error.
 fn say<'a, O: Outputs>(
     outputs: &mut O,
     first: &'a [u8],
@@ -191,14 +242,18 @@ fn say<'a, O: Outputs>(
     fifth: &'a [u8],
     sixth: &'a [u8],
     seventh: &'a [u8],
+    eighth: &'a [u8],
+    ninth: &'a [u8],
 ) -> Done
-    ensures bytes { ChangesAt Stderr (Puts (flat_map (λ piece. piece) (first.now ∷ second.now ∷ third.now ∷ fourth.now ∷ fifth.now ∷ sixth.now ∷ seventh.now ∷ [])) result) (O.held outputs.old) (O.held outputs.new) }
+    ensures bytes { ChangesAt Stderr (Puts (flat_map (λ piece. piece) (first.now ∷ second.now ∷ third.now ∷ fourth.now ∷ fifth.now ∷ sixth.now ∷ seventh.now ∷ eighth.now ∷ ninth.now ∷ [])) result) (O.held outputs.old) (O.held outputs.new) }
     ensures counts { Counted (call_failed result) (O.faults outputs.old) (O.faults outputs.new) Stderr }
     ensures memory { Tallied (lacked_memory result) (O.shortages outputs.old) (O.shortages outputs.new) }
 {
     write_pieces(
         outputs,
-        &[first, second, third, fourth, fifth, sixth, seventh],
+        &[
+            first, second, third, fourth, fifth, sixth, seventh, eighth, ninth,
+        ],
     )
 }
 
@@ -240,6 +295,30 @@ fn word_at(words: &[Bytes], number: u64) -> &[u8]
     match words.get((number - 1) as usize) {
         Some(word) => word.as_slice(),
         None => b"",
+    }
+}
+
+/// The name of an input of a command line, by its number from 1; no bytes if there is none.
+fn file_text(words: &[Bytes], file: FileRef) -> &[u8]
+    ensures { result.now ≡ file_text words.now file }
+{
+    match line_of(words) {
+        Line::Accepted(command) => match file {
+            FileRef::Main(number) => named(words.get(command.names..).unwrap_or(&[]), number),
+            FileRef::Left(_) => b"",
+        },
+        Line::Refused(_) => b"",
+    }
+}
+
+/// The name of the input with this number: standard input's where no file is named.
+fn named(names: &[Bytes], number: u64) -> &[u8]
+    ensures { result.now ≡ named names.now number }
+{
+    if names.is_empty() {
+        b"(stdin)"
+    } else {
+        word_at(names, number)
     }
 }
 

@@ -1,18 +1,21 @@
-ghost use Rattle.std.specs.Prelude.{◌≡◌, IfOk};
-ghost use Rattle.cli_run.specs.Command.{default_ifs, default_options};
+ghost use Rattle.std.specs.Prelude.{◌≡◌, ◌≤◌, ◌^◌, length, IfOk};
+ghost use Rattle.cli_run.specs.Command.{inputs_of};
+ghost use Rattle.cli_run.specs.Options.{default_separator, is_json, read_options, write_options};
 
-use mlr_event::{Comments, Format, ReadOpts};
+use crate::command::Command;
+use mlr_event::{Comments, Format, InputName, ReadOpts};
 use mlr_spec::{InferOpts, NoMemory};
 use mlr_value::Bytes;
 use std::alloc::Global;
+use writers::WriteOpts;
 
-/// How a format is read where no option is given.
-pub(crate) fn default_options(alloc: Global, format: Format) -> Result<ReadOpts, NoMemory>
-    ensures { IfOk result (λ opts. opts ≡ default_options format) }
+/// How a format is read.
+pub(crate) fn read_options(alloc: Global, format: Format) -> Result<ReadOpts, NoMemory>
+    ensures { IfOk result (λ opts. opts ≡ read_options format) }
 {
     Ok(ReadOpts {
         format,
-        ifs: Bytes::copy_of(alloc, default_ifs(format))?,
+        ifs: Bytes::copy_of(alloc, default_separator(format))?,
         ips: Bytes::copy_of(alloc, b"=")?,
         implicit: false,
         ragged: false,
@@ -22,13 +25,62 @@ pub(crate) fn default_options(alloc: Global, format: Format) -> Result<ReadOpts,
     })
 }
 
-/// The separator of fields where none is given.
-fn default_ifs(format: Format) -> &'static [u8]
-    ensures { result.now ≡ default_ifs format }
+/// How a command writes.
+pub(crate) fn write_options(alloc: Global, command: Command) -> Result<WriteOpts, NoMemory>
+    ensures { IfOk result (λ opts. opts ≡ write_options command) }
+{
+    Ok(WriteOpts {
+        format: command.output,
+        ofs: Bytes::copy_of(alloc, default_separator(command.output))?,
+        ops: Bytes::copy_of(alloc, b"=")?,
+        headerless: false,
+        quote_all: false,
+        barred: false,
+        stacked: true,
+        listwrap: true,
+        flatten: !is_json(command.output),
+        unflatten: is_json(command.output) && !is_json(command.input),
+        flatsep: Bytes::copy_of(alloc, b".")?,
+    })
+}
+
+/// What stands between two fields where nothing is given.
+fn default_separator(format: Format) -> &'static [u8]
+    ensures { result.now ≡ default_separator format }
 {
     match format {
         Format::Tsv => b"\t",
         Format::Nidx => b" ",
         _ => b",",
     }
+}
+
+/// Whether values can be nested in a format.
+fn is_json(format: Format) -> bool
+    ensures { result ≡ is_json format }
+{
+    matches!(format, Format::Json | Format::Jsonl)
+}
+
+/// More inputs than any memory holds.
+const MANY: usize = 1 << 60;
+
+/// The inputs in their order: standard input where no file is named. It finds no memory for more of them than any
+/// memory holds.
+pub(crate) fn inputs_of(alloc: Global, names: &[Bytes]) -> Result<Vec<InputName>, NoMemory>
+    ensures inputs { IfOk result (λ inputs. inputs.items ≡ inputs_of names.now) }
+    ensures few { IfOk result (λ inputs. length inputs.items ≤ 2 ^ 60) }
+{
+    if names.len() >= MANY {
+        return Err(NoMemory);
+    }
+    let mut inputs = Vec::with_capacity(alloc, names.len().max(1))?;
+    if names.is_empty() {
+        inputs.push(InputName::Stdin)?;
+        return Ok(inputs);
+    }
+    for name in names {
+        inputs.push(InputName::File(Bytes::copy_of(alloc, name.as_slice())?))?;
+    }
+    Ok(inputs)
 }

@@ -1,14 +1,15 @@
-ghost use Rattle.std.specs.Prelude.{◌≡◌, ◌+◌, ◌<◌, ◌^◌, ◌++◌, ℕ, List, length, OnOk};
+ghost use Rattle.std.specs.Prelude.{◌≡◌, ◌+◌, ◌<◌, ◌≤◌, ◌^◌, ◌++◌, ℕ, List, length, IfOk, OnOk};
 ghost use Rattle.mlr_event.specs.declared.event.Event.{Event};
 ghost use Rattle.mlr_lines.specs.Standing.{Adds};
-ghost use Rattle.cli_run.specs.Command.{csv_fed_of, csv_read_of, line_fed_of, line_read_of, block_fed_of, block_read_of};
-ghost use Rattle.cli_run.specs.Readers.{CsvStands, LineStands, BlockStands};
-ghost use Rattle.cli_run.specs.Sources.{Source};
+ghost use Rattle.cli_run.specs.Sources.{csv_fed_of, csv_read_of, line_fed_of, line_read_of, block_fed_of, block_read_of, json_fed_of, json_read_of};
+ghost use Rattle.cli_run.specs.Readers.{counted, CsvStands, LineStands, BlockStands, JsonStands};
+ghost use Rattle.cli_run.specs.Sources.{Source, nr_behind};
 
 use mlr_event::Events;
 use mlr_spec::NoMemory;
 use read_csv::CsvReader;
 use read_dkvp_nidx::LineReader;
+use read_json_lines::JsonReader;
 use read_xtab_pprint::BlockReader;
 
 /// A reader of one file: its bytes come in any pieces, and the events that they fix go out.
@@ -28,10 +29,12 @@ pub(crate) trait ByteReader {
         ensures stands { (source : Source) (bytes : List ℕ) → stands self.old source bytes → OnOk result (stands self.new source (bytes ++ piece.now)) }
         ensures adds { (source : Source) (bytes : List ℕ) → stands self.old source bytes → OnOk result (Adds out.old out.new (fed source bytes) (fed source (bytes ++ piece.now))) };
 
-    /// Takes the end of the file, and puts out the rest.
-    fn end(&mut self, out: &mut Events) -> Result<(), NoMemory>
+    /// Takes the end of the file, and puts out the rest. It answers the number of the last record.
+    fn end(&mut self, out: &mut Events) -> Result<u64, NoMemory>
         requires { (source : Source) × (bytes : List ℕ) × stands self.old source bytes × (length bytes < 2 ^ 62) }
-        ensures { (source : Source) (bytes : List ℕ) → stands self.old source bytes → OnOk result (Adds out.old out.new (fed source bytes) (whole source bytes)) };
+        ensures adds { (source : Source) (bytes : List ℕ) → stands self.old source bytes → OnOk result (Adds out.old out.new (fed source bytes) (whole source bytes)) }
+        ensures nr { (source : Source) (bytes : List ℕ) → stands self.old source bytes → IfOk result (λ nr. nr ≡ nr_behind source.ctx.nr (whole source bytes)) }
+        ensures few { (source : Source) (bytes : List ℕ) → stands self.old source bytes → IfOk result (λ nr. nr ≤ counted source (length bytes) + 1) };
 }
 
 impl ByteReader for CsvReader {
@@ -45,8 +48,9 @@ impl ByteReader for CsvReader {
         CsvReader::feed(self, piece, out)
     }
 
-    fn end(&mut self, out: &mut Events) -> Result<(), NoMemory> {
-        CsvReader::end(self, out)
+    fn end(&mut self, out: &mut Events) -> Result<u64, NoMemory> {
+        CsvReader::end(self, out)?;
+        Ok(self.ctx().nr)
     }
 }
 
@@ -61,8 +65,9 @@ impl ByteReader for LineReader {
         LineReader::feed(self, piece, out)
     }
 
-    fn end(&mut self, out: &mut Events) -> Result<(), NoMemory> {
-        LineReader::end(self, out)
+    fn end(&mut self, out: &mut Events) -> Result<u64, NoMemory> {
+        LineReader::end(self, out)?;
+        Ok(self.ctx().nr)
     }
 }
 
@@ -77,7 +82,25 @@ impl ByteReader for BlockReader {
         BlockReader::feed(self, piece, out)
     }
 
-    fn end(&mut self, out: &mut Events) -> Result<(), NoMemory> {
-        BlockReader::end(self, out)
+    fn end(&mut self, out: &mut Events) -> Result<u64, NoMemory> {
+        BlockReader::end(self, out)?;
+        Ok(self.ctx().nr)
+    }
+}
+
+impl ByteReader for JsonReader {
+    ghost stands = { λ reader source bytes. JsonStands reader source bytes };
+
+    ghost fed = { λ source bytes. json_fed_of source bytes };
+
+    ghost whole = { λ source bytes. json_read_of source bytes };
+
+    fn feed(&mut self, piece: &[u8], out: &mut Events) -> Result<(), NoMemory> {
+        JsonReader::feed(self, piece, out)
+    }
+
+    fn end(&mut self, out: &mut Events) -> Result<u64, NoMemory> {
+        JsonReader::end(self, out)?;
+        Ok(self.ctx().nr)
     }
 }

@@ -1,93 +1,84 @@
-ghost use Rattle.std.specs.Prelude.{◌≡◌, false, ◌++◌, ◌+◌, ◌<◌, ◌≤◌, ◌^◌, ℕ, List, [], IsSome, IfSome, length};
+ghost use Rattle.std.specs.Prelude.{◌≡◌, false, ◌++◌, ◌+◌, ◌<◌, ◌≤◌, ◌^◌, ℕ, List, [], IsSome, IfSome, length, max};
+ghost use Rattle.mlr_event.specs.declared.event.Event.{Event};
 ghost use Rattle.mlr_event.specs.declared.names.Target.TheVariants.{Stdout};
-ghost use Rattle.mlr_world.specs.Counts.{Counted, Tallied};
+ghost use Rattle.mlr_world.specs.Counts.{Counted};
 ghost use Rattle.mlr_world.specs.Inputs.{Continues};
-ghost use Rattle.mlr_world.specs.Outputs.{ChangesAt, call_failed, lacked_memory};
-ghost use Rattle.cli_run.specs.Lists.{place_of, IsReady};
-ghost use Rattle.cli_run.specs.Shown.{closing};
-ghost use Rattle.cli_run.specs.Sources.{Source, Grows, gives_by};
-ghost use Rattle.cli_run.specs.Stream.{Went, Fed, OnGoing, Finished, WritesEvents, WritesText, input_failed, output_failed, turn_input_failed, turn_output_failed};
+ghost use Rattle.writers.specs.declared.options.WriteOpts.{WriteOpts};
+ghost use Rattle.cli_run.specs.Readers.{counted};
+ghost use Rattle.cli_run.specs.Sources.{Source, Grows, gives_by, nr_behind};
+ghost use Rattle.cli_run.specs.Stream.{Went, Wrote, IsReady, OnGoing, turn_input_failed, turn_output_failed};
 
 use crate::Ended;
-use crate::json::JsonList;
+use crate::progress::{Progress, Turn};
 use crate::reader::ByteReader;
-use mlr_event::{Events, InputName, Target};
+use mlr_event::Events;
 use mlr_value::Bytes;
-use mlr_world::{Done, Got, Inputs, Outputs};
+use mlr_world::{Got, Inputs, Outputs};
 use std::alloc::Global;
 
-/// How a turn ended.
-#[derive(Drop)]
-pub(crate) enum Turn {
-    /// The run goes on.
-    On,
-    /// The run is over.
-    Over(Ended),
-}
-
-/// One input has fewer bytes than this.
+/// All inputs together have fewer bytes than this.
 const TOO_LONG: u64 = 1 << 60;
 
 /// One read takes at most so many bytes.
 const ONE_READ: u64 = 65_536;
 
-/// Reads the input that was opened last to its end, piece by piece, and writes its records as they come, unflattened or
-/// as they are.
+/// Reads the input that was opened last to its end, piece by piece, and writes its records as
+/// they come.
 pub(crate) fn run_open<T: ByteReader, I: Inputs, O: Outputs>(
     alloc: Global,
     reader: &mut T,
-    unflatten: bool,
+    progress: &mut Progress,
     inputs: &mut I,
     outputs: &mut O,
-) -> Ended
+) -> Turn
     requires open { IsSome (I.open_name inputs.old) }
-    requires stands { (source : Source) × T.stands reader.old source [] }
+    requires stands { (source : Source) × Grows (gives_by T.fed T.whole source) × T.stands reader.old source [] }
+    requires ready { (opts : WriteOpts) × (before : List Event) × IsReady opts progress.old before }
+    requires few { progress.old.taken < 2 ^ 60 }
     requires front { Continues (I.contents inputs.old) (I.taken inputs.old) [] }
-    ensures went { (source : Source) → Grows (gives_by T.fed T.whole source) → T.stands reader.old source []
-        → Went result unflatten (gives_by T.fed T.whole source) (I.contents inputs.old) (I.taken inputs.old) (I.taken inputs.new) (O.held outputs.old) (O.held outputs.new) }
+    ensures went { (source : Source) (opts : WriteOpts) (before : List Event) → Grows (gives_by T.fed T.whole source) → T.stands reader.old source [] → IsReady opts progress.old before
+        → Went result opts before source (gives_by T.fed T.whole source) progress.old progress.new (I.contents inputs.old) (I.taken inputs.old) (I.taken inputs.new) (O.held outputs.old) (O.held outputs.new) }
     ensures contents { I.contents inputs.new ≡ I.contents inputs.old }
-    ensures input_counts { IfSome (I.open_name inputs.old) (Counted (input_failed result) (I.faults inputs.old) (I.faults inputs.new)) }
-    ensures output_counts { Counted (output_failed result) (O.faults outputs.old) (O.faults outputs.new) Stdout }
+    ensures input_counts { IfSome (I.open_name inputs.old) (Counted (turn_input_failed result) (I.faults inputs.old) (I.faults inputs.new)) }
+    ensures output_counts { Counted (turn_output_failed result) (O.faults outputs.old) (O.faults outputs.new) Stdout }
     ensures shortages { O.shortages outputs.old ≤ O.shortages outputs.new }
 {
-    let mut list = JsonList::new(alloc, unflatten);
     let mut piece = Bytes::new(alloc);
-    let mut taken = 0;
-    while taken < TOO_LONG {
+    while progress.taken < TOO_LONG {
         piece.clear();
-        let max = ONE_READ.min(TOO_LONG - taken);
+        let max = ONE_READ.min(TOO_LONG - progress.taken);
         match inputs.read(max as usize, &mut piece) {
             Got::Some(_) => {}
-            Got::End => return finish(alloc, reader, &mut list, outputs),
-            Got::Failed => return Ended::Read(InputName::Stdin),
-            Got::NoMemory => return Ended::NoMemory,
+            Got::End => return finish(alloc, reader, progress, outputs),
+            Got::Failed => return Turn::Unread,
+            Got::NoMemory => return Turn::Over(Ended::NoMemory),
         }
-        taken += piece.len() as u64;
-        match feed(alloc, reader, &mut list, piece.as_slice(), outputs) {
+        progress.taken += piece.len() as u64;
+        match feed(alloc, reader, progress, piece.as_slice(), outputs) {
             Turn::On => {}
-            Turn::Over(ended) => return ended,
+            Turn::Unread => return Turn::Unread,
+            Turn::Over(ended) => return Turn::Over(ended),
         }
     }
-    Ended::TooLong
+    Turn::Over(Ended::TooLong)
 }
 
 /// Gives a piece to the reader, and writes what it fixes.
 fn feed<T: ByteReader, O: Outputs>(
     alloc: Global,
     reader: &mut T,
-    list: &mut JsonList,
+    progress: &mut Progress,
     piece: &[u8],
     outputs: &mut O,
 ) -> Turn
-    requires empty { list.old.text ≡ [] }
     requires stands { (source : Source) × (bytes : List ℕ) × (T.stands reader.old source bytes) × (length bytes + length piece.now < 2 ^ 62) }
-    ensures fed { (source : Source) (bytes : List ℕ) → Grows (gives_by T.fed T.whole source) → T.stands reader.old source bytes → IsReady list.old (T.fed source bytes)
-        → Fed result list.old.unflatten (T.fed source bytes) (T.fed source (bytes ++ piece.now)) (O.held outputs.old) (O.held outputs.new) }
+    requires ready { (opts : WriteOpts) × (before : List Event) × IsReady opts progress.old before }
+    ensures wrote { (source : Source) (bytes : List ℕ) (opts : WriteOpts) (before : List Event) → Grows (gives_by T.fed T.whole source) → T.stands reader.old source bytes → IsReady opts progress.old (before ++ T.fed source bytes)
+        → Wrote result opts before (T.fed source bytes) (T.fed source (bytes ++ piece.now)) (O.held outputs.old) (O.held outputs.new) }
     ensures stands { (source : Source) (bytes : List ℕ) → T.stands reader.old source bytes → OnGoing result (T.stands reader.new source (bytes ++ piece.now)) }
-    ensures ready { (source : Source) (bytes : List ℕ) → T.stands reader.old source bytes → IsReady list.old (T.fed source bytes)
-        → OnGoing result (IsReady list.new (T.fed source (bytes ++ piece.now))) }
-    ensures emptied { OnGoing result (list.new.text ≡ []) }
-    ensures unflatten { list.new.unflatten ≡ list.old.unflatten }
+    ensures ready { (source : Source) (bytes : List ℕ) (opts : WriteOpts) (before : List Event) → T.stands reader.old source bytes → IsReady opts progress.old (before ++ T.fed source bytes)
+        → OnGoing result (IsReady opts progress.new (before ++ T.fed source (bytes ++ piece.now))) }
+    ensures same { (progress.new.taken ≡ progress.old.taken) × (progress.new.nr ≡ progress.old.nr) }
     ensures counts { Counted (turn_output_failed result) (O.faults outputs.old) (O.faults outputs.new) Stdout }
     ensures no_input { turn_input_failed result ≡ false }
     ensures shortages { O.shortages outputs.old ≤ O.shortages outputs.new }
@@ -96,86 +87,33 @@ fn feed<T: ByteReader, O: Outputs>(
     if reader.feed(piece, &mut events).is_err() {
         return Turn::Over(Ended::NoMemory);
     }
-    write_events(list, events, outputs)
+    progress.write_events(events, outputs)
 }
 
-/// Gives the end of the input to the reader, and writes the rest and the end of the list.
+/// Gives the end of the input to the reader, and writes the rest.
 fn finish<T: ByteReader, O: Outputs>(
     alloc: Global,
     reader: &mut T,
-    list: &mut JsonList,
+    progress: &mut Progress,
     outputs: &mut O,
-) -> Ended
-    requires empty { list.old.text ≡ [] }
+) -> Turn
     requires stands { (source : Source) × (bytes : List ℕ) × (T.stands reader.old source bytes) × (length bytes < 2 ^ 62) }
-    ensures finished { (source : Source) (bytes : List ℕ) → Grows (gives_by T.fed T.whole source) → T.stands reader.old source bytes → IsReady list.old (T.fed source bytes)
-        → Finished result list.old.unflatten (T.fed source bytes) (T.whole source bytes) (O.held outputs.old) (O.held outputs.new) }
-    ensures counts { Counted (output_failed result) (O.faults outputs.old) (O.faults outputs.new) Stdout }
-    ensures no_input { input_failed result ≡ false }
-    ensures shortages { O.shortages outputs.old ≤ O.shortages outputs.new }
-{
-    let mut events = Events::new(alloc);
-    if reader.end(&mut events).is_err() {
-        return Ended::NoMemory;
-    }
-    match write_events(list, events, outputs) {
-        Turn::On => write_end(list, outputs),
-        Turn::Over(ended) => ended,
-    }
-}
-
-/// Writes the end of the list.
-fn write_end<O: Outputs>(list: &mut JsonList, outputs: &mut O) -> Ended
-    requires { list.old.text ≡ [] }
-    ensures writes { WritesText result (closing (place_of list.old)) (O.held outputs.old) (O.held outputs.new) }
-    ensures counts { Counted (output_failed result) (O.faults outputs.old) (O.faults outputs.new) Stdout }
-    ensures no_input { input_failed result ≡ false }
-    ensures shortages { O.shortages outputs.old ≤ O.shortages outputs.new }
-{
-    if list.close().is_err() {
-        return Ended::NoMemory;
-    }
-    write_text(list, outputs)
-}
-
-/// Writes what these events become, up to a fault.
-fn write_events<O: Outputs>(list: &mut JsonList, events: Events, outputs: &mut O) -> Turn
-    requires { list.old.text ≡ [] }
-    ensures writes { WritesEvents result list.old.unflatten list.new (place_of list.old) events (O.held outputs.old) (O.held outputs.new) }
-    ensures unflatten { list.new.unflatten ≡ list.old.unflatten }
+    requires ready { (opts : WriteOpts) × (before : List Event) × IsReady opts progress.old before }
+    ensures wrote { (source : Source) (bytes : List ℕ) (opts : WriteOpts) (before : List Event) → Grows (gives_by T.fed T.whole source) → T.stands reader.old source bytes → IsReady opts progress.old (before ++ T.fed source bytes)
+        → Wrote result opts before (T.fed source bytes) (T.whole source bytes) (O.held outputs.old) (O.held outputs.new) }
+    ensures ready { (source : Source) (bytes : List ℕ) (opts : WriteOpts) (before : List Event) → T.stands reader.old source bytes → IsReady opts progress.old (before ++ T.fed source bytes)
+        → OnGoing result (IsReady opts progress.new (before ++ T.whole source bytes)) }
+    ensures nr { (source : Source) (bytes : List ℕ) → T.stands reader.old source bytes → OnGoing result (progress.new.nr ≡ nr_behind source.ctx.nr (T.whole source bytes)) }
+    ensures nr_few { (source : Source) (bytes : List ℕ) → T.stands reader.old source bytes → OnGoing result (progress.new.nr ≤ counted source (length bytes) + 1) }
+    ensures same { progress.new.taken ≡ progress.old.taken }
     ensures counts { Counted (turn_output_failed result) (O.faults outputs.old) (O.faults outputs.new) Stdout }
     ensures no_input { turn_input_failed result ≡ false }
     ensures shortages { O.shortages outputs.old ≤ O.shortages outputs.new }
 {
-    let fault = match list.push_all(events) {
-        Ok(fault) => fault,
-        Err(_) => return Turn::Over(Ended::NoMemory),
+    let mut events = Events::new(alloc);
+    let Ok(nr) = reader.end(&mut events) else {
+        return Turn::Over(Ended::NoMemory);
     };
-    match write_text(list, outputs) {
-        Ended::Done => match fault {
-            Some(fault) => Turn::Over(Ended::Data(fault)),
-            None => Turn::On,
-        },
-        ended => Turn::Over(ended),
-    }
-}
-
-/// Writes the text of the list to standard output, and empties it.
-fn write_text<O: Outputs>(list: &mut JsonList, outputs: &mut O) -> Ended
-    ensures writes { WritesText result list.old.text (O.held outputs.old) (O.held outputs.new) }
-    ensures emptied { result ≡ Ended.Done → list.new.text ≡ [] }
-    ensures place { place_of list.new ≡ place_of list.old }
-    ensures unflatten { list.new.unflatten ≡ list.old.unflatten }
-    ensures counts { Counted (output_failed result) (O.faults outputs.old) (O.faults outputs.new) Stdout }
-    ensures no_input { input_failed result ≡ false }
-    ensures shortages { O.shortages outputs.old ≤ O.shortages outputs.new }
-{
-    match outputs.write(&Target::Stdout, list.text.as_slice()) {
-        Done::Ok => {
-            list.text.clear();
-            Ended::Done
-        }
-        Done::Failed => Ended::Written(Target::Stdout),
-        Done::NoMemory => Ended::NoMemory,
-    }
+    progress.nr = nr;
+    progress.write_events(events, outputs)
 }

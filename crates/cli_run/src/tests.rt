@@ -17,7 +17,10 @@ struct Left {
     outputs: MemOutputs,
 }
 
-/// Runs words over a standard input that comes in these pieces and fails at these calls.
+/// Two files, which the runs may name.
+const FILES: [(&str, &str); 2] = [("f", "a,b\n1,2\n"), ("g", "b\n3\n4,5\n")];
+
+/// Runs words over these two files and a standard input, which come in these pieces and fail at these calls.
 fn run<R: Threads + Wait + Copy + Send + 'static>(
     rt: &R,
     alloc: Global,
@@ -33,6 +36,10 @@ fn run<R: Threads + Wait + Copy + Send + 'static>(
     }
     let mut contents = Vec::new(alloc);
     contents.push((InputName::Stdin, Bytes::copy_of(alloc, input)?))?;
+    for (name, text) in FILES {
+        let name = InputName::File(Bytes::copy_of(alloc, name.as_bytes())?);
+        contents.push((name, Bytes::copy_of(alloc, text.as_bytes())?))?;
+    }
     let inputs = MemInputs::new(
         alloc,
         contents,
@@ -208,34 +215,75 @@ const OTHERS: [Row; 17] = [
     ),
     (
         "--ijson --ojson cat",
-        "{}",
-        "",
-        "mlr: word 1: not built: --ijson\n",
+        "{\"a\":1} 7",
+        "[\n{\n  \"a\": 1\n}",
+        "mlr: (stdin): byte 9: not a map\n",
         1,
+    ),
+    (
+        "--json cat",
+        "[{\"a.b\":{}}]{}",
+        "[\n{\n  \"a.b\": {}\n},\n{}\n]\n",
+        "",
+        0,
     ),
     ("--ojson", "a=1\n", "", "mlr: word 2: not built: \n", 1),
+    ("--icsv --itsv", "a\n", "", "mlr: word 3: not built: \n", 1),
     (
-        "--ojson cat f",
-        "a=1\n",
-        "",
-        "mlr: word 3: not built: f\n",
-        1,
-    ),
-    ("--icsv --ojson", "a\n", "", "mlr: word 3: not built: \n", 1),
-    (
-        "--icsv --itsv",
+        "--icsv sort cat",
         "a\n",
         "",
-        "mlr: word 2: not built: --itsv\n",
+        "mlr: word 2: not built: sort\n",
         1,
     ),
+    ("--md cat", "a\n", "", "mlr: word 1: not built: --md\n", 1),
+];
+
+/// The formats that are written, and later flags over earlier ones.
+const WRITTEN: [Row; 9] = [
+    ("cat", "a=1,b=\n", "a=1,b=\n", "", 0),
+    ("--ocsv cat", "a=1\nb=,\n", "a\n1\n\nb\n\"\"\n", "", 0),
+    ("--ojson --otsv cat", "a=\t\n", "a\n\\t\n", "", 0),
     (
-        "--icsv --ojson cat f",
-        "a\n",
+        "--ijson --odkvp cat",
+        "{\"a\":{\"b\":1,\"c\":[2]}}",
+        "a.b=1,a.c.1=2\n",
         "",
-        "mlr: word 4: not built: f\n",
+        0,
+    ),
+    ("--ojsonl cat", "a.b=1\n", "{\"a\": {\"b\": 1}}\n", "", 0),
+    ("--oxtab cat", "a=1,bc=2\n", "a  1\nbc 2\n", "", 0),
+    ("--onidx cat", "a=1,bc=2\n", "1 2\n", "", 0),
+    ("--omd cat", "a=|\n", "| a |\n| --- |\n| \\| |\n", "", 0),
+    (
+        "--icsv --opprint cat",
+        "a,b\n1,\n23,4\n5\n",
+        "",
+        "mlr: (stdin): line 4: data length 1, header length 2\n",
         1,
     ),
+];
+
+/// Files in their order.
+const NAMED: [Row; 6] = [
+    ("--icsv cat f", "", "a=1,b=2\n", "", 0),
+    (
+        "--icsv cat f g f",
+        "",
+        "a=1,b=2\nb=3\n",
+        "mlr: g: line 3: data length 2, header length 1\n",
+        1,
+    ),
+    ("--icsv --opprint cat f f", "", "a b\n1 2\n1 2\n", "", 0),
+    (
+        "--icsv --ojson cat f none g",
+        "",
+        "[\n{\n  \"a\": 1,\n  \"b\": 2\n}",
+        "mlr: cannot read none\n",
+        1,
+    ),
+    ("--inidx --odkvp cat f", "", "1=a,b\n1=1,2\n", "", 0),
+    ("cat then", "", "", "mlr: cannot read then\n", 1),
 ];
 
 /// Checks each row, with the input cut at every byte.
@@ -280,6 +328,16 @@ fn dkvp_cut_at_every_byte(rt: HostRuntime) -> Result<(), Fail> {
 #[test]
 fn other_formats_cut_at_every_byte(rt: HostRuntime) -> Result<(), Fail> {
     check_rows(&rt, rt.alloc(), &OTHERS)
+}
+
+#[test]
+fn written_formats_cut_at_every_byte(rt: HostRuntime) -> Result<(), Fail> {
+    check_rows(&rt, rt.alloc(), &WRITTEN)
+}
+
+#[test]
+fn files_in_their_order(rt: HostRuntime) -> Result<(), Fail> {
+    check_rows(&rt, rt.alloc(), &NAMED)
 }
 
 #[test]

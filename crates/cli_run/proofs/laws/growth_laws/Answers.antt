@@ -6,4 +6,5 @@ returns c = λ format source. grows-in
     (λ s. c.front_laws.ensures.fed s.opts s.file s.ctx) (λ s. c.front_laws.ensures.read s.opts s.file s.ctx)
     (λ s. c.front_laws-2.ensures.fed s.opts s.file s.ctx) (λ s. c.front_laws-2.ensures.read s.opts s.file s.ctx)
     (λ s. c.front_laws-3.ensures.fed s.opts s.file s.ctx) (λ s. c.front_laws-3.ensures.read s.opts s.file s.ctx)
+    (λ s. c.front_laws-4.ensures.fed s.opts s.file s.ctx) (λ s. c.front_laws-4.ensures.read s.opts s.file s.ctx)
     source format

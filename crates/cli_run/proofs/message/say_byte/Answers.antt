@@ -6,11 +6,11 @@ use Rattle.mlr_world.specs.Outputs.{ChangesAt}
 use Rattle.cli_run.specs.Message.{Puts}
 use Rattle.cli_run.proofs.message.say_byte.Goals as goal
 
-abbrev said : List ℕ → List ℕ → List ℕ → List ℕ → List ℕ → List ℕ → List ℕ → List ℕ
-said a b c d e f g = flat_map (λ piece. piece) (a ∷ b ∷ c ∷ d ∷ e ∷ f ∷ g ∷ [])
+abbrev said : List ℕ → List ℕ → List ℕ → List ℕ → List ℕ → List ℕ → List ℕ → List ℕ → List ℕ → List ℕ
+said a b c d e f g h i = flat_map (λ piece. piece) (a ∷ b ∷ c ∷ d ∷ e ∷ f ∷ g ∷ h ∷ i ∷ [])
 
 pub returns-clause-bytes : goal.returns-clause-bytes
 returns-clause-bytes g c =
     subst (λ text. ChangesAt Stderr (Puts text c.say.result) (g.O.Outputs.held c.args.outputs.now) (g.O.Outputs.held c.say.new.outputs))
-    (ap (λ n. said (codes "mlr: (stdin): byte ") n c.args.what.now [] [] [] []) (c.as_bytes-byte.ensures.value ∙ c.format.ensures.text))
+    (ap (λ n. said (codes "mlr: ") c.args.file.now (codes ": byte ") n c.args.what.now [] [] [] []) (c.as_bytes-byte.ensures.value ∙ c.format.ensures.text))
     c.say.ensures.bytes

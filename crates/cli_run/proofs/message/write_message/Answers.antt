@@ -7,16 +7,16 @@ use Rattle.mlr_world.specs.Outputs.{ChangesAt}
 use Rattle.cli_run.specs.Message.{Puts, message_of}
 use Rattle.cli_run.proofs.message.write_message.Goals as goal
 
-abbrev said : List ℕ → List ℕ → List ℕ → List ℕ → List ℕ → List ℕ → List ℕ → List ℕ
-said a b c d e f g = flat_map (λ piece. piece) (a ∷ b ∷ c ∷ d ∷ e ∷ f ∷ g ∷ [])
+abbrev said : List ℕ → List ℕ → List ℕ → List ℕ → List ℕ → List ℕ → List ℕ → List ℕ → List ℕ → List ℕ
+said a b c d e f g h i = flat_map (λ piece. piece) (a ∷ b ∷ c ∷ d ∷ e ∷ f ∷ g ∷ h ∷ i ∷ [])
 
 pub returns-in-Refused-clause-bytes : goal.returns-in-Refused-clause-bytes
 returns-in-Refused-clause-bytes g c =
     let number = c.as_bytes-number.result.now in
     let word = c.word_at-word.result.now in
     subst (λ text. ChangesAt Stderr (Puts text c.say.result) (g.O.Outputs.held c.args.outputs.now) (g.O.Outputs.held c.say.new.outputs))
-    (ap (λ n. said (codes "mlr: word ") n (codes ": not built: ") word (codes "\n") [] []) (c.as_bytes-number.ensures.value ∙ c.format.ensures.text)
-    ∙ ap (λ w. said (codes "mlr: word ") (decimal c.in-Refused.refusal.word) (codes ": not built: ") w (codes "\n") [] []) c.word_at-word.ensures
+    (ap (λ n. said (codes "mlr: word ") n (codes ": not built: ") word (codes "\n") [] [] [] []) (c.as_bytes-number.ensures.value ∙ c.format.ensures.text)
+    ∙ ap (λ w. said (codes "mlr: word ") (decimal c.in-Refused.refusal.word) (codes ": not built: ") w (codes "\n") [] [] [] []) c.word_at-word.ensures
     ∙ ap (message_of c.args.words.now) (sym c.in-Refused.is))
     c.say.ensures.bytes
 
@@ -28,13 +28,13 @@ returns-in-Data-clause-bytes g c =
 pub returns-in-Read-clause-bytes : goal.returns-in-Read-clause-bytes
 returns-in-Read-clause-bytes g c =
     subst (λ text. ChangesAt Stderr (Puts text c.say-in-Read.result) (g.O.Outputs.held c.args.outputs.now) (g.O.Outputs.held c.say-in-Read.new.outputs))
-    (ap (λ n. said (codes "mlr: cannot read ") n (codes "\n") [] [] [] []) c.input_text.ensures ∙ ap (message_of c.args.words.now) (sym c.in-Read.is))
+    (ap (λ n. said (codes "mlr: cannot read ") n (codes "\n") [] [] [] [] [] []) c.input_text.ensures ∙ ap (message_of c.args.words.now) (sym c.in-Read.is))
     c.say-in-Read.ensures.bytes
 
 pub returns-in-Written-clause-bytes : goal.returns-in-Written-clause-bytes
 returns-in-Written-clause-bytes g c =
     subst (λ text. ChangesAt Stderr (Puts text c.say-in-Written.result) (g.O.Outputs.held c.args.outputs.now) (g.O.Outputs.held c.say-in-Written.new.outputs))
-    (ap (λ n. said (codes "mlr: cannot write ") n (codes "\n") [] [] [] []) c.target_text.ensures ∙ ap (message_of c.args.words.now) (sym c.in-Written.is))
+    (ap (λ n. said (codes "mlr: cannot write ") n (codes "\n") [] [] [] [] [] []) c.target_text.ensures ∙ ap (message_of c.args.words.now) (sym c.in-Written.is))
     c.say-in-Written.ensures.bytes
 
 pub returns-in-TooLong-clause-bytes : goal.returns-in-TooLong-clause-bytes

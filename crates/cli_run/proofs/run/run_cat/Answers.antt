@@ -1,12 +1,17 @@
-use Rattle.cli_run.specs.Command.{gives_in, nests_in}
-use Rattle.cli_run.proofs.Opened.{front_at_first, run-went}
+use Rattle.std.proofs.Common.{refl}
+use Rattle.cli_run.specs.Command.{inputs_of}
+use Rattle.cli_run.proofs.Opened.{entries-none, fronts-none}
+use Rattle.cli_run.proofs.Whole.{cat-none}
 use Rattle.cli_run.proofs.run.run_cat.Goals as goal
 
-pub run_format-requires-clause-front : goal.run_format-requires-clause-front
-run_format-requires-clause-front g c =
-    front_at_first (g.I.Inputs.contents c.args.inputs.now) (g.I.Inputs.contents c.open.new.self) c.in-Ok.ensures.contents (g.I.Inputs.taken c.args.inputs.now) (g.I.Inputs.taken c.open.new.self) c.in-Ok.ensures.taken c.in-Ok.ensures.finds
+pub returns-in_default-clause-run : goal.returns-in_default-clause-run
+returns-in_default-clause-run g c =
+    let contents = g.I.Inputs.contents c.args.inputs.now in
+    let taken = g.I.Inputs.taken c.args.inputs.now in
+    cat-none c.args.command (inputs_of c.args.names.now) contents taken (g.O.Outputs.held c.args.outputs.now) (entries-none taken taken refl) (fronts-none contents taken)
 
-pub returns-in-Ok-clause-run : goal.returns-in-Ok-clause-run
-returns-in-Ok-clause-run g c =
-    run-went (g.I.Inputs.contents c.args.inputs.now) (g.I.Inputs.contents c.open.new.self) c.in-Ok.ensures.contents (g.I.Inputs.taken c.args.inputs.now) (g.I.Inputs.taken c.open.new.self) c.in-Ok.ensures.taken
-    c.run_format.result (nests_in c.args.format) (gives_in c.args.format) (g.I.Inputs.taken c.run_format.new.inputs) (g.O.Outputs.held c.args.outputs.now) (g.O.Outputs.held c.run_format.new.outputs) c.run_format.ensures.went
+pub returns-in_default-inputs_of-clause-run : goal.returns-in_default-inputs_of-clause-run
+returns-in_default-inputs_of-clause-run g c =
+    let contents = g.I.Inputs.contents c.args.inputs.now in
+    let taken = g.I.Inputs.taken c.args.inputs.now in
+    cat-none c.args.command (inputs_of c.args.names.now) contents taken (g.O.Outputs.held c.args.outputs.now) (entries-none taken taken refl) (fronts-none contents taken)

@@ -1,25 +1,38 @@
-use Rattle.std.proofs.Common.{ap, sym, ◌∙◌, ◌++◌}
-use Rattle.cli_run.proofs.Turning.{ok_holds, writes-as, finished-none, finished-over, finished-on}
+use Rattle.std.proofs.Common.{ap, subst, ◌∙◌, ◌++◌}
+use Rattle.cli_run.proofs.Turning.{unwritten}
+use Rattle.cli_run.proofs.Going.{ready-on}
+use Rattle.cli_run.specs.Stream.{IsReady, OnGoing, WritesEvents, shown}
 use Rattle.cli_run.proofs.stream.finish.Goals as goal
 
-pub returns-then-is_err-clause-finished : goal.returns-then-is_err-clause-finished
-returns-then-is_err-clause-finished g c = λ source bytes grows stands ready.
+pub returns-in_default-clause-wrote : goal.returns-in_default-clause-wrote
+returns-in_default-clause-wrote g c = λ source bytes opts before grows stands ready.
     let more = grows.whole bytes in
-    finished-none c.args.list.now.unflatten (g.T.ByteReader.fed source bytes) (g.T.ByteReader.whole source bytes) more.0 more.1 (g.O.Outputs.held c.args.outputs.now)
+    record {
+      more = more.0;
+      now_is = more.1;
+      writes = record { says = tt; leaves = unwritten (shown opts (before ++ g.T.ByteReader.fed source bytes) more.0) (g.O.Outputs.held c.args.outputs.now) };
+    }
 
-pub returns-in-On-clause-finished : goal.returns-in-On-clause-finished
-returns-in-On-clause-finished g c = λ source bytes grows stands ready.
-    let adds = ok_holds c.end.result (sym c.is_err.ensures.value ∙ c.if-is_err.false) (c.end.ensures source bytes stands) in
-    finished-on c.args.list.now.unflatten c.args.list.now c.write_events.new.list (g.T.ByteReader.fed source bytes) (g.T.ByteReader.whole source bytes) adds.0 adds.1 ready
-    c.write_end.result (g.O.Outputs.held c.args.outputs.now) (g.O.Outputs.held c.write_events.new.outputs) (g.O.Outputs.held c.write_end.new.outputs)
-    (writes-as c.args.list.now.unflatten _ _ _ _ _ _ _ (adds.2 ∙ ap (λ e. e ++ adds.0) c.new-events.ensures)
-    c.in-On.ensures.writes)
-    c.write_end.ensures.writes
+pub write_events-requires : goal.write_events-requires
+write_events-requires g c = (c.requires.ready.0, c.requires.ready.1, record { text = c.requires.ready.2.text; stands = c.requires.ready.2.stands; opened = c.requires.ready.2.opened; clear = c.requires.ready.2.clear })
 
-pub returns-in-Over-clause-finished : goal.returns-in-Over-clause-finished
-returns-in-Over-clause-finished g c = λ source bytes grows stands ready.
-    let adds = ok_holds c.end.result (sym c.is_err.ensures.value ∙ c.if-is_err.false) (c.end.ensures source bytes stands) in
-    finished-over c.args.list.now.unflatten c.args.list.now c.write_events.new.list (g.T.ByteReader.fed source bytes) (g.T.ByteReader.whole source bytes) adds.0 adds.1 ready
-    c.in-Over.ended (g.O.Outputs.held c.args.outputs.now) (g.O.Outputs.held c.write_events.new.outputs)
-    (writes-as c.args.list.now.unflatten _ _ _ _ _ _ _ (adds.2 ∙ ap (λ e. e ++ adds.0) c.new-events.ensures)
-    c.in-Over.ensures.writes)
+pub returns-clause-wrote : goal.returns-clause-wrote
+returns-clause-wrote g c = λ source bytes opts before grows stands ready.
+    let adds = c.in-Ok.ensures.adds source bytes stands in
+    let known = g.T.ByteReader.fed source bytes in
+    record {
+      more = adds.0;
+      now_is = adds.1;
+      writes = subst (λ e. WritesEvents c.write_events.result opts (before ++ known) e (g.O.Outputs.held c.args.outputs.now) (g.O.Outputs.held c.write_events.new.outputs))
+          (adds.2 ∙ ap (λ e. e ++ adds.0) c.new-events.ensures)
+          (c.write_events.ensures.writes opts (before ++ known) (record { text = ready.text; stands = ready.stands; opened = ready.opened; clear = ready.clear }));
+    }
+
+pub returns-clause-ready : goal.returns-clause-ready
+returns-clause-ready g c = λ source bytes opts before stands ready.
+    let adds = c.in-Ok.ensures.adds source bytes stands in
+    let known = g.T.ByteReader.fed source bytes in
+    ready-on opts before known (g.T.ByteReader.whole source bytes) adds.0 adds.1 c.write_events.result c.write_events.new.«self»
+    (subst (λ e. OnGoing c.write_events.result (IsReady opts c.write_events.new.«self» ((before ++ known) ++ e)))
+    (adds.2 ∙ ap (λ e. e ++ adds.0) c.new-events.ensures)
+    (c.write_events.ensures.ready opts (before ++ known) (record { text = ready.text; stands = ready.stands; opened = ready.opened; clear = ready.clear })))

@@ -1,21 +1,20 @@
-use Rattle.std.proofs.Common.{◌≡◌, ◌++◌, [], false, length, ap, sym, subst, refl, ◌∙◌, arith, length-append}
-use Rattle.std.specs.Prelude.{IfSome}
+use Rattle.std.proofs.Common.{◌≡◌, ◌++◌, [], false, true, length, ap, sym, refl, ◌∙◌, arith, length-append}
 use Rattle.std.specs.Option.{option_map}
-use Rattle.mlr_world.specs.Counts.{Counted}
 use Rattle.mlr_world.specs.Taken.{grown, ended, with_last}
 use Rattle.cli_run.specs.Sources.{gives_by}
-use Rattle.cli_run.specs.declared.stream.Turn.TheVariants as turn
-use Rattle.cli_run.specs.Stream.{Fed, Finished}
+use Rattle.cli_run.specs.declared.progress.Turn.TheVariants as turn
+use Rattle.cli_run.specs.Stream.{shown}
 use Rattle.cli_run.proofs.Takes.{grown-grown, grown-none_told, with_last-twice_told, continued, all_taken}
-use Rattle.cli_run.proofs.Going.{counts-none, counts-on, ready-first, leaves-first, leaves-on, went-over, went-ended}
+use Rattle.cli_run.proofs.Going.{clear-behind, counts-none, counts-on, fault-wrote, leaves-first, leaves-wrote, ready-first, says-input}
+use Rattle.cli_run.proofs.Turning.{whole-front}
 use Rattle.cli_run.proofs.stream.run_open.Goals as goal
 
-pub loop-taken-init : goal.loop-taken-init
-loop-taken-init g c = (
+pub loop-progress-init : goal.loop-progress-init
+loop-progress-init g c = (
   [],
   record {
-    count = refl;
-    few = omega arith;
+    count = omega arith;
+    few = omega (arith, c.requires.few);
     contents = refl;
     opened = refl;
     entry = grown-none_told (g.I.Inputs.taken c.args.inputs.now);
@@ -23,96 +22,177 @@ loop-taken-init g c = (
     in_counts = counts-none (g.I.Inputs.open_name c.args.inputs.now) (g.I.Inputs.faults c.args.inputs.now);
     out_counts = λ target. refl;
     shortages = omega arith;
-    empty = c.new-list.ensures.text;
-    nest = c.new-list.ensures.unflatten;
     stands = λ source stands. stands;
-    ready = λ source grows stands. ready-first c.args.unflatten (gives_by g.T.ByteReader.fed g.T.ByteReader.whole source) grows c.new-list.result c.new-list.ensures.place c.new-list.ensures.text;
-    leaves = λ source grows stands. leaves-first c.args.unflatten (gives_by g.T.ByteReader.fed g.T.ByteReader.whole source) grows (g.O.Outputs.held c.args.outputs.now);
+    ready = λ source opts before grows stands ready. ready-first opts before (gives_by g.T.ByteReader.fed g.T.ByteReader.whole source) grows c.args.progress.now ready;
+    leaves = λ source opts before grows stands ready. leaves-first opts before (gives_by g.T.ByteReader.fed g.T.ByteReader.whole source) grows (g.O.Outputs.held c.args.outputs.now);
   },
 )
 
-pub loop-taken-preserved : goal.loop-taken-preserved
-loop-taken-preserved g c =
-    let bytes = c.loop-taken.invariant.0 in
-    let now = c.loop-taken.invariant.1 in
+pub feed-requires-clause-ready : goal.feed-requires-clause-ready
+feed-requires-clause-ready g c =
+    let some = c.requires.ready in
+    let known = c.requires.stands in
+    let now = c.loop-progress.invariant.1.ready known.0 some.0 some.1 known.1 known.2 some.2 in
+    (some.0, some.1 ++ g.T.ByteReader.fed known.0 c.loop-progress.invariant.0, record { text = now.text; stands = now.stands; opened = now.opened; clear = now.clear })
+
+pub finish-requires-clause-ready : goal.finish-requires-clause-ready
+finish-requires-clause-ready g c =
+    let some = c.requires.ready in
+    let known = c.requires.stands in
+    (some.0, some.1 ++ g.T.ByteReader.fed known.0 c.loop-progress.invariant.0, c.loop-progress.invariant.1.ready known.0 some.0 some.1 known.1 known.2 some.2)
+
+pub loop-progress-preserved : goal.loop-progress-preserved
+loop-progress-preserved g c =
+    let bytes = c.loop-progress.invariant.0 in
+    let now = c.loop-progress.invariant.1 in
     let step = c.in-Some.ensures.taken in
     let slice = c.as_slice.result.now in
     let piece_is : slice ≡ step.piece = c.as_slice.ensures ∙ step.appended ∙ ap (λ t. t ++ step.piece) c.clear.ensures in
     let taken = g.I.Inputs.taken c.args.inputs.now in (
       bytes ++ slice,
       record {
-        count = omega (arith, length-append bytes slice, now.count, c.len.ensures, ap length c.as_slice.ensures);
-        few = omega (arith, length-append bytes slice, now.count, ap length piece_is, step.count, step.no_more, c.min-max.ensures, c.loop-taken-test.true);
+        count = omega (arith, c.in-On.ensures.same.0, length-append bytes slice, now.count, c.len.ensures, ap length c.as_slice.ensures);
+        few = omega (arith, c.in-On.ensures.same.0, c.len.ensures, ap length c.as_slice.ensures, ap length piece_is, step.count, step.no_more, c.min-max.ensures, c.loop-progress-test.true);
         contents = c.in-Some.ensures.contents ∙ now.contents;
         opened = c.in-Some.ensures.open ∙ now.opened;
         entry = step.entry ∙ ap (option_map (with_last (grown step.piece))) now.entry ∙ with_last-twice_told (grown bytes) (grown step.piece) (grown (bytes ++ step.piece)) (grown-grown bytes step.piece) taken
             ∙ ap (λ p. option_map (with_last (grown (bytes ++ p))) taken) (sym piece_is);
-        front = continued (g.I.Inputs.contents c.args.inputs.now) (g.I.Inputs.contents c.loop-taken.inputs) taken (g.I.Inputs.taken c.loop-taken.inputs) bytes now.contents now.entry
+        front = continued (g.I.Inputs.contents c.args.inputs.now) (g.I.Inputs.contents c.loop-progress.inputs) taken (g.I.Inputs.taken c.loop-progress.inputs) bytes now.contents now.entry
             step.piece (bytes ++ slice) (ap (λ p. bytes ++ p) piece_is) step.front;
-        in_counts = counts-on (g.I.Inputs.open_name c.args.inputs.now) (g.I.Inputs.open_name c.loop-taken.inputs) false (g.I.Inputs.faults c.args.inputs.now) (g.I.Inputs.faults c.loop-taken.inputs) (g.I.Inputs.faults c.read.new.self)
+        in_counts = counts-on (g.I.Inputs.open_name c.args.inputs.now) (g.I.Inputs.open_name c.loop-progress.inputs) false (g.I.Inputs.faults c.args.inputs.now) (g.I.Inputs.faults c.loop-progress.inputs) (g.I.Inputs.faults c.read.new.self)
             now.opened now.in_counts c.in-Some.ensures.counts;
         out_counts = λ target. c.in-On.ensures.counts target ∙ now.out_counts target;
         shortages = omega (arith, now.shortages, c.in-On.ensures.shortages);
-        empty = c.in-On.ensures.emptied;
-        nest = c.feed.ensures.unflatten ∙ now.nest;
         stands = λ source stands. c.in-On.ensures.stands source bytes (now.stands source stands);
-        ready = λ source grows stands. c.in-On.ensures.ready source bytes (now.stands source stands) (now.ready source grows stands);
-        leaves = λ source grows stands.
-            leaves-on c.args.unflatten (gives_by g.T.ByteReader.fed g.T.ByteReader.whole source) bytes (now.ready source grows stands).clear (g.O.Outputs.held c.args.outputs.now) (g.O.Outputs.held c.loop-taken.outputs) (now.leaves source grows stands)
-            slice (g.O.Outputs.held c.feed.new.outputs) (subst (λ nest. Fed turn.On nest (g.T.ByteReader.fed source bytes) (g.T.ByteReader.fed source (bytes ++ slice)) (g.O.Outputs.held c.loop-taken.outputs) (g.O.Outputs.held c.feed.new.outputs)) now.nest
-            (c.in-On.ensures.fed source bytes grows (now.stands source stands) (now.ready source grows stands)));
+        ready = λ source opts before grows stands ready.
+            let r = now.ready source opts before grows stands ready in
+            c.in-On.ensures.ready source bytes opts before (now.stands source stands) (record { text = r.text; stands = r.stands; opened = r.opened; clear = r.clear });
+        leaves = λ source opts before grows stands ready.
+            let r = now.ready source opts before grows stands ready in
+            leaves-wrote opts before (g.T.ByteReader.fed source bytes) ready.clear (clear-behind opts c.loop-progress.progress before (g.T.ByteReader.fed source bytes) ready.clear r)
+            (g.O.Outputs.held c.args.outputs.now) (g.O.Outputs.held c.loop-progress.outputs) (g.O.Outputs.held c.feed.new.outputs) (now.leaves source opts before grows stands ready)
+            turn.On (g.T.ByteReader.fed source (bytes ++ slice))
+            (c.in-On.ensures.wrote source bytes opts before grows (now.stands source stands) (record { text = r.text; stands = r.stands; opened = r.opened; clear = r.clear }));
       },
     )
 
 pub returns-in-Over-clause-went : goal.returns-in-Over-clause-went
-returns-in-Over-clause-went g c = λ source grows stands.
-    let bytes = c.loop-taken.invariant.0 in
-    let now = c.loop-taken.invariant.1 in
+returns-in-Over-clause-went g c = λ source opts before grows stands ready.
+    let bytes = c.loop-progress.invariant.0 in
+    let now = c.loop-progress.invariant.1 in
     let step = c.in-Some.ensures.taken in
     let slice = c.as_slice.result.now in
     let piece_is : slice ≡ step.piece = c.as_slice.ensures ∙ step.appended ∙ ap (λ t. t ++ step.piece) c.clear.ensures in
     let taken = g.I.Inputs.taken c.args.inputs.now in
-    went-over c.args.unflatten (gives_by g.T.ByteReader.fed g.T.ByteReader.whole source) bytes (now.ready source grows stands).clear (g.O.Outputs.held c.args.outputs.now) (g.O.Outputs.held c.loop-taken.outputs) (now.leaves source grows stands)
-    slice (g.O.Outputs.held c.feed.new.outputs) c.in-Over.ended (g.I.Inputs.contents c.args.inputs.now) taken (g.I.Inputs.taken c.read.new.self)
-    (step.entry ∙ ap (option_map (with_last (grown step.piece))) now.entry ∙ with_last-twice_told (grown bytes) (grown step.piece) (grown (bytes ++ step.piece)) (grown-grown bytes step.piece) taken
-    ∙ ap (λ p. option_map (with_last (grown (bytes ++ p))) taken) (sym piece_is))
-    (continued (g.I.Inputs.contents c.args.inputs.now) (g.I.Inputs.contents c.loop-taken.inputs) taken (g.I.Inputs.taken c.loop-taken.inputs) bytes now.contents now.entry
-    step.piece (bytes ++ slice) (ap (λ p. bytes ++ p) piece_is) step.front)
-    (omega (arith, length-append bytes slice, now.count, ap length piece_is, step.count, step.no_more, c.min-max.ensures, c.loop-taken-test.true))
-    (subst (λ nest. Fed (turn.Over c.in-Over.ended) nest (g.T.ByteReader.fed source bytes) (g.T.ByteReader.fed source (bytes ++ slice)) (g.O.Outputs.held c.loop-taken.outputs) (g.O.Outputs.held c.feed.new.outputs)) now.nest
-    (c.in-Over.ensures.fed source bytes grows (now.stands source stands) (now.ready source grows stands)))
-
-pub returns-in-Over-clause-input_counts : goal.returns-in-Over-clause-input_counts
-returns-in-Over-clause-input_counts g c =
-    let now = c.loop-taken.invariant.1 in
-    subst (λ failed. IfSome (g.I.Inputs.open_name c.args.inputs.now) (Counted failed (g.I.Inputs.faults c.args.inputs.now) (g.I.Inputs.faults c.read.new.self))) (sym c.in-Over.ensures.no_input)
-    (counts-on (g.I.Inputs.open_name c.args.inputs.now) (g.I.Inputs.open_name c.loop-taken.inputs) false (g.I.Inputs.faults c.args.inputs.now) (g.I.Inputs.faults c.loop-taken.inputs) (g.I.Inputs.faults c.read.new.self)
-    now.opened now.in_counts c.in-Some.ensures.counts)
+    let gives = gives_by g.T.ByteReader.fed g.T.ByteReader.whole source in
+    let r = now.ready source opts before grows stands ready in
+    let known = g.T.ByteReader.fed source bytes in
+    let clear = clear-behind opts c.loop-progress.progress before known ready.clear r in
+    let wrote = c.in-Over.ensures.wrote source bytes opts before grows (now.stands source stands) (record { text = r.text; stands = r.stands; opened = r.opened; clear = r.clear }) in
+    let h0 = g.O.Outputs.held c.args.outputs.now in
+    let h1 = g.O.Outputs.held c.loop-progress.outputs in
+    let h2 = g.O.Outputs.held c.feed.new.outputs in
+    let left = now.leaves source opts before grows stands ready in
+    let after = g.T.ByteReader.fed source (bytes ++ slice) in
+    record {
+      bytes = bytes ++ slice;
+      all = false;
+      entry = step.entry ∙ ap (option_map (with_last (grown step.piece))) now.entry ∙ with_last-twice_told (grown bytes) (grown step.piece) (grown (bytes ++ step.piece)) (grown-grown bytes step.piece) taken
+          ∙ ap (λ p. option_map (with_last (grown (bytes ++ p))) taken) (sym piece_is);
+      fits = continued (g.I.Inputs.contents c.args.inputs.now) (g.I.Inputs.contents c.loop-progress.inputs) taken (g.I.Inputs.taken c.loop-progress.inputs) bytes now.contents now.entry
+          step.piece (bytes ++ slice) (ap (λ p. bytes ++ p) piece_is) step.front;
+      counts = omega (arith, c.in-Over.ensures.same.0, length-append bytes slice, now.count, c.len.ensures, ap length c.as_slice.ensures);
+      few = omega (arith, c.in-Over.ensures.same.0, c.len.ensures, ap length c.as_slice.ensures, ap length piece_is, step.count, step.no_more, c.min-max.ensures, c.loop-progress-test.true);
+      says = says-input (turn.Over c.in-Over.ended) gives false (bytes ++ slice) c.feed.new.progress.taken _ (fault-wrote opts before known ready.clear clear h0 h1 h2 left (turn.Over c.in-Over.ended) after wrote) wrote.writes.says
+          (λ on. absurd (let e : turn.Over c.in-Over.ended ≡ turn.On = on in cc));
+      leaves = leaves-wrote opts before known ready.clear clear h0 h1 h2 left (turn.Over c.in-Over.ended) after wrote;
+      ready = tt;
+      nr = tt;
+      nr_few = tt;
+    }
 
 pub returns-in-End-clause-went : goal.returns-in-End-clause-went
-returns-in-End-clause-went g c = λ source grows stands.
-    let bytes = c.loop-taken.invariant.0 in
-    let now = c.loop-taken.invariant.1 in
+returns-in-End-clause-went g c = λ source opts before grows stands ready.
+    let bytes = c.loop-progress.invariant.0 in
+    let now = c.loop-progress.invariant.1 in
     let step = c.in-End.ensures.taken in
     let taken = g.I.Inputs.taken c.args.inputs.now in
-    went-ended c.args.unflatten (gives_by g.T.ByteReader.fed g.T.ByteReader.whole source) bytes (now.ready source grows stands).clear (g.O.Outputs.held c.args.outputs.now) (g.O.Outputs.held c.loop-taken.outputs) (now.leaves source grows stands)
-    c.finish.result (g.I.Inputs.contents c.args.inputs.now) taken (g.I.Inputs.taken c.read.new.self) (g.O.Outputs.held c.finish.new.outputs)
-    (step.entry ∙ ap (option_map (with_last ended)) now.entry ∙ with_last-twice_told (grown bytes) ended (λ t. ended (grown bytes t)) (λ t. refl) taken)
-    (all_taken (g.I.Inputs.contents c.args.inputs.now) (g.I.Inputs.contents c.loop-taken.inputs) taken (g.I.Inputs.taken c.loop-taken.inputs) bytes now.contents now.entry bytes refl step.all)
-    (omega (arith, now.count, c.loop-taken-test.true))
-    (subst (λ nest. Finished c.finish.result nest (g.T.ByteReader.fed source bytes) (g.T.ByteReader.whole source bytes) (g.O.Outputs.held c.loop-taken.outputs) (g.O.Outputs.held c.finish.new.outputs)) now.nest
-    (c.finish.ensures.finished source bytes grows (now.stands source stands) (now.ready source grows stands)))
+    let gives = gives_by g.T.ByteReader.fed g.T.ByteReader.whole source in
+    let r = now.ready source opts before grows stands ready in
+    let known = g.T.ByteReader.fed source bytes in
+    let clear = clear-behind opts c.loop-progress.progress before known ready.clear r in
+    let wrote = c.finish.ensures.wrote source bytes opts before grows (now.stands source stands) r in
+    let h0 = g.O.Outputs.held c.args.outputs.now in
+    let h1 = g.O.Outputs.held c.loop-progress.outputs in
+    let h2 = g.O.Outputs.held c.finish.new.outputs in
+    let left = now.leaves source opts before grows stands ready in
+    record {
+      bytes = bytes;
+      all = true;
+      entry = step.entry ∙ ap (option_map (with_last ended)) now.entry ∙ with_last-twice_told (grown bytes) ended (λ t. ended (grown bytes t)) (λ t. refl) taken;
+      fits = all_taken (g.I.Inputs.contents c.args.inputs.now) (g.I.Inputs.contents c.loop-progress.inputs) taken (g.I.Inputs.taken c.loop-progress.inputs) bytes now.contents now.entry bytes refl step.all;
+      counts = c.finish.ensures.same ∙ now.count;
+      few = omega (arith, c.finish.ensures.same, now.few);
+      says = says-input c.finish.result gives true bytes c.finish.new.progress.taken _ (fault-wrote opts before known ready.clear clear h0 h1 h2 left c.finish.result (g.T.ByteReader.whole source bytes) wrote) wrote.writes.says
+          (λ on. (refl, omega (arith, c.finish.ensures.same, c.loop-progress-test.true)));
+      leaves = leaves-wrote opts before known ready.clear clear h0 h1 h2 left c.finish.result (g.T.ByteReader.whole source bytes) wrote;
+      ready = c.finish.ensures.ready source bytes opts before (now.stands source stands) r;
+      nr = c.finish.ensures.nr source bytes (now.stands source stands);
+      nr_few = c.finish.ensures.nr_few source bytes (now.stands source stands);
+    }
+
+pub returns-in-Failed-clause-went : goal.returns-in-Failed-clause-went
+returns-in-Failed-clause-went g c = λ source opts before grows stands ready.
+    let bytes = c.loop-progress.invariant.0 in
+    let now = c.loop-progress.invariant.1 in
+    let r = now.ready source opts before grows stands ready in
+    record {
+      bytes = bytes;
+      all = false;
+      entry = c.in-Failed.ensures.taken.entry ∙ now.entry;
+      fits = now.front;
+      counts = now.count;
+      few = now.few;
+      says = (refl, c.loop-progress-test.true, clear-behind opts c.loop-progress.progress before (g.T.ByteReader.fed source bytes) ready.clear r);
+      leaves = now.leaves source opts before grows stands ready;
+      ready = tt;
+      nr = tt;
+      nr_few = tt;
+    }
+
+pub returns-in-NoMemory-clause-went : goal.returns-in-NoMemory-clause-went
+returns-in-NoMemory-clause-went g c = λ source opts before grows stands ready.
+    let bytes = c.loop-progress.invariant.0 in
+    let now = c.loop-progress.invariant.1 in
+    record {
+      bytes = bytes;
+      all = false;
+      entry = c.in-NoMemory.ensures.taken.entry ∙ now.entry;
+      fits = now.front;
+      counts = now.count;
+      few = now.few;
+      says = tt;
+      leaves = whole-front (shown opts before (g.T.ByteReader.fed source bytes)) (g.O.Outputs.held c.args.outputs.now) (g.O.Outputs.held c.loop-progress.outputs) (now.leaves source opts before grows stands ready);
+      ready = tt;
+      nr = tt;
+      nr_few = tt;
+    }
 
 pub returns-clause-went : goal.returns-clause-went
-returns-clause-went g c = λ source grows stands.
-    let bytes = c.loop-taken.invariant.0 in
-    let now = c.loop-taken.invariant.1 in
+returns-clause-went g c = λ source opts before grows stands ready.
+    let bytes = c.loop-progress.invariant.0 in
+    let now = c.loop-progress.invariant.1 in
+    let r = now.ready source opts before grows stands ready in
     record {
       bytes = bytes;
       all = false;
       entry = now.entry;
       fits = now.front;
+      counts = now.count;
       few = now.few;
-      says = (refl, omega (arith, now.count, now.few, c.loop-taken-test.false), (now.ready source grows stands).clear);
-      leaves = now.leaves source grows stands;
+      says = (refl, omega (arith, now.few, c.loop-progress-test.false), clear-behind opts c.loop-progress.progress before (g.T.ByteReader.fed source bytes) ready.clear r);
+      leaves = now.leaves source opts before grows stands ready;
+      ready = tt;
+      nr = tt;
+      nr_few = tt;
     }

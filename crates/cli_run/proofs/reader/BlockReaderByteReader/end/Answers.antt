@@ -1,9 +1,18 @@
-use Rattle.std.proofs.Common.{arith}
-use Rattle.std.proofs.lemmas.Result.{on_ok_weaker}
+use Rattle.std.proofs.Common.{ap, arith, ◌∙◌}
+use Rattle.read_xtab_pprint.specs.Blocks.{items_whole}
+use Rattle.mlr_lines.specs.Lines.{whole_lines}
+use Rattle.cli_run.proofs.Showing.{nr-of-items}
 use Rattle.cli_run.proofs.reader.BlockReaderByteReader.end.Goals as goal
 
 pub end-requires : goal.end-requires
-end-requires c = (c.requires.2.opened, omega (arith, c.requires.2.room, c.requires.3))
+end-requires c = (c.requires.2.opened, omega (arith, c.requires.2.used, c.requires.2.room.0, c.requires.2.room.1, c.requires.3))
 
-pub returns : goal.returns
-returns c = λ source bytes stands. on_ok_weaker c.end.result (λ adds. adds source.opts source.file source.ctx bytes stands.stands) c.end.ensures.adds
+pub returns-clause-adds : goal.returns-clause-adds
+returns-clause-adds c = λ source bytes stands. c.in_ok-end.ensures.adds source.opts source.file source.ctx bytes stands.stands
+
+pub returns-clause-nr : goal.returns-clause-nr
+returns-clause-nr c = λ source bytes stands.
+    ap (λ at. at.nr) (c.ctx.ensures.read source.opts source.file source.ctx bytes (c.in_ok-end.ensures.stands source.opts source.file source.ctx bytes stands.stands)) ∙ nr-of-items source.ctx (items_whole source.opts source.file source.opts.format (whole_lines bytes))
+
+pub returns-clause-few : goal.returns-clause-few
+returns-clause-few c = λ source bytes stands. omega (arith, c.ctx.ensures.nr, c.in_ok-end.ensures.room, stands.used)

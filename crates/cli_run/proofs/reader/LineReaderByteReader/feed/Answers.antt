@@ -4,7 +4,7 @@ use Rattle.cli_run.proofs.Turning.{on_ok_three}
 use Rattle.cli_run.proofs.reader.LineReaderByteReader.feed.Goals as goal
 
 pub feed-requires : goal.feed-requires
-feed-requires c = (c.requires.2.opened, omega (arith, c.requires.2.room, c.requires.3))
+feed-requires c = (c.requires.2.opened, omega (arith, c.requires.2.used, c.requires.2.room.0, c.requires.2.room.1, c.requires.3))
 
 pub returns-clause-stands : goal.returns-clause-stands
 returns-clause-stands c = λ source bytes stands.
@@ -12,7 +12,8 @@ returns-clause-stands c = λ source bytes stands.
     (λ now opened room. record {
       stands = now source.opts source.file source.ctx bytes stands.stands;
       opened = opened;
-      room = omega (arith, stands.room, room, length-append bytes c.args.piece.now);
+      used = omega (arith, stands.used, room, length-append bytes c.args.piece.now);
+      room = stands.room;
     })
     c.feed.ensures.stands c.feed.ensures.open c.feed.ensures.room
 
