@@ -7,10 +7,13 @@ bin/mlr: $(SOURCES)
 	mkdir -p bin
 	cp crates/mlr/out/mlr bin/mlr
 
-.PHONY: test install help
+.PHONY: test check install help
 
 test:  ## prove everything from nothing, and run all tests (rt ci)
 	rt ci
+
+check: bin/mlr  ## run the built program on real files, pipes and devices
+	tests/program bin/mlr
 
 install: bin/mlr  ## copy the program to PREFIX/bin
 	install -D -m 755 bin/mlr $(DESTDIR)$(PREFIX)/bin/mlr
