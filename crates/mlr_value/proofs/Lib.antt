@@ -4,3 +4,4 @@ pub mod Rows
 pub mod Columns
 pub mod Depth
 mod Fronts
+mod Overlaps

@@ -4,3 +4,4 @@ pub mod Depth
 pub mod Falls
 pub mod Magnitude
 pub mod Fraction
+pub mod Bytes

@@ -1,7 +1,7 @@
-ghost use Rattle.std.specs.Prelude.{◌≡◌, ◌≤◌, ◌↔◌, ℕ, List, [], ◌++◌, length, if◌then◌else◌, is_ok, IfOk, IsOk, IsTrue};
+ghost use Rattle.std.specs.Prelude.{◌≡◌, ◌≤◌, ◌↔◌, [], ◌∷◌, ◌++◌, length, if◌then◌else◌, is_ok, OnOk, IfOk, IsOk, IsTrue};
 
+use crate::short::{CAPACITY, Short, put};
 use mlr_spec::NoMemory;
-use smallvec::SmallVec;
 use std::alloc::Global;
 use std::fmt;
 use std::marker::Model;
@@ -9,13 +9,24 @@ use std::marker::Model;
 /// A byte text, which need not be UTF-8. Up to 16 bytes lie in the value itself and take no memory.
 #[derive(Drop)]
 pub struct Bytes {
-    items: SmallVec<u8, 16>,
+    room: Room,
+    alloc: Global,
+}
+
+/// Where a text lies.
+#[derive(Drop)]
+enum Room {
+    Inline(Short),
+    Heap(Vec<u8>),
 }
 
 impl Model for Bytes {
+    ghost use Rattle.std.specs.Prelude.{ℕ, List};
+    ghost use Rattle.mlr_value.specs.Bytes.{text_in};
+
     ghost Value = { List ℕ };
 
-    ghost view = { λ b. b.items.items };
+    ghost view = { λ b. text_in b.room };
 }
 
 impl Bytes {
@@ -25,7 +36,8 @@ impl Bytes {
         ensures { result ≡ [] }
     {
         Bytes {
-            items: SmallVec::new(alloc),
+            room: Room::Inline(Short::new()),
+            alloc,
         }
     }
 
@@ -35,9 +47,44 @@ impl Bytes {
         ensures copied { IfOk result (λ copy. copy ≡ text.now) }
         ensures short { length text.now ≤ 16 → IsOk result }
     {
-        Ok(Bytes {
-            items: SmallVec::from_slice(alloc, text)?,
-        })
+        if text.len() <= CAPACITY {
+            return Ok(Bytes {
+                room: Room::Inline(Short::copy_of(text)),
+                alloc,
+            });
+        }
+        let mut copy = Bytes::new(alloc);
+        copy.become_long(text)?;
+        Ok(copy)
+    }
+
+    /// Becomes the text, which lies in memory.
+    #[inline(never)]
+    fn become_long(&mut self, text: &[u8]) -> Result<(), NoMemory>
+        ensures { OnOk result (self.new ≡ text.now) }
+    {
+        let mut heap = Vec::with_capacity(self.alloc, text.len())?;
+        heap.extend_from_slice(text)?;
+        self.room = Room::Heap(heap);
+        Ok(())
+    }
+
+    /// Puts the byte last. The room at least doubles where it grows.
+    #[inline(always)]
+    pub fn push(&mut self, byte: u8) -> Result<(), NoMemory>
+        ensures { self.new ≡ (if is_ok result then self.old ++ byte ∷ [] else self.old) }
+    {
+        match &mut self.room {
+            Room::Inline(short) if short.len() < CAPACITY => {
+                short.push(byte);
+                Ok(())
+            }
+            Room::Inline(_) => self.spill(&[byte]),
+            Room::Heap(heap) => {
+                heap.push(byte)?;
+                Ok(())
+            }
+        }
     }
 
     /// Puts the text last. The room at least doubles where it grows.
@@ -45,7 +92,46 @@ impl Bytes {
     pub fn append(&mut self, text: &[u8]) -> Result<(), NoMemory>
         ensures { self.new ≡ (if is_ok result then self.old ++ text.now else self.old) }
     {
-        self.items.extend_from_slice(text)?;
+        match &mut self.room {
+            Room::Heap(heap)
+                if text.len() <= CAPACITY && heap.capacity() - heap.len() >= CAPACITY => {
+                append_short(heap, text)
+            }
+            _ => self.append_any(text),
+        }
+    }
+
+    /// Puts a text of any length last, wherever this one lies.
+    #[inline(never)]
+    fn append_any(&mut self, text: &[u8]) -> Result<(), NoMemory>
+        ensures { self.new ≡ (if is_ok result then self.old ++ text.now else self.old) }
+    {
+        match &mut self.room {
+            Room::Inline(short) if text.len() <= CAPACITY - short.len() => {
+                short.append(text);
+                Ok(())
+            }
+            Room::Inline(_) => self.spill(text),
+            Room::Heap(heap) => {
+                heap.extend_from_slice(text)?;
+                Ok(())
+            }
+        }
+    }
+
+    /// Puts the text last, and moves all to memory.
+    #[cold]
+    #[inline(never)]
+    fn spill(&mut self, text: &[u8]) -> Result<(), NoMemory>
+        ensures { self.new ≡ (if is_ok result then self.old ++ text.now else self.old) }
+    {
+        let mut heap = Vec::with_capacity(
+            self.alloc,
+            (2 * CAPACITY).max(self.len().saturating_add(text.len())),
+        )?;
+        heap.extend_from_slice(self.as_slice())?;
+        heap.extend_from_slice(text)?;
+        self.room = Room::Heap(heap);
         Ok(())
     }
 
@@ -54,7 +140,10 @@ impl Bytes {
     pub fn clear(&mut self)
         ensures { self.new ≡ [] }
     {
-        self.items.clear();
+        match &mut self.room {
+            Room::Inline(short) => short.clear(),
+            Room::Heap(heap) => heap.clear(),
+        }
     }
 
     /// The text.
@@ -62,7 +151,10 @@ impl Bytes {
     pub fn as_slice(&self) -> &[u8]
         ensures { result.now ≡ self.now }
     {
-        self.items.as_slice()
+        match &self.room {
+            Room::Inline(short) => short.as_slice(),
+            Room::Heap(heap) => heap.as_slice(),
+        }
     }
 
     /// How many bytes it has.
@@ -70,7 +162,10 @@ impl Bytes {
     pub fn len(&self) -> usize
         ensures { result ≡ length self.now }
     {
-        self.items.len()
+        match &self.room {
+            Room::Inline(short) => short.len(),
+            Room::Heap(heap) => heap.len(),
+        }
     }
 
     /// Whether it has no bytes.
@@ -78,8 +173,22 @@ impl Bytes {
     pub fn is_empty(&self) -> bool
         ensures { IsTrue result ↔ (self.now ≡ []) }
     {
-        self.items.is_empty()
+        self.len() == 0
     }
+}
+
+/// Puts a short text last. A copy of a fixed width, cut to the text, takes no call of `memcpy`.
+#[inline(always)]
+fn append_short(heap: &mut Vec<u8>, text: &[u8]) -> Result<(), NoMemory>
+    requires { length text.now ≤ CAPACITY }
+    ensures { heap.new.items ≡ (if is_ok result then heap.old.items ++ text.now else heap.old.items) }
+{
+    let len = heap.len();
+    let mut cells = [0; CAPACITY];
+    put(&mut cells, 0, text);
+    heap.extend_from_slice(&cells)?;
+    heap.truncate(len + text.len());
+    Ok(())
 }
 
 impl PartialEq for Bytes {
@@ -147,6 +256,27 @@ mod tests {
             assert_eq!(rt; text.is_empty(), want.is_empty(), "at {i}");
             text.clear();
             assert!(rt; text.is_empty(), "at {i}");
+        }
+        Ok(())
+    }
+
+    #[test]
+    fn bytes_put_behind_a_text(rt: HostRuntime) -> Result<(), NoMemory> {
+        let mut text = Bytes::new(rt.alloc());
+        for (i, byte) in LONG.iter().enumerate() {
+            text.push(*byte)?;
+            assert_eq!(rt; text.as_slice(), &LONG[..i + 1], "at {i}");
+        }
+        Ok(())
+    }
+
+    #[test]
+    fn texts_of_each_length(rt: HostRuntime) -> Result<(), NoMemory> {
+        for len in 0..LONG.len() {
+            let mut text = Bytes::copy_of(rt.alloc(), &LONG[..len])?;
+            assert_eq!(rt; text.as_slice(), &LONG[..len], "at {len}");
+            text.append(&LONG[len..])?;
+            assert_eq!(rt; text.as_slice(), LONG, "at {len}");
         }
         Ok(())
     }

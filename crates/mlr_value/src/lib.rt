@@ -6,6 +6,7 @@ mod array_value;
 mod bytes;
 mod inference;
 mod map_value;
+mod short;
 mod value;
 
 pub use array_value::ArrayValue;

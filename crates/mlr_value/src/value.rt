@@ -70,7 +70,7 @@ impl Value {
 
 /// A text from data as a value, which keeps the text as its spelling. It takes memory where the text has more than
 /// 16 bytes.
-#[inline]
+#[inline(always)]
 pub fn from_data(alloc: Global, text: &[u8], opts: InferOpts) -> Result<Value, NoMemory>
     ensures { IfOk result (λ value. tree_of value ≡ tree_of_data opts text.now) }
 {

@@ -1,0 +1,143 @@
+//! Short texts, which take no memory.
+ghost use Rattle.std.specs.Prelude.{◌≡◌, ◌+◌, ◌*◌, ◌<◌, ◌≤◌, ◌++◌, ◌∷◌, ℕ, List, [], length, take};
+
+use std::marker::Model;
+
+/// How many bytes a short text holds at most.
+pub(crate) const CAPACITY: usize = 16;
+
+/// A text of up to 16 bytes, which takes no memory.
+#[derive(Drop)]
+pub(crate) struct Short {
+    cells: [u8; CAPACITY],
+    len: usize,
+}
+
+impl Model for Short {
+    ghost use Rattle.std.specs.Prelude.{◌≡◌, ◌≤◌, ℕ, List, length, take};
+    ghost use Rattle.mlr_value.specs.declared.short.TheConstants.{CAPACITY};
+
+    ghost Value = { List ℕ };
+
+    ghost view = { λ s. take s.len s.cells };
+
+    ghost invariant = { λ s. (s.len ≤ CAPACITY) × (length s.cells ≡ CAPACITY) };
+}
+
+impl Short {
+    /// The empty text.
+    #[inline(always)]
+    pub(crate) fn new() -> Self
+        ensures { result ≡ [] }
+    {
+        Short {
+            cells: [0; CAPACITY],
+            len: 0,
+        }
+    }
+
+    /// A copy.
+    #[inline(always)]
+    pub(crate) fn copy_of(text: &[u8]) -> Self
+        requires { length text.now ≤ CAPACITY }
+        ensures { result ≡ text.now }
+    {
+        let mut cells = [0; CAPACITY];
+        put(&mut cells, 0, text);
+        Short {
+            cells,
+            len: text.len(),
+        }
+    }
+
+    /// Puts the byte last.
+    #[inline(always)]
+    pub(crate) fn push(&mut self, byte: u8)
+        requires { length self.old < CAPACITY }
+        ensures { self.new ≡ self.old ++ byte ∷ [] }
+    {
+        let len = self.len;
+        self.cells[len] = byte;
+        self.len = len + 1;
+    }
+
+    /// Puts the text last.
+    #[inline(always)]
+    pub(crate) fn append(&mut self, text: &[u8])
+        requires { length self.old + length text.now ≤ CAPACITY }
+        ensures { self.new ≡ self.old ++ text.now }
+    {
+        let len = self.len;
+        put(&mut self.cells, len, text);
+        self.len = len + text.len();
+    }
+
+    /// Takes all bytes out.
+    #[inline(always)]
+    pub(crate) fn clear(&mut self)
+        ensures { self.new ≡ [] }
+    {
+        self.len = 0;
+    }
+
+    /// The text.
+    #[inline(always)]
+    pub(crate) fn as_slice(&self) -> &[u8]
+        ensures { result.now ≡ self.now }
+    {
+        &self.cells[..self.len]
+    }
+
+    /// How many bytes it has.
+    #[inline(always)]
+    pub(crate) fn len(&self) -> usize
+        ensures value { result ≡ length self.now }
+        ensures bound { result ≤ CAPACITY }
+    {
+        self.len
+    }
+}
+
+/// Writes the text over the cells from `start` on. Its ends, of one width, cover it, so no copy is of a width that is
+/// known only at run time.
+#[inline(always)]
+pub(crate) fn put(cells: &mut [u8; CAPACITY], start: usize, text: &[u8])
+    requires { start + length text.now ≤ CAPACITY }
+    ensures front { take (start + length text.now) cells.new ≡ take start cells.old ++ text.now }
+    ensures len { length cells.new ≡ CAPACITY }
+{
+    let len = text.len();
+    if len >= 8 {
+        put_ends::<8>(cells, start, text);
+    } else if len >= 4 {
+        put_ends::<4>(cells, start, text);
+    } else if len >= 2 {
+        put_ends::<2>(cells, start, text);
+    } else if len == 1 {
+        cells[start] = text[0];
+    }
+}
+
+/// Writes the first `W` bytes of the text, and then its last `W`.
+#[inline(always)]
+fn put_ends<const W: usize>(cells: &mut [u8; CAPACITY], start: usize, text: &[u8])
+    requires fits { start + length text.now ≤ CAPACITY }
+    requires wide { W ≤ length text.now }
+    requires covered { length text.now ≤ 2 * W }
+    ensures front { take (start + length text.now) cells.new ≡ take start cells.old ++ text.now }
+    ensures len { length cells.new ≡ CAPACITY }
+{
+    let last = text.len() - W;
+    put_part(cells, start, &text[..W]);
+    put_part(cells, start + last, &text[last..]);
+}
+
+/// Writes a part of the text over the cells from `start` on.
+#[inline(always)]
+fn put_part(cells: &mut [u8; CAPACITY], start: usize, part: &[u8])
+    requires { start + length part.now ≤ CAPACITY }
+    ensures front { take (start + length part.now) cells.new ≡ take start cells.old ++ part.now }
+    ensures len { length cells.new ≡ CAPACITY }
+{
+    cells[..start + part.len()][start..].copy_from_slice(part);
+}
