@@ -131,6 +131,7 @@ pub fn distinct_names(alloc: Global, names: &[Bytes]) -> Result<Vec<Bytes>, NoMe
 }
 
 /// Puts a field into a record. A name that is there gets a suffix, or its value is replaced.
+#[inline]
 pub fn put_field(
     alloc: Global,
     record: &mut Record,

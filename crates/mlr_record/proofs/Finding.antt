@@ -1,10 +1,10 @@
 -- What a search for a separator says of its first place.
-use Rattle.std.proofs.Common.{◌≡◌, ℕ, zero, suc, ◌+◌, ◌-◌, ◌<◌, ◌≤◌, true, cond, List, [], ◌∷◌, length, take, drop, get_or, Option, Some, None, IfSome, refl, ap, sym, subst, ◌∙◌, arith, inl, inr, add-one, add-zero, length-drop}
+use Rattle.std.proofs.Common.{◌≡◌, ℕ, zero, suc, ◌+◌, ◌-◌, ◌<◌, ◌≤◌, Bool, true, cond, List, [], ◌∷◌, length, take, drop, get_or, Option, Some, None, IfSome, refl, ap, sym, subst, ◌∙◌, arith, inl, inr, add-one, add-zero, length-drop, get_or-drop, ltb}
 use Rattle.std.specs.Option.{option_map}
 use Rattle.std.proofs.Math.Seq.{take-length}
-use Rattle.std.proofs.lemmas.Bool.{cases_Bool, eqb-true, eq-eqb}
+use Rattle.std.proofs.lemmas.Bool.{cases_Bool, eqb-true, eq-eqb, ltb-false, ltb-true}
 use Rattle.std.proofs.lemmas.Slice.Eq.{bytes_eq-Decides}
-use Rattle.memchr.specs.Find.{OccursAt, FindsNeedle, IsFirstByte, Passes, is_byte}
+use Rattle.memchr.specs.Find.{OccursAt, FindsNeedle, IsFirstByte, Nowhere, Passes, is_byte}
 use Rattle.memchr.proofs.lemmas.MatchLemmas.{OccursAt-part, OccursAt-from_part}
 use Rattle.mlr_spec.proofs.Splitting.{begins_with-fits, place_in-fits}
 use Rattle.mlr_spec.specs.Split.{begins_with, place_in}
@@ -78,3 +78,31 @@ module _ (separator : List ℕ) where
 -- what stands from a place on, as a slice reads it
 pub whole-rest : (text : List ℕ) (n : ℕ) → take (length text - n) (drop n text) ≡ drop n text
 whole-rest text n = ap (λ k. take k (drop n text)) (sym (length-drop n text)) ∙ take-length (drop n text)
+
+-- a byte that passes behind a place, and the first one there
+module _ (test : ℕ → Bool) (text : List ℕ) (from : ℕ) where
+  passes-behind : (k : ℕ) → test (get_or (drop from text) k 0) ≡ test (get_or text (from + k) 0)
+  passes-behind k = ap test (get_or-drop from text k 0)
+
+  pub IsFirstByte-behind : (place : Option ℕ) → from ≤ length text → ((j : ℕ) → j < from → Passes test text j → ⊥) → IsFirstByte test (drop from text) place
+      → IsFirstByte test text (option_map (λ k. from + k) place)
+  IsFirstByte-behind place inside none h = at place h
+    where
+      len_is : length (drop from text) ≡ length text - from
+      len_is = length-drop from text
+
+      later : (k : ℕ) → from ≤ k → Passes test text k → Passes test (drop from text) (k - from)
+      later k low passes = passes-behind (k - from) ∙ ap (λ n. test (get_or text n 0)) (let e : from + (k - from) ≡ k = omega arith in e) ∙ passes
+
+      nowhere : (end : ℕ) → Nowhere (Passes test (drop from text)) 0 end → (k : ℕ) → k < from + end → Passes test text k → ⊥
+      nowhere end h k below passes = elim (cases_Bool (ltb k from)) [
+        | inl before ↦ none k (ltb-true k from before) passes
+        | inr behind ↦ let low : from ≤ k = ltb-false k from behind in h (k - from) (omega arith) (omega arith) (later k low passes)
+      ]
+
+      at : (place : Option ℕ) → IsFirstByte test (drop from text) place → IsFirstByte test text (option_map (λ k. from + k) place)
+      at None h = λ k low below passes. nowhere (length (drop from text)) h k (omega (arith, len_is)) passes
+      at (Some k) h = (
+        record { low = omega arith; high = let high = h.0.high in omega (arith, len_is); before = λ j low below. nowhere k h.0.before j below },
+        sym (passes-behind k) ∙ h.1,
+      )

@@ -1,9 +1,10 @@
-ghost use Rattle.std.specs.Prelude.{◌≡◌, ◌<◌, ◌++◌, ◌∷◌, true, [], length, if◌then◌else◌, is_ok, IfOk, OnOk, slice_get, is_some, vec_len, slice_index_or, remove};
+ghost use Rattle.std.specs.Prelude.{◌≡◌, ◌<◌, ◌++◌, ◌∷◌, true, [], length, if◌then◌else◌, is_ok, IfOk, OnOk, map, slice_get, is_some, vec_len, slice_index_or, remove};
+ghost use Rattle.std.specs.List.{zip};
 ghost use Rattle.std.specs.Option.{option_map};
 ghost use Rattle.mlr_spec.specs.Pairs.{value_at, put_at, remove_at, place_at, rename_at, keys_of, are_distinct};
 ghost use Rattle.mlr_value.specs.Value.{tree_of};
 ghost use Rattle.mlr_record.specs.declared.record.Field.{Field};
-ghost use Rattle.mlr_record.specs.Fields.{IsPlaceOf, IsRenamed};
+ghost use Rattle.mlr_record.specs.Fields.{IsPlaceOf, IsRenamed, pairs_of};
 
 use mlr_spec::NoMemory;
 use mlr_value::{Bytes, Value};
@@ -110,7 +111,7 @@ impl Record {
     }
 
     /// Puts a field last whose name the record doesn't have. It makes no search.
-    #[inline]
+    #[inline(always)]
     pub fn push(&mut self, key: &[u8], value: Value) -> Result<(), NoMemory>
         requires { value_at key.now self.old ≡ None }
         ensures { self.new ≡ (if is_ok result then self.old ++ (key.now, tree_of value) ∷ [] else self.old) }
@@ -118,6 +119,18 @@ impl Record {
         let name = Bytes::copy_of(self.alloc, key)?;
         self.fields.push(Field { name, value })?;
         Ok(())
+    }
+
+    /// A record of these values under names of which no two are equal. It takes the room of the list at once, and makes
+    /// no search.
+    pub fn of_values(alloc: Global, names: &[Bytes], values: Vec<Value>) -> Result<Self, NoMemory>
+        requires distinct { are_distinct names.now ≡ true }
+        requires count { length names.now ≡ vec_len values }
+        ensures { IfOk result (λ made. made ≡ zip names.now (map tree_of values.items)) }
+    {
+        let mut fields = Vec::with_capacity(alloc, names.len())?;
+        put_values(alloc, names, values, &mut fields)?;
+        Ok(Record { alloc, fields })
     }
 
     /// A copy, which takes the room of the list at once.
@@ -183,6 +196,25 @@ impl Record {
 }
 
 const FIRST_ROOM: usize = 8;
+
+/// Puts fields of these names and values behind others.
+fn put_values(
+    alloc: Global,
+    names: &[Bytes],
+    values: Vec<Value>,
+    fields: &mut Vec<Field>,
+) -> Result<(), NoMemory>
+    requires { length names.now ≡ vec_len values }
+    ensures { OnOk result (pairs_of fields.new.items ≡ pairs_of fields.old.items ++ zip names.now (map tree_of values.items)) }
+{
+    let mut place = 0;
+    for value in values {
+        let name = Bytes::copy_of(alloc, names[place].as_slice())?;
+        fields.push(Field { name, value })?;
+        place += 1;
+    }
+    Ok(())
+}
 
 /// Puts copies of all fields into an empty record.
 fn copy_fields(from: &Record, into: &mut Record, alloc: Global) -> Result<(), NoMemory>
@@ -277,6 +309,21 @@ mod tests {
         }
         assert!(rt; record.get(b"ab").is_none());
         assert!(rt; record.at(3).is_none());
+        Ok(())
+    }
+
+    #[test]
+    fn records_of_values(rt: HostRuntime) -> Result<(), NoMemory> {
+        let alloc = rt.alloc();
+        let names = [Bytes::copy_of(alloc, b"a")?, Bytes::copy_of(alloc, b"bc")?];
+        let mut values = Vec::new(alloc);
+        values.push(string(alloc, b"1")?)?;
+        values.push(string(alloc, b"2")?)?;
+        let record = Record::of_values(alloc, &names, values)?;
+        assert_eq!(rt; record.len(), 2);
+        assert!(rt; prints(record.get(b"a"), b"1", alloc)?);
+        assert!(rt; prints(record.get(b"bc"), b"2", alloc)?);
+        assert_eq!(rt; record.at(1).map(|field| field.0), Some(b"bc".as_slice()));
         Ok(())
     }
 

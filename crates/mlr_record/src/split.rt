@@ -1,27 +1,58 @@
-ghost use Rattle.std.specs.Prelude.{◌≡◌, ◌+◌, ◌<◌, ◌≤◌, ◌∷◌, length, IfSome};
+ghost use Rattle.std.specs.Prelude.{◌≡◌, ◌+◌, ◌<◌, ◌≤◌, ◌∷◌, ℕ, length, IfSome};
 ghost use Rattle.std.specs.Option.{option_map};
+ghost use Rattle.memchr.specs.Find.{IsFirstByte, Passes, is_byte};
 ghost use Rattle.mlr_spec.specs.Split.{place_in, split_by};
 ghost use Rattle.mlr_record.specs.Parts.{first_part, behind_first, parts_of_rest};
 
 use memchr::{memchr, memmem};
 
 /// The place of the first separator in the text. It takes no memory.
-#[inline]
+#[inline(always)]
 pub fn separator_place(separator: &[u8], text: &[u8]) -> Option<usize>
     requires { 0 < length separator.now }
     ensures place { result ≡ place_in separator.now text.now }
     ensures inside { IfSome result (λ place. place + length separator.now ≤ length text.now) }
 {
     if separator.len() == 1 {
-        memchr(separator[0], text)
+        byte_place(separator[0], text)
     } else {
         memmem::find(text, separator)
     }
 }
 
+/// How many bytes are looked at one by one.
+const NEAR: usize = 24;
+
+/// The place of the first such byte. Most parts are short: so the first bytes are looked at one by one, without a call.
+#[inline(always)]
+fn byte_place(byte: u8, text: &[u8]) -> Option<usize>
+    ensures { IsFirstByte (is_byte byte) text.now result }
+{
+    let near = text.len().min(NEAR);
+    for place in 0..near {
+        if text[place] == byte {
+            return Some(place);
+        }
+    }
+    far_place(byte, text, near)
+}
+
+/// The place of the first such byte, of which there is none before `from`.
+#[inline(never)]
+fn far_place(byte: u8, text: &[u8], from: usize) -> Option<usize>
+    requires inside { from ≤ length text.now }
+    requires none { (place : ℕ) → place < from → Passes (is_byte byte) text.now place → ⊥ }
+    ensures { IsFirstByte (is_byte byte) text.now result }
+{
+    match memchr(byte, &text[from..]) {
+        None => None,
+        Some(place) => Some(from + place),
+    }
+}
+
 /// The part of the text before the first separator, and what stands behind that separator, where the next part begins.
 /// It takes no memory.
-#[inline]
+#[inline(always)]
 pub fn next_part<'t>(separator: &[u8], text: &'t [u8]) -> (&'t [u8], Option<&'t [u8]>)
     requires { 0 < length separator.now }
     ensures part { result.0.now ≡ first_part separator.now text.now }

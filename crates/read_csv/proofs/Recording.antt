@@ -2,6 +2,7 @@
 use Rattle.std.proofs.Common.{◌≡◌, ℕ, zero, suc, ◌+◌, ◌-◌, ◌^◌, ◌<◌, ◌≤◌, Bool, true, false, ◌||◌, List, [], ◌∷◌, ◌++◌, map, length, get_or, take, drop, None, refl, ap, ap₂, sym, ◌∙◌, append_assoc, arith, inl, inr, add-one, length-take, length-append}
 use Rattle.std.proofs.lemmas.List.{append-nil, take_more}
 use Rattle.std.specs.Fmt.{decimal}
+use Rattle.std.specs.List.{zip}
 use Rattle.std.proofs.lemmas.List.{take-append-drop}
 use Rattle.std.proofs.lemmas.Bool.{cases_Bool, cases_lt}
 use Rattle.std.specs.Str.{bytes_eq}
@@ -171,6 +172,12 @@ take-all [] (suc n) enough = refl
 take-all (x ∷ xs) zero enough = absurd (omega arith)
 take-all (x ∷ xs) (suc n) enough = ap (λ more. x ∷ more) (take-all xs n (omega arith))
 
+drop-all : {A : Type 0} (xs : List A) (n : ℕ) → length xs ≤ n → drop n xs ≡ []
+drop-all [] zero enough = refl
+drop-all [] (suc n) enough = refl
+drop-all (x ∷ xs) zero enough = absurd (omega arith)
+drop-all (x ∷ xs) (suc n) enough = drop-all xs n (omega arith)
+
 -- the keys of a row
 keys-named : (header : List (List ℕ)) (n named : ℕ) → named ≤ n → named ≤ length header → (named < n → named ≡ length header) → take named header ++ positions_from (named + 1) (n - named) ≡ row_keys header n
 keys-named header n named low low_2 full =
@@ -193,3 +200,19 @@ row-made dedupe header values named low low_2 full =
     (omega (arith, length-take named header, length-take named values))
     ∙ ap₂ (with_fields dedupe []) (keys-named header (length values) named low low_2 full) (take-append-drop named values)
     ∙ sym (record_of-is dedupe (row_keys header (length values)) values)
+
+pub zip-paired : (names : List (List ℕ)) (values : List Tree) → zip names values ≡ paired names values
+zip-paired [] values = refl
+zip-paired (name ∷ names) [] = refl
+zip-paired (name ∷ names) (value ∷ values) = ap (λ more. (name, value) ∷ more) (zip-paired names values)
+
+-- a value for each name
+pub full-made : (dedupe distinct : Bool) (header : List (List ℕ)) (values : List Tree) → length values ≡ length header → length header < 2 ^ 62 → (dedupe || distinct) ≡ true
+    → (distinct ≡ true → distinct_names header ≡ header) → paired (distinct_names header) values ≡ record_of dedupe (row_keys header (length values)) values
+full-made dedupe distinct header values full few pushed is =
+    let n = length header in
+    ap (λ d. with_fields d [] header values) (sym pushed)
+    ∙ ap₂ (with_fields (dedupe || distinct) []) (sym (take-all header n (omega arith))) (sym (take-all values n (omega arith)))
+    ∙ fields-distinct dedupe distinct header values n (omega arith) (omega arith) few is
+    ∙ sym (surplus-none dedupe (with_fields dedupe [] (take n header) (take n values)) (n + 1) (length values - n) (drop n values) (omega arith) (drop-all values n (omega arith)))
+    ∙ row-made dedupe header values n (omega arith) (omega arith) (λ less. refl)

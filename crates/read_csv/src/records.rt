@@ -1,5 +1,5 @@
 ghost use Rattle.std.specs.Prelude.{◌≡◌, ◌+◌, ◌-◌, ◌<◌, ◌≤◌, ◌^◌, ◌∷◌, [], length, map, take, drop, IfOk, OnOk, vec_len};
-ghost use Rattle.mlr_event.specs.Reading.{record_of};
+ghost use Rattle.mlr_event.specs.Reading.{distinct_names, paired, record_of};
 ghost use Rattle.mlr_event.specs.Rows.{with_fields};
 ghost use Rattle.mlr_value.specs.Value.{tree_of};
 ghost use Rattle.read_csv.specs.Rows.{positions_from, row_keys};
@@ -37,14 +37,29 @@ pub(crate) fn record_of_row(
     ensures empty { OnOk result (values.new.items ≡ []) }
 {
     few(values.len())?;
-    let mut record = Record::new(alloc)?;
     let names = header.header();
-    let named = values.len().min(names.len());
     let distinct = dedupe | header.is_distinct();
+    if distinct && values.len() == names.len() {
+        return full_record(alloc, names, values);
+    }
+    let mut record = Record::new(alloc)?;
+    let named = values.len().min(names.len());
     put_named(distinct, names, values, named, &mut record)?;
     put_surplus(alloc, dedupe, values, named, &mut record)?;
     values.clear();
     Ok(record)
+}
+
+/// The record of a row that has a value for each name of the header, under the names as they are distinct. Almost all
+/// rows are so.
+fn full_record(alloc: Global, names: &Header, values: &mut Vec<Value>) -> Result<Record, NoMemory>
+    requires full { length names.now ≡ vec_len values.old }
+    requires few { length names.now < 2 ^ 62 }
+    ensures made { IfOk result (λ made. made ≡ paired (distinct_names names.now) (map tree_of values.old.items)) }
+    ensures empty { OnOk result (values.new.items ≡ []) }
+{
+    let room = Vec::with_capacity(alloc, values.len())?;
+    Record::of_values(alloc, names.keys(), mem::replace(values, room))
 }
 
 /// Puts the first values into an empty record, under the names of the header: each made distinct, which takes no

@@ -1,11 +1,12 @@
-use Rattle.std.proofs.Common.{rules, ◌≡◌, ◌+◌, ◌-◌, ◌≤◌, ◌||◌, [], length, map, take, ap, ap₂, sym, ◌∙◌, arith, length-take}
+use Rattle.std.proofs.Common.{rules, ◌≡◌, ◌+◌, ◌-◌, ◌≤◌, ◌<◌, ◌^◌, ◌||◌, [], length, map, take, ap, ap₂, sym, ◌∙◌, arith, length-take}
 use Rattle.std.proofs.lemmas.List.{length-map}
+use Rattle.std.proofs.lemmas.Result.{IfOk-weaker}
 use Rattle.std.specs.Vec.{vec_len}
 use Rattle.mlr_event.specs.Rows.{with_fields}
-use Rattle.mlr_event.specs.Reading.{record_of}
+use Rattle.mlr_event.specs.Reading.{distinct_names, paired, record_of}
 use Rattle.mlr_value.specs.Value.{tree_of}
 use Rattle.read_csv.specs.Rows.{positions_from, row_keys}
-use Rattle.read_csv.proofs.Recording.{fields-distinct, row-made, map-drop, length-with_fields}
+use Rattle.read_csv.proofs.Recording.{fields-distinct, full-made, row-made, map-drop, length-with_fields}
 use Rattle.read_csv.proofs.records.record_of_row.Goals as goal
 
 pub put_surplus-requires-clause-into : goal.put_surplus-requires-clause-into
@@ -45,3 +46,23 @@ returns-clause-made c =
     ∙ ap₂ (λ p vs. with_fields dedupe p (positions_from (named + 1) (length values - named)) vs) fields (map-drop tree_of items named)
     ∙ row-made dedupe header values named low_2 low (λ less. omega (arith, c.min-named.ensures, c.len-3.ensures.count, ap length c.header-names.ensures, length-map items tree_of))
     ∙ ap (λ n. record_of dedupe (row_keys header n) values) (length-map items tree_of ∙ sym size)
+
+pub full_record-requires-clause-few : goal.full_record-requires-clause-few
+full_record-requires-clause-few c = c.len-then-distinct-2.ensures.few
+
+pub returns-then-len-clause-made : goal.returns-then-len-clause-made
+returns-then-len-clause-made c =
+    let dedupe = c.args.dedupe in
+    let header = c.args.header.now in
+    let names = c.header-names.result.now in
+    let items = c.args.values.now.items in
+    let values = map tree_of items in
+    let size : vec_len c.args.values.now ≡ length items = search rules in
+    let full : length values ≡ length header =
+    omega (arith, length-map items tree_of, size, c.if-len.true, c.len-then-distinct.ensures, c.len-then-distinct-2.ensures.count, ap length c.header-names.ensures) in
+    let few : length header < 2 ^ 62 = omega (arith, c.len-then-distinct-2.ensures.few, ap length c.header-names.ensures) in
+    let made : paired (distinct_names names) values ≡ record_of dedupe (row_keys header (vec_len c.args.values.now)) values =
+    ap (λ n. paired (distinct_names n) values) c.header-names.ensures
+    ∙ full-made dedupe c.is_distinct.result header values full few c.if-distinct.true c.is_distinct.ensures
+    ∙ ap (λ n. record_of dedupe (row_keys header n) values) (length-map items tree_of ∙ sym size) in
+    IfOk-weaker c.full_record.result (λ r. r ≡ paired (distinct_names names) values) (λ r. r ≡ record_of dedupe (row_keys header (vec_len c.args.values.now)) values) (λ r is. is ∙ made) c.full_record.ensures.made
