@@ -133,7 +133,7 @@ take-all n [] h = take-nil n
 take-all zero (x ∷ xs) h = absurd (omega arith)
 take-all (suc n) (x ∷ xs) h = ap (λ t. x ∷ t) (take-all n xs (omega arith))
 
-shallow-push : (tokens : List Token) (t : Token) → IsShallow tokens → level_of (tokens ++ t ∷ []) ≤ 100 → IsShallow (tokens ++ t ∷ [])
+pub shallow-push : (tokens : List Token) (t : Token) → IsShallow tokens → level_of (tokens ++ t ∷ []) ≤ 100 → IsShallow (tokens ++ t ∷ [])
 shallow-push tokens t h last n =
     elim (cases_Bool (ltb n (length (tokens ++ t ∷ [])))) [
       | inl below ↦
@@ -272,7 +272,7 @@ cut-holds all end None frames at h = inr (record {
   stop = inr (refl, refl, λ s is. let e : on frames at ≡ whole (value_of s) = sym h.runs ∙ ap (run [] phase.Value) is ∙ run-whole s in cc);
 })
 
-at_most_one : (b : Bool) → one_if b ≤ 1
+pub at_most_one : (b : Bool) → one_if b ≤ 1
 at_most_one true = omega arith
 at_most_one false = omega arith
 

@@ -109,9 +109,9 @@ step-text t frames phase.Key h = absurd (let e : false ≡ true = h in cc)
 step-text t frames phase.Colon h = absurd (let e : false ≡ true = h in cc)
 step-text t frames phase.Later h = absurd (let e : false ≡ true = h in cc)
 
-step-word : (value : Tree) (frames : List Frame) (at : Phase) → takes_value at ≡ true → step frames at (word_token value) ≡ with_value value frames
+pub step-word : (value : Tree) (frames : List Frame) (at : Phase) (takes : Bool) → takes_value at ≡ takes → step frames at (word_token value) ≡ cond takes (with_value value frames) wrong
 unfolding step
-step-word value frames at h = ap (λ b. cond b (with_value value frames) wrong) h
+step-word value frames at takes h = ap (λ b. cond b (with_value value frames) wrong) h
 
 step-map : (frames : List Frame) (at : Phase) → takes_value at ≡ true → step frames at (sign BeginMap) ≡ on (Map [] [] ∷ frames) phase.FirstKey
 unfolding step
@@ -131,7 +131,7 @@ mutual
   pub run-value : (s : Syntax) (frames : List Frame) (at : Phase) (rest : List Token) → takes_value at ≡ true
       → run frames at (tokens_in s ++ rest) ≡ run_on (with_value (value_of s) frames) rest
   run-value (text t) frames at rest h = run-step frames at (text_token t) rest (with_value (text_value t) frames) (step-text t frames at h)
-  run-value (word value) frames at rest h = run-step frames at (word_token value) rest (with_value value frames) (step-word value frames at h)
+  run-value (word value) frames at rest h = run-step frames at (word_token value) rest (with_value value frames) (step-word value frames at true h)
   run-value (object members) frames at rest h =
       run-step frames at (sign BeginMap) ((member_tokens members ++ sign EndMap ∷ []) ++ rest) (on (Map [] [] ∷ frames) phase.FirstKey) (step-map frames at h)
       ∙ ap (run (Map [] [] ∷ frames) phase.FirstKey) (append_assoc (member_tokens members) (sign EndMap ∷ []) rest)

@@ -19,3 +19,15 @@ pub mod Marking
 pub mod Moving
 pub mod Stays
 pub mod FileFronts
+pub mod GrammarFlows
+pub mod GrammarOver
+pub mod GrammarParts
+pub mod GrammarMaps
+pub mod GrammarStands
+pub mod GrammarTurns
+pub mod GrammarBetween
+pub mod GrammarItems
+pub mod GrammarAlong
+pub mod GrammarStreams
+pub mod GrammarUnique
+pub mod GrammarExamples

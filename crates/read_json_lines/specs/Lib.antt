@@ -3,3 +3,4 @@ pub mod Files
 pub mod Turns
 pub mod Streams
 pub mod Standing
+pub mod Grammar

@@ -15,5 +15,5 @@ mod strings;
 #[cfg(test)]
 mod tests;
 
-pub use laws::front_laws;
+pub use laws::{front_laws, stream_law};
 pub use reader::{JsonReader, can_read};

@@ -1,0 +1,117 @@
+-- The tokens of maps and lists of maps: how they go on, and that they can be read in one way.
+use Rattle.std.proofs.Common.{◌≡◌, List, [], ◌∷◌, ◌++◌, ◌⊎◌, inl, inr, refl, ap, ap₂, sym, ◌∙◌, append_assoc}
+use Rattle.std.specs.List.{flat_map}
+use Rattle.std.proofs.lemmas.List.{append-nil}
+use Rattle.std.proofs.lemmas.Grind.{flat_map-append}
+use Rattle.mlr_spec.specs.declared.json.JsonMark.TheVariants.{BeginMap, EndArray, Comma}
+use Rattle.mlr_spec.specs.JsonTokens.{Token, sign}
+use Rattle.mlr_spec.specs.JsonGrammar.{Syntax, object, Members, tokens_in, element_tokens}
+use Rattle.mlr_json.specs.declared.frame.Phase.TheVariants as phase
+use Rattle.mlr_json.proofs.GrammarRuns.{run, run_on, run-whole}
+use Rattle.mlr_json.proofs.GrammarOutcome.{run-append, begins-run}
+use Rattle.read_json_lines.specs.Grammar.{Part, one, list, objects, part_tokens, part_maps, stream_tokens, stream_maps, comma_behind}
+use Rattle.read_json_lines.proofs.GrammarFlows.{part_value, part-value}
+
+pub join-right : (a b c d : List Token) → ((a ++ b) ++ c) ++ d ≡ a ++ (b ++ (c ++ d))
+join-right a b c d = simp append_assoc
+
+-- ---- one more part, and one more map of a list
+
+pub parts-push : (parts : List Part) (p : Part) (rest : List Token) → stream_tokens (parts ++ p ∷ []) ++ rest ≡ stream_tokens parts ++ (part_tokens p ++ rest)
+parts-push parts p rest =
+    ap (λ t. t ++ rest) (flat_map-append part_tokens parts (p ∷ []) ∙ ap (λ t. stream_tokens parts ++ t) (append-nil (part_tokens p)))
+    ∙ append_assoc (stream_tokens parts) (part_tokens p) rest
+
+pub maps-push : (parts : List Part) (p : Part) → stream_maps (parts ++ p ∷ []) ≡ stream_maps parts ++ part_maps p
+maps-push parts p = flat_map-append part_maps parts (p ∷ []) ∙ ap (λ t. stream_maps parts ++ t) (append-nil (part_maps p))
+
+-- each map with a comma behind it
+abbrev pub each_map : List Members → List Token
+each_map maps = flat_map (λ m. tokens_in (object m) ++ sign Comma ∷ []) maps
+
+pub each-comma : (maps : List Members) → element_tokens (objects maps) ++ comma_behind maps ≡ each_map maps
+each-comma [] = refl
+each-comma (m ∷ []) = swap (tokens_in (object m)) (sign Comma ∷ [])
+  where
+    swap : (a b : List Token) → (a ++ []) ++ b ≡ (a ++ b) ++ []
+    swap a b = simp (append_assoc, append-nil)
+each-comma (m ∷ k ∷ maps) =
+    regroup (tokens_in (object m)) (sign Comma ∷ []) (element_tokens (objects (k ∷ maps))) (sign Comma ∷ [])
+    ∙ ap (λ t. (tokens_in (object m) ++ sign Comma ∷ []) ++ t) (each-comma (k ∷ maps))
+  where
+    regroup : (a b c d : List Token) → (a ++ (b ++ c)) ++ d ≡ (a ++ b) ++ (c ++ d)
+    regroup a b c d = simp append_assoc
+
+pub comma-push : (maps : List Members) (m : Members) → comma_behind (maps ++ m ∷ []) ≡ sign Comma ∷ []
+comma-push [] m = refl
+comma-push (k ∷ maps) m = refl
+
+pub list-push : (maps : List Members) (m : Members) → element_tokens (objects (maps ++ m ∷ [])) ≡ (element_tokens (objects maps) ++ comma_behind maps) ++ tokens_in (object m)
+list-push [] m = append-nil (tokens_in (object m))
+list-push (k ∷ []) m = swap (tokens_in (object k)) (sign Comma ∷ []) (tokens_in (object m))
+  where
+    swap : (a b c : List Token) → a ++ (b ++ (c ++ [])) ≡ ((a ++ []) ++ b) ++ c
+    swap a b c = simp (append_assoc, append-nil)
+list-push (k ∷ l ∷ maps) m =
+    ap (λ t. tokens_in (object k) ++ (sign Comma ∷ [] ++ t)) (list-push (l ∷ maps) m)
+    ∙ regroup (tokens_in (object k)) (sign Comma ∷ []) (element_tokens (objects (l ∷ maps))) (sign Comma ∷ []) (tokens_in (object m))
+  where
+    regroup : (a b c d e : List Token) → a ++ (b ++ ((c ++ d) ++ e)) ≡ ((a ++ (b ++ c)) ++ d) ++ e
+    regroup a b c d e = simp append_assoc
+
+-- ---- a whole value at the front of tokens is the only one there
+
+-- of two fronts one is a front of the other
+fronts : {A : Type 0} (a b x y : List A) → a ++ x ≡ b ++ y → ((z : List A) × (b ≡ a ++ z) × (x ≡ z ++ y)) ⊎ ((z : List A) × (a ≡ b ++ z) × (y ≡ z ++ x))
+fronts [] b x y e = inl (b, refl, e)
+fronts (u ∷ a) [] x y e = inr (u ∷ a, refl, sym e)
+fronts (u ∷ a) (v ∷ b) x y e =
+    let same : u ≡ v = cc in
+    let tails : a ++ x ≡ b ++ y = cc in
+    elim (fronts a b x y tails) [
+      | inl h ↦ inl (h.0, ap₂ (λ p q. p ∷ q) (sym same) h.1, h.2)
+      | inr h ↦ inr (h.0, ap₂ (λ p q. p ∷ q) same h.1, h.2)
+    ]
+
+nothing-more : (a b : Syntax) (z : List Token) → tokens_in b ≡ tokens_in a ++ z → z ≡ []
+nothing-more a b [] e = refl
+nothing-more a b (u ∷ z) e =
+    absurd (begins-run (tokens_in b) (record { syntax = b; more = []; whole = append-nil (tokens_in b) })
+    (ap (run [] phase.Value) e ∙ run-append [] phase.Value (tokens_in a) (u ∷ z) ∙ ap (λ s. run_on s (u ∷ z)) (run-whole a)))
+
+pub one-value : (a b : Syntax) (x y : List Token) → tokens_in a ++ x ≡ tokens_in b ++ y → x ≡ y
+one-value a b x y e = elim (fronts (tokens_in a) (tokens_in b) x y e) [
+  | inl h ↦ h.2 ∙ ap (λ z. z ++ y) (nothing-more a b h.0 h.1)
+  | inr h ↦ sym (h.2 ∙ ap (λ z. z ++ x) (nothing-more b a h.0 h.1))
+]
+
+-- what is behind whole parts, in a stream of parts, is parts
+pub parts-behind : (parts all : List Part) (rest : List Token) → stream_tokens parts ++ rest ≡ stream_tokens all → (more : List Part) × (rest ≡ stream_tokens more)
+parts-behind [] all rest e = (all, e)
+parts-behind (one m ∷ parts) [] rest e = absurd cc
+parts-behind (list maps ∷ parts) [] rest e = absurd cc
+parts-behind (p ∷ parts) (q ∷ all) rest e =
+    parts-behind parts all rest
+    (one-value (part_value p) (part_value q) (stream_tokens parts ++ rest) (stream_tokens all)
+    (ap (λ t. t ++ (stream_tokens parts ++ rest)) (sym (part-value p)) ∙ sym (append_assoc (part_tokens p) (stream_tokens parts) rest) ∙ e
+    ∙ ap (λ t. t ++ stream_tokens all) (part-value q)))
+
+-- what may come behind a comma of a list of maps, or first in it
+abbrev pub MayCome : Token → Type 0
+MayCome t = (t ≡ sign BeginMap) ⊎ (t ≡ sign EndArray)
+
+pub list-behind : (maps all : List Members) (t : Token) (more rest : List Token) → each_map maps ++ t ∷ more ≡ element_tokens (objects all) ++ sign EndArray ∷ rest → MayCome t
+list-behind [] [] t more rest e = inr cc
+list-behind [] (n ∷ all) t more rest e = inl cc
+list-behind (m ∷ maps) [] t more rest e = absurd cc
+list-behind (m ∷ maps) (n ∷ []) t more rest e =
+    let left : sign Comma ∷ (each_map maps ++ t ∷ more) ≡ sign EndArray ∷ rest =
+    one-value (object m) (object n) (sign Comma ∷ (each_map maps ++ t ∷ more)) (sign EndArray ∷ rest)
+    (sym (join-right (tokens_in (object m)) (sign Comma ∷ []) (each_map maps) (t ∷ more)) ∙ e ∙ ap (λ x. x ++ sign EndArray ∷ rest) (append-nil (tokens_in (object n)))) in
+    absurd cc
+list-behind (m ∷ maps) (n ∷ k ∷ all) t more rest e =
+    let left : sign Comma ∷ (each_map maps ++ t ∷ more) ≡ sign Comma ∷ (element_tokens (objects (k ∷ all)) ++ sign EndArray ∷ rest) =
+    one-value (object m) (object n) (sign Comma ∷ (each_map maps ++ t ∷ more)) (sign Comma ∷ (element_tokens (objects (k ∷ all)) ++ sign EndArray ∷ rest))
+    (sym (join-right (tokens_in (object m)) (sign Comma ∷ []) (each_map maps) (t ∷ more)) ∙ e
+    ∙ append_assoc (tokens_in (object n)) (sign Comma ∷ element_tokens (objects (k ∷ all))) (sign EndArray ∷ rest)) in
+    list-behind maps (k ∷ all) t more rest cc
