@@ -1,12 +1,19 @@
 -- What is written of worked examples: each computes to the text that stands beside it.
-use Rattle.std.specs.Prelude.{◌≡◌, true, false, List, [], ◌∷◌, ◌++◌, codes, refl, pos}
+use Rattle.std.specs.Prelude.{◌≡◌, ℕ, Bool, true, false, List, [], ◌∷◌, ◌++◌, map, codes, refl, pos}
 use Rattle.bstr.specs.Utf8.{pieces_from}
+use Rattle.mlr_spec.specs.declared.json.JsonStyle.TheVariants.{Single}
+use Rattle.mlr_spec.specs.Json.{json_record}
 use Rattle.mlr_spec.specs.Tree.{string, int, empty, map_of}
 use Rattle.mlr_event.specs.declared.event.Body.{Body}
 use Rattle.mlr_event.specs.declared.event.Body.TheVariants.{Rec, Text}
 use Rattle.mlr_event.specs.declared.options.Format.{Format}
 use Rattle.mlr_event.specs.declared.options.Format.TheVariants.{Csv, Tsv, Json, Jsonl, Dkvp, Nidx, Xtab, Pprint, Markdown}
 use Rattle.writers.specs.declared.options.WriteOpts.{WriteOpts}
+use Rattle.writers.specs.declared.form.Part.TheVariants.{Keys, Values}
+use Rattle.writers.specs.Cells.{texts}
+use Rattle.writers.specs.Csv.{csv_line}
+use Rattle.writers.specs.Pprint.{block}
+use Rattle.writers.specs.Runs.{Record, all_but_last, line_end_behind, list_begun, list_of, runs_of, sheet, tables, wants_line_end, xtab_lines}
 use Rattle.writers.specs.Written.{written}
 
 abbrev opts : Format → WriteOpts
@@ -95,3 +102,52 @@ markdown = refl
 
 markdown_bar : written (opts Markdown) (Rec ((codes "a", string (codes "x|y")) ∷ []) ∷ []) true ≡ codes "| a |\n| --- |\n| x\\|y |\n"
 markdown_bar = refl
+
+-- `a=1`, `a=2`, no fields, `a=3`, `b=4`: runs, and what the laws say of them
+abbrev one : ℕ → ℕ → Record
+one key digit = (key ∷ [], string (digit ∷ [])) ∷ []
+
+abbrev records : List Record
+records = one 97 49 ∷ one 97 50 ∷ [] ∷ one 97 51 ∷ one 98 52 ∷ []
+
+runs : runs_of records ≡ (one 97 49 ∷ one 97 50 ∷ []) ∷ [] ∷ (one 97 51 ∷ []) ∷ (one 98 52 ∷ []) ∷ []
+runs = refl
+
+csv_sheet : Bool → List ℕ
+csv_sheet headerless = sheet headerless (λ r. csv_line (opts Csv) (texts Keys r)) (λ r. csv_line (opts Csv) (texts Values r)) records
+
+csv_tables : csv_sheet false ≡ codes "a\n1\n2\n\na\n3\n\nb\n4\n"
+unfolding csv_sheet
+csv_tables = refl
+
+csv_rows : csv_sheet true ≡ codes "1\n2\n3\n4\n"
+unfolding csv_sheet
+csv_rows = refl
+
+csv_written : written (opts Csv) (map Rec records) false ≡ codes "a\n1\n2\n\na\n3\n\nb\n4\n"
+csv_written = refl
+
+pprint_blocks : tables (block (opts Pprint)) (runs_of records) ≡ codes "a\n1\n2\n\na\n3\n\nb\n4\n"
+unfolding pieces_from
+pprint_blocks = refl
+
+pprint_held : tables (block (opts Pprint)) (all_but_last (runs_of records)) ≡ codes "a\n1\n2\n\na\n3\n"
+unfolding pieces_from
+pprint_held = refl
+
+xtab_tables : tables xtab_lines records ≡ codes "a 1\n\na 2\n\na 3\n\nb 4\n"
+unfolding pieces_from
+xtab_tables = refl
+
+json_list : list_of (json_record Single) (one 97 49 ∷ one 98 52 ∷ []) ≡ codes "[\n{\"a\": \"1\"},\n{\"b\": \"4\"}\n]\n"
+json_list = refl
+
+json_begun : list_begun (json_record Single) (one 97 49 ∷ one 98 52 ∷ []) ≡ codes "[\n{\"a\": \"1\"},\n{\"b\": \"4\"}"
+json_begun = refl
+
+json_none : (list_of (json_record Single) [] ≡ codes "[\n]\n") × (list_begun (json_record Single) [] ≡ [])
+json_none = (refl, refl)
+
+-- a line end is missing behind a record of a list, and a text or the end writes it
+line_ends : (line_end_behind bodies ≡ codes "\n") × (line_end_behind (bodies ++ Text [] ∷ []) ≡ []) × (wants_line_end bodies true ≡ false) × (wants_line_end [] true ≡ true)
+line_ends = (refl, refl, refl, refl)

@@ -6,4 +6,12 @@ mod Columns
 pub mod Growing
 mod Taking
 mod Widths
+mod Widening
 mod Examples
+mod Runs
+mod Wholes
+mod Tables
+mod Blocks
+mod Lines
+mod Lists
+mod Among

@@ -16,3 +16,4 @@ pub mod Joined
 pub mod Rows
 pub mod Columns
 pub mod Standing
+pub mod Runs

@@ -9,7 +9,7 @@ use Rattle.writers.specs.Run.{Run, start}
 use Rattle.writers.specs.Written.{run_behind}
 
 abbrev pub run_of : State → Run
-run_of state = record { any = state.any; mid = state.mid; keys = state.keys.items; rows = state.rows.items }
+run_of state = record { any = state.any; mid = state.mid; keys = state.keys.items; rows = state.block.rows.items }
 
 -- more may come, or the end
 abbrev pub IsOpen : Writer → Type 0

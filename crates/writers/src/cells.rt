@@ -24,8 +24,19 @@ pub(crate) fn shaped(opts: &WriteOpts, fields: Record) -> Result<Record, NoMemor
 }
 
 /// Puts the value as one text behind `out`.
-#[inline]
+#[inline(always)]
 pub(crate) fn append_cell(value: &Value, out: &mut Bytes) -> Result<(), NoMemory>
+    ensures { OnOk result (out.new ≡ out.old ++ cell_text (tree_of value.now)) }
+{
+    match held_text(value) {
+        Some(text) => out.append(text),
+        None => append_printed(value, out),
+    }
+}
+
+/// Puts a value behind `out` that doesn't hold its text.
+#[inline(never)]
+fn append_printed(value: &Value, out: &mut Bytes) -> Result<(), NoMemory>
     ensures { OnOk result (out.new ≡ out.old ++ cell_text (tree_of value.now)) }
 {
     if is_collection(value) {
@@ -36,7 +47,7 @@ pub(crate) fn append_cell(value: &Value, out: &mut Bytes) -> Result<(), NoMemory
 }
 
 /// The text of a value that holds it, so that nothing need be printed.
-#[inline]
+#[inline(always)]
 pub(crate) fn held_text(value: &Value) -> Option<&[u8]>
     ensures { IfSome result (λ text. text.now ≡ cell_text (tree_of value.now)) }
 {
@@ -49,7 +60,7 @@ pub(crate) fn held_text(value: &Value) -> Option<&[u8]>
 }
 
 /// How an int was spelled, unless it is printed in decimal.
-#[inline]
+#[inline(always)]
 fn held_spelling(int: &IntValue) -> Option<&[u8]>
     ensures { IfSome result (λ text. text.now ≡ int_text int.now) }
 {
@@ -81,16 +92,5 @@ pub(crate) fn append_part(
     match part {
         Part::Keys => out.append(key),
         Part::Values => append_cell(value, out),
-    }
-}
-
-/// The key of a field, or the text that its value holds.
-#[inline]
-pub(crate) fn held_part<'t>(part: Part, key: &'t [u8], value: &'t Value) -> Option<&'t [u8]>
-    ensures { IfSome result (λ text. text.now ≡ part_text part (key.now, tree_of value.now)) }
-{
-    match part {
-        Part::Keys => Some(key),
-        Part::Values => held_text(value),
     }
 }

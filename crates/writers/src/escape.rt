@@ -50,13 +50,14 @@ fn is_special(separator: &[u8], text: &[u8]) -> bool
     }
 }
 
-/// Whether a quote, LF, CR or the byte stands in the text. Most texts are short, so that one walk is the fastest.
+/// Whether a quote, LF, CR or the byte stands in the text. Most texts are short, so that one walk is the fastest, and
+/// most bytes are above all of these.
 #[inline]
 fn has_special_or(byte: u8, text: &[u8]) -> bool
     ensures { result ≡ list_any (λ b. wants_quotes b || b == byte) text.now }
 {
-    text.iter()
-        .any(|b| *b == b'"' || *b == b'\n' || *b == b'\r' || *b == byte)
+    let highest = byte.max(b'"');
+    text.iter().any(|b| *b <= highest && (*b == b'"' || *b == b'\n' || *b == b'\r' || *b == byte))
 }
 
 /// Whether a quote, LF or CR stands in the text.
@@ -82,9 +83,9 @@ fn holds(separator: &[u8], text: &[u8]) -> bool
 fn append_quoted(text: &[u8], out: &mut Bytes) -> Result<(), NoMemory>
     ensures { OnOk result (out.new ≡ out.old ++ quoted text.now) }
 {
-    out.append(b"\"")?;
+    out.push(b'"')?;
     append_escaped(RowStyle::Csv, text, out)?;
-    out.append(b"\"")
+    out.push(b'"')
 }
 
 /// Puts the text with its escapes behind `out`: at once, if it has none.
@@ -135,17 +136,17 @@ fn append_byte(style: RowStyle, byte: u8, out: &mut Bytes) -> Result<(), NoMemor
     match style {
         RowStyle::Csv => match byte {
             b'"' => out.append(b"\"\""),
-            _ => out.append(&[byte]),
+            _ => out.push(byte),
         },
         RowStyle::Tsv => match byte {
             b'\t' => out.append(b"\\t"),
             b'\n' => out.append(b"\\n"),
             b'\\' => out.append(b"\\\\"),
-            _ => out.append(&[byte]),
+            _ => out.push(byte),
         },
         RowStyle::Markdown => match byte {
             b'|' => out.append(b"\\|"),
-            _ => out.append(&[byte]),
+            _ => out.push(byte),
         },
     }
 }

@@ -26,7 +26,7 @@ pub(crate) fn append_line(
     ensures { OnOk result (out.new ≡ out.old ++ line_text form opts.now fields.now) }
 {
     append_fields(form, opts, opts.ofs.as_slice(), fields, scratch, out)?;
-    out.append(b"\n")
+    out.push(b'\n')
 }
 
 /// Puts all fields of the record behind `out`, with a separator between each two.
@@ -48,12 +48,28 @@ pub(crate) fn append_fields(
     Ok(())
 }
 
+/// Puts what stands between two texts behind `out`. Most often it is one byte.
+#[inline(always)]
+pub(crate) fn append_mark(mark: &[u8], out: &mut Bytes) -> Result<(), NoMemory>
+    ensures { OnOk result (out.new ≡ out.old ++ mark.now) }
+{
+    if mark.len() == 1 {
+        out.push(mark[0])
+    } else {
+        out.append(mark)
+    }
+}
+
 /// The separator, if there is a text before.
 #[inline]
 pub(crate) fn append_separator(separator: &[u8], any: bool, out: &mut Bytes) -> Result<(), NoMemory>
     ensures { OnOk result (out.new ≡ out.old ++ separated separator.now any) }
 {
-    if any { out.append(separator) } else { Ok(()) }
+    if any {
+        append_mark(separator, out)
+    } else {
+        Ok(())
+    }
 }
 
 #[inline]
@@ -81,7 +97,7 @@ fn append_pair(opts: &WriteOpts, key: &[u8], value: &Value, out: &mut Bytes) -> 
     ensures { OnOk result (out.new ≡ out.old ++ dkvp_field opts.now (key.now, tree_of value.now)) }
 {
     out.append(key)?;
-    out.append(opts.ops.as_slice())?;
+    append_mark(opts.ops.as_slice(), out)?;
     append_cell(value, out)
 }
 

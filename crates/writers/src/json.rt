@@ -28,7 +28,7 @@ pub(crate) fn append_json(
         append_record(style, opts, fields, scratch, out)?;
     } else {
         append_record(style, opts, fields, scratch, out)?;
-        out.append(b"\n")?;
+        out.push(b'\n')?;
     }
     state.any = true;
     state.mid = opts.listwrap;
@@ -50,7 +50,7 @@ fn append_lead(state: &State, out: &mut Bytes) -> Result<(), NoMemory>
 pub(crate) fn append_line_end(state: &State, out: &mut Bytes) -> Result<(), NoMemory>
     ensures { OnOk result (out.new ≡ out.old ++ line_end_missing (run_of state.now)) }
 {
-    if state.mid { out.append(b"\n") } else { Ok(()) }
+    if state.mid { out.push(b'\n') } else { Ok(()) }
 }
 
 /// Puts the end of the list behind `out`, if there is a list.

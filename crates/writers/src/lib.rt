@@ -2,6 +2,7 @@
 //! records so far is the open block of PPRINT and the line end of a record in a JSON list.
 #![tactic(auto)]
 
+mod block;
 mod cells;
 mod escape;
 mod fields;
@@ -20,6 +21,6 @@ mod width;
 mod writer;
 mod xtab;
 
-pub use laws::growth_law;
+pub use laws::{block_laws, growth_law, line_laws, list_laws, table_laws, text_laws};
 pub use options::WriteOpts;
 pub use writer::Writer;

@@ -10,7 +10,8 @@ ghost use Rattle.writers.specs.Pprint.{block, block_by, block_end, block_ended, 
 ghost use Rattle.writers.specs.Standing.{run_of};
 
 use crate::WriteOpts;
-use crate::cells::{append_part, held_part};
+use crate::block::Block;
+use crate::cells::append_part;
 use crate::fields::append_separator;
 use crate::form::Part;
 use crate::keys::{are_keys, put_keys};
@@ -35,11 +36,10 @@ pub(crate) fn append_pprint(
     ensures text { OnOk result (out.new ≡ out.old ++ pprint_record opts.now (run_of state.old) fields) }
 {
     if fields.len() == 0 {
-        return end_block(opts, state, alloc, scratch, out);
+        return end_block(opts, state, out);
     }
-    open_block(opts, state, &fields, alloc, scratch, out)?;
-    state.rows.push(fields)?;
-    Ok(())
+    open_block(opts, state, &fields, alloc, out)?;
+    state.block.push(fields, scratch)
 }
 
 /// Ends the block that is open if these aren't its keys, and makes them those of the block.
@@ -48,7 +48,6 @@ fn open_block(
     state: &mut State,
     fields: &Record,
     alloc: Global,
-    scratch: &mut Bytes,
     out: &mut Bytes,
 ) -> Result<(), NoMemory>
     ensures run { OnOk result (run_of state.new ≡ block_for (run_of state.old) fields.now) }
@@ -57,7 +56,7 @@ fn open_block(
     if are_keys(&state.keys, fields) {
         return Ok(());
     }
-    end_block(opts, state, alloc, scratch, out)?;
+    end_block(opts, state, out)?;
     put_keys(alloc, fields, &mut state.keys)
 }
 
@@ -65,40 +64,31 @@ fn open_block(
 pub(crate) fn end_block(
     opts: &WriteOpts,
     state: &mut State,
-    alloc: Global,
-    scratch: &mut Bytes,
     out: &mut Bytes,
 ) -> Result<(), NoMemory>
     ensures run { OnOk result (run_of state.new ≡ block_ended (run_of state.old)) }
     ensures text { OnOk result (out.new ≡ out.old ++ block_end opts.now (run_of state.old)) }
 {
     state.keys.clear();
-    if state.rows.is_empty() {
+    if state.block.rows.is_empty() {
         return Ok(());
     }
     if state.any {
-        out.append(b"\n")?;
+        out.push(b'\n')?;
     }
-    append_block(opts, &state.rows, alloc, scratch, out)?;
+    append_block(opts, &state.block, out)?;
     state.any = true;
-    state.rows.clear();
+    state.block.clear();
     Ok(())
 }
 
-fn append_block(
-    opts: &WriteOpts,
-    rows: &[Record],
-    alloc: Global,
-    scratch: &mut Bytes,
-    out: &mut Bytes,
-) -> Result<(), NoMemory>
-    ensures { OnOk result (out.new ≡ out.old ++ block opts.now rows.now) }
+fn append_block(opts: &WriteOpts, held: &Block, out: &mut Bytes) -> Result<(), NoMemory>
+    ensures { OnOk result (out.new ≡ out.old ++ block opts.now held.now.rows.items) }
 {
-    let Some(first) = rows.first() else {
+    let Some(first) = held.rows.first() else {
         return Ok(());
     };
-    let widths = widths_of(alloc, first, rows, scratch)?;
-    append_block_by(opts, &widths, first, rows, out)
+    append_block_by(opts, &held.widths, first, &held.rows, out)
 }
 
 fn append_block_by(
@@ -145,70 +135,6 @@ fn append_rows(
     Ok(())
 }
 
-/// The widths of the columns: for each the greatest length of its key and of its values in all rows.
-fn widths_of(
-    alloc: Global,
-    first: &Record,
-    rows: &[Record],
-    scratch: &mut Bytes,
-) -> Result<Vec<usize>, NoMemory>
-    ensures { IfOk result (λ widths. widths.items ≡ widths_of first.now rows.now) }
-{
-    let mut widths = Vec::with_capacity(alloc, first.len())?;
-    for column in 0..first.len() {
-        widths.push(column_width(first, rows, column, scratch)?)?;
-    }
-    Ok(widths)
-}
-
-fn column_width(
-    first: &Record,
-    rows: &[Record],
-    column: usize,
-    scratch: &mut Bytes,
-) -> Result<usize, NoMemory>
-    ensures { IfOk result (λ width. width ≡ column_width first.now rows.now column) }
-{
-    let mut width = length_at(Part::Keys, column, first, scratch)?;
-    for row in rows {
-        width = width.max(length_at(Part::Values, column, row, scratch)?);
-    }
-    Ok(width)
-}
-
-/// How many code points the record shows in a column.
-fn length_at(
-    part: Part,
-    column: usize,
-    fields: &Record,
-    scratch: &mut Bytes,
-) -> Result<usize, NoMemory>
-    ensures { IfOk result (λ length. length ≡ length_at part column fields.now) }
-{
-    let Some((key, value)) = fields.at(column) else {
-        return Ok(0);
-    };
-    match held_part(part, key, value) {
-        Some(text) => Ok(count_shown(text)),
-        None => {
-            scratch.clear();
-            append_shown(part, key, value, scratch)
-        }
-    }
-}
-
-/// How many code points a text shows: an empty one is a dash.
-#[inline]
-fn count_shown(text: &[u8]) -> usize
-    ensures { result ≡ code_points (shown text.now) }
-{
-    if text.len() == 0 {
-        1
-    } else {
-        count_points(text)
-    }
-}
-
 /// Puts the key or the value of a field behind `out`, or a dash if it is empty. It answers how many code points it put.
 #[inline]
 fn append_shown(part: Part, key: &[u8], value: &Value, out: &mut Bytes) -> Result<usize, NoMemory>
@@ -218,7 +144,7 @@ fn append_shown(part: Part, key: &[u8], value: &Value, out: &mut Bytes) -> Resul
     let before = out.len();
     append_part(part, key, value, out)?;
     if out.len() == before {
-        out.append(b"-")?;
+        out.push(b'-')?;
     }
     Ok(count_points(behind(out.as_slice(), before)))
 }
@@ -239,7 +165,7 @@ fn append_line(
         out.append(b" |\n")
     } else {
         append_columns(false, widths, part, fields, out)?;
-        out.append(b"\n")
+        out.push(b'\n')
     }
 }
 

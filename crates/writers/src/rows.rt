@@ -76,7 +76,7 @@ fn append_heading(
         return Ok(());
     }
     if state.any {
-        out.append(b"\n")?;
+        out.push(b'\n')?;
     }
     append_header(style, opts, fields, scratch, out)
 }
@@ -142,7 +142,7 @@ fn append_csv_line(
     if out.len() == before {
         out.append(b"\"\"")?;
     }
-    out.append(b"\n")
+    out.push(b'\n')
 }
 
 fn append_tsv_line(
@@ -156,7 +156,7 @@ fn append_tsv_line(
 {
     let form = FieldForm::Row(RowStyle::Tsv, part);
     append_fields(form, opts, opts.ofs.as_slice(), fields, scratch, out)?;
-    out.append(b"\n")
+    out.push(b'\n')
 }
 
 fn append_between_bars(

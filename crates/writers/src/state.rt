@@ -2,7 +2,7 @@ ghost use Rattle.std.specs.Prelude.{◌≡◌};
 ghost use Rattle.writers.specs.Run.{start};
 ghost use Rattle.writers.specs.Standing.{run_of};
 
-use mlr_record::Record;
+use crate::block::Block;
 use mlr_value::Bytes;
 use std::alloc::Global;
 
@@ -16,7 +16,7 @@ pub(crate) struct State {
     /// The keys of the records since the last header; none where the next record begins a run.
     pub(crate) keys: Vec<Bytes>,
     /// The records of the run that are held back.
-    pub(crate) rows: Vec<Record>,
+    pub(crate) block: Block,
 }
 
 impl State {
@@ -28,7 +28,7 @@ impl State {
             any: false,
             mid: false,
             keys: Vec::new(alloc),
-            rows: Vec::new(alloc),
+            block: Block::new(alloc),
         }
     }
 }

@@ -76,7 +76,7 @@ pub(crate) fn append_repeated(byte: u8, times: usize, out: &mut Bytes) -> Result
     ensures { OnOk result (out.new ≡ out.old ++ replicate times byte) }
 {
     for _done in 0..times {
-        out.append(&[byte])?;
+        out.push(byte)?;
     }
     Ok(())
 }
@@ -93,14 +93,17 @@ fn spaces(count: usize) -> &'static [u8]
 }
 
 /// Puts the spaces behind `out` that a text of this length wants to fill its column.
-#[inline]
+#[inline(always)]
 pub(crate) fn append_padding(length: usize, width: usize, out: &mut Bytes) -> Result<(), NoMemory>
     ensures { OnOk result (out.new ≡ out.old ++ replicate (width - length) 32) }
 {
-    let mut left = width.saturating_sub(length);
-    while left > SPACES {
-        out.append(spaces(SPACES))?;
-        left -= SPACES;
+    if width <= length {
+        return Ok(());
     }
-    out.append(spaces(left))
+    let left = width - length;
+    if left <= SPACES {
+        out.append(spaces(left))
+    } else {
+        append_repeated(b' ', left, out)
+    }
 }

@@ -132,7 +132,7 @@ impl Writer {
                     &mut self.scratch,
                     out,
                 )?;
-                out.append(b"\n")
+                out.push(b'\n')
             }
             Format::Dkvp => append_line(
                 FieldForm::Pair,
@@ -188,13 +188,7 @@ impl Writer {
     {
         match self.opts.format {
             Format::Json => append_json_end(&self.opts, &self.state, out),
-            Format::Pprint => end_block(
-                &self.opts,
-                &mut self.state,
-                self.alloc,
-                &mut self.scratch,
-                out,
-            ),
+            Format::Pprint => end_block(&self.opts, &mut self.state, out),
             _ => Ok(()),
         }
     }

@@ -24,7 +24,7 @@ pub(crate) fn append_xtab(
         return Ok(());
     }
     if state.any {
-        out.append(b"\n")?;
+        out.push(b'\n')?;
     }
     append_lines(longest_key(fields), fields, out)?;
     state.any = true;
@@ -62,7 +62,7 @@ fn append_field_line(
 {
     out.append(key)?;
     append_padding(count_points(key), width, out)?;
-    out.append(b" ")?;
+    out.push(b' ')?;
     append_cell(value, out)?;
-    out.append(b"\n")
+    out.push(b'\n')
 }

@@ -23,5 +23,5 @@ returns c =
       | then-len-before+in_ok-append w ↦ line-empty into line c.append_fields.new.out c.if-len-before.out front (sym c.len.ensures ∙ w.if-len-before.true ∙ c.len-before.ensures) (w.out-is ∙ w.in_ok-append.ensures)
       | else-len-before w ↦ w.out-is ∙ line-some into line c.append_fields.new.out front (λ e. w.if-len-before.false (c.len.ensures ∙ e ∙ sym c.len-before.ensures))
     ] in
-    last-part c.append-2.result c.append-2.new.self c.if-len-before.out (10 ∷ []) (into ++ csv_line opts (texts c.args.part r)) c.append-2.ensures
+    last-part c.push.result c.push.new.self c.if-len-before.out (10 ∷ []) (into ++ csv_line opts (texts c.args.part r)) c.push.ensures
     (ap (λ t. t ++ 10 ∷ []) whole ∙ append_assoc into (never_empty line) (10 ∷ []))

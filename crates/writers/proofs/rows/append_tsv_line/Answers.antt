@@ -13,7 +13,7 @@ returns c =
     let opts = c.args.opts.now in
     let r = c.args.fields.now in
     let line = joined opts.ofs (map (field_text (form.Row row.Tsv c.args.part) opts) r) in
-    last-part c.append.result c.append.new.self c.append_fields.new.out (10 ∷ []) (c.args.out.now ++ tsv_line opts (texts c.args.part r)) c.append.ensures
+    last-part c.push.result c.push.new.self c.append_fields.new.out (10 ∷ []) (c.args.out.now ++ tsv_line opts (texts c.args.part r)) c.push.ensures
     (ap (λ t. t ++ 10 ∷ []) (c.in_ok-append_fields.ensures ∙ ap (λ s. c.args.out.now ++ joined s (map (field_text (form.Row row.Tsv c.args.part) opts) r)) c.as_slice.ensures)
     ∙ append_assoc c.args.out.now line (10 ∷ [])
     ∙ ap (λ fields. c.args.out.now ++ (joined opts.ofs fields ++ 10 ∷ [])) (row-fields row.Tsv c.args.part opts r))

@@ -1,6 +1,6 @@
 use Rattle.std.proofs.Common.{◌∙◌}
 use Rattle.writers.proofs.Widths.{shown-none, shown-some}
-use Rattle.writers.proofs.pprint.count_shown.Goals as goal
+use Rattle.writers.proofs.block.count_shown.Goals as goal
 
 pub returns-then-text-eq0 : goal.returns-then-text-eq0
 returns-then-text-eq0 c = shown-none c.args.text.now c.if-text-eq0.true
