@@ -1,6 +1,6 @@
 -- What turns leave of texts one behind another.
 use Rattle.std.proofs.Common.{◌≡◌, ℕ, false, List, [], ◌++◌, Option, refl, ap, sym, ◌∙◌, append_assoc}
-use Rattle.std.specs.Prelude.{OnOk, Result, Ok, Err}
+use Rattle.std.specs.Prelude.{IfOk, OnOk, Result, Ok, Err}
 use Rattle.std.specs.Result.{is_err}
 use Rattle.std.proofs.lemmas.Bool.{true≢false}
 use Rattle.std.proofs.lemmas.List.{append-nil}
@@ -85,6 +85,11 @@ turn-behind (turn.Over ended) fault says text more h0 h1 h2 first second = chang
 pub on_ok_three : {T E P Q R S : Type 0} (r : Result T E) → (P → Q → R → S) → OnOk r P → OnOk r Q → OnOk r R → OnOk r S
 on_ok_three (Ok x) f p q s = f p q s
 on_ok_three (Err x) f p q s = tt
+
+-- the same of that value
+pub if_ok_three : {X Y : Type 0} (r : Result X Y) (P Q R S : X → Type 0) → ((x : X) → P x → Q x → R x → S x) → IfOk r P → IfOk r Q → IfOk r R → IfOk r S
+if_ok_three (Ok x) P Q R S f p q r = f x p q r
+if_ok_three (Err y) P Q R S f p q r = tt
 
 -- what holds of a value that is no error
 pub ok_holds : {T E P : Type 0} (r : Result T E) → is_err r ≡ false → OnOk r P → P

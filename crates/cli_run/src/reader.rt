@@ -1,19 +1,29 @@
-ghost use Rattle.std.specs.Prelude.{◌≡◌, ◌+◌, ◌<◌, ◌≤◌, ◌^◌, ◌++◌, ℕ, List, length, IfOk, OnOk};
+ghost use Rattle.std.specs.Prelude.{◌≡◌, ◌+◌, ◌<◌, ◌≤◌, ◌^◌, ◌++◌, ℕ, List, [], length, true, IfOk, OnOk};
 ghost use Rattle.mlr_event.specs.declared.event.Event.{Event};
+ghost use Rattle.mlr_event.specs.declared.options.ReadOpts.{ReadOpts};
 ghost use Rattle.mlr_lines.specs.Standing.{Adds};
+ghost use Rattle.read_csv.specs.Usable.{is_usable as csv_usable};
+ghost use Rattle.read_dkvp_nidx.specs.Usable.{is_usable as line_usable};
+ghost use Rattle.read_xtab_pprint.specs.Usable.{is_usable as block_usable};
+ghost use Rattle.read_json_lines.specs.Standing.{is_usable as json_usable};
 ghost use Rattle.cli_run.specs.Sources.{csv_fed_of, csv_read_of, line_fed_of, line_read_of, block_fed_of, block_read_of, json_fed_of, json_read_of};
 ghost use Rattle.cli_run.specs.Readers.{counted, CsvStands, LineStands, BlockStands, JsonStands};
-ghost use Rattle.cli_run.specs.Sources.{Source, nr_behind};
+ghost use Rattle.cli_run.specs.Sources.{Source, Grows, gives_by, nr_behind};
 
-use mlr_event::Events;
+use crate::laws::growth_laws;
+use mlr_event::{Ctx, Events, FileRef, ReadOpts};
 use mlr_spec::NoMemory;
 use read_csv::CsvReader;
 use read_dkvp_nidx::LineReader;
 use read_json_lines::JsonReader;
 use read_xtab_pprint::BlockReader;
+use std::alloc::Global;
 
 /// A reader of one file: its bytes come in any pieces, and the events that they fix go out.
 pub(crate) trait ByteReader {
+    /// A reader can be made with these options.
+    ghost usable: { ReadOpts → Type 0 };
+
     /// The reader was made for this source, and these bytes came so far.
     ghost stands: { Self → Source → List ℕ → Type 0 };
 
@@ -22,6 +32,14 @@ pub(crate) trait ByteReader {
 
     /// What a whole file gives.
     ghost whole: { Source → List ℕ → List Event };
+
+    /// Makes a reader of this file, of which no byte came yet.
+    fn begin(alloc: Global, opts: &ReadOpts, file: FileRef, start: Ctx) -> Result<Self, NoMemory>
+        requires usable { usable opts.now }
+        requires nr { start.nr ≤ 2 ^ 62 }
+        requires fnr { start.fnr ≤ 2 ^ 62 }
+        ensures stands { IfOk result (λ reader. stands reader (record { opts = opts.now; file = file; ctx = start }) []) }
+        ensures grows { (source : Source) → Grows (gives_by fed whole source) };
 
     /// Takes a piece of the file, and puts out what it fixes.
     fn feed(&mut self, piece: &[u8], out: &mut Events) -> Result<(), NoMemory>
@@ -38,11 +56,18 @@ pub(crate) trait ByteReader {
 }
 
 impl ByteReader for CsvReader {
+    ghost usable = { λ opts. csv_usable opts ≡ true };
+
     ghost stands = { λ reader source bytes. CsvStands reader source bytes };
 
     ghost fed = { λ source bytes. csv_fed_of source bytes };
 
     ghost whole = { λ source bytes. csv_read_of source bytes };
+
+    fn begin(alloc: Global, opts: &ReadOpts, file: FileRef, start: Ctx) -> Result<Self, NoMemory> {
+        growth_laws();
+        CsvReader::new(alloc, opts, file, start)
+    }
 
     fn feed(&mut self, piece: &[u8], out: &mut Events) -> Result<(), NoMemory> {
         CsvReader::feed(self, piece, out)
@@ -55,11 +80,18 @@ impl ByteReader for CsvReader {
 }
 
 impl ByteReader for LineReader {
+    ghost usable = { λ opts. line_usable opts ≡ true };
+
     ghost stands = { λ reader source bytes. LineStands reader source bytes };
 
     ghost fed = { λ source bytes. line_fed_of source bytes };
 
     ghost whole = { λ source bytes. line_read_of source bytes };
+
+    fn begin(alloc: Global, opts: &ReadOpts, file: FileRef, start: Ctx) -> Result<Self, NoMemory> {
+        growth_laws();
+        LineReader::new(alloc, opts, file, start)
+    }
 
     fn feed(&mut self, piece: &[u8], out: &mut Events) -> Result<(), NoMemory> {
         LineReader::feed(self, piece, out)
@@ -72,11 +104,18 @@ impl ByteReader for LineReader {
 }
 
 impl ByteReader for BlockReader {
+    ghost usable = { λ opts. block_usable opts ≡ true };
+
     ghost stands = { λ reader source bytes. BlockStands reader source bytes };
 
     ghost fed = { λ source bytes. block_fed_of source bytes };
 
     ghost whole = { λ source bytes. block_read_of source bytes };
+
+    fn begin(alloc: Global, opts: &ReadOpts, file: FileRef, start: Ctx) -> Result<Self, NoMemory> {
+        growth_laws();
+        BlockReader::new(alloc, opts, file, start)
+    }
 
     fn feed(&mut self, piece: &[u8], out: &mut Events) -> Result<(), NoMemory> {
         BlockReader::feed(self, piece, out)
@@ -89,11 +128,18 @@ impl ByteReader for BlockReader {
 }
 
 impl ByteReader for JsonReader {
+    ghost usable = { λ opts. json_usable opts ≡ true };
+
     ghost stands = { λ reader source bytes. JsonStands reader source bytes };
 
     ghost fed = { λ source bytes. json_fed_of source bytes };
 
     ghost whole = { λ source bytes. json_read_of source bytes };
+
+    fn begin(alloc: Global, opts: &ReadOpts, file: FileRef, start: Ctx) -> Result<Self, NoMemory> {
+        growth_laws();
+        JsonReader::new(alloc, opts, file, start)
+    }
 
     fn feed(&mut self, piece: &[u8], out: &mut Events) -> Result<(), NoMemory> {
         JsonReader::feed(self, piece, out)
