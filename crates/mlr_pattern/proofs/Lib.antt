@@ -1,0 +1,5 @@
+pub mod Crosses
+mod Reading
+mod Weighing
+mod Replacing
+mod Rows

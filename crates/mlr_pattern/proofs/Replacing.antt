@@ -1,0 +1,143 @@
+-- One match after another, as they are replaced.
+use Rattle.std.proofs.Common.{◌≡◌, ℕ, zero, suc, ◌+◌, ◌-◌, ◌<◌, ◌≤◌, ◌==◌, nat_lt, false, List, ◌++◌, take, drop, length, Option, None, Some, Result, Ok, Err, is_ok, OnOk, IfNone, IfSome, slice_range, if◌then◌else◌, sym, ap, ap₂, ◌∙◌, subst, arith, append_assoc, ne_eqb}
+use Rattle.std.proofs.lemmas.Bool.{cond-true, cond-false, le-ltb, lt-ltb}
+use Rattle.std.proofs.lemmas.Option.{none-some, same_Some}
+use Rattle.std.specs.Option.{unwrap_or}
+use mathlib.Core.Path.{fun_ext}
+use Rattle.regex.specs.Patterns.{Re, Match, find, find_all, span}
+use Rattle.regex.specs.Search.{Answers, next_match, matches_after}
+use Rattle.regex.specs.Writes.{group_of}
+use Rattle.regex.specs.Replace.{bytes_of, group_bytes, replaced_by}
+use Rattle.regex.specs.Bytes.{captures_span, IsCapturesOf}
+use Rattle.regex.specs.declared.bytes.captures.Captures.{Captures}
+use Rattle.regex.proofs.CapturesLemmas.{group_span-zero}
+use Rattle.regex.proofs.SearchLemmas.{leftmost_within, next_same, next_later, next_within, matches_after_none, matches_after_some, matches_after_bytes}
+use Rattle.mlr_pattern.specs.Groups.{group_text}
+use Rattle.mlr_pattern.specs.Replacing.{filled, replaced}
+
+pub on_ok : {A E : Type 0} (r : Result A E) (new a b c : List ℕ) → new ≡ (if is_ok r then a else b) → a ≡ c → OnOk r (new ≡ c)
+on_ok (Ok x) new a b c e h = e ∙ h
+on_ok (Err x) new a b c e h = tt
+
+-- what was found under one search is found under another that finds the same
+answers_as : {A : Type 0} (r : Option A) (f g : Option Match) (P Q : Match → A → Type 0) → f ≡ g →
+    ((m : Match) (x : A) → f ≡ Some m → P m x → Q m x) → Answers r f P → Answers r g Q
+answers_as None f g P Q e h found = sym e ∙ found
+answers_as (Some x) f g P Q e h found = (found.0, sym e ∙ found.1, h found.0 x found.1 found.2)
+
+module _ (re : Re) (text by : List ℕ) where
+  abbrev written : Match → List ℕ
+  written m = filled (group_bytes text m) by
+
+  abbrev gap : ℕ → Match → List ℕ
+  gap after m = slice_range text (after - 1) m.start ++ written m
+
+  -- the end of the match is known, and its text was put
+  abbrev pub Puts : List ℕ → List ℕ → ℕ → Match → ℕ → Type 0
+  Puts old new after m end = (end ≡ m.trace.end) × (new ≡ old ++ gap after m)
+
+  -- the same, where nothing was put for a match that ends before `after`
+  abbrev pub PutsLate : List ℕ → List ℕ → ℕ → Match → ℕ → Type 0
+  PutsLate old new after m end = (end ≡ m.trace.end) × (new ≡ (if nat_lt m.trace.end after then old else old ++ gap after m))
+
+  late : (old new : List ℕ) (after : ℕ) (m : Match) (end : ℕ) → after ≤ m.trace.end → PutsLate old new after m end → Puts old new after m end
+  late old new after m end h put = (put.0, put.1 ∙ cond-false _ old (old ++ gap after m) (le-ltb m.trace.end after h))
+
+  -- the first search finds no match
+  pub none_next : (after at : ℕ) (old new : List ℕ) (r : Option ℕ) → at ≡ after - 1 → r ≡ None →
+      Answers r (find re text at) (PutsLate old new after) → Answers r (next_match false re text after) (Puts old new after)
+  none_next after at old new None e is found =
+      let none = ap (find re text) (sym e) ∙ found in
+      next_same re text false after (λ m some. absurd (none-some m (sym none ∙ some))) ∙ none
+  none_next after at old new (Some x) e is found = absurd cc
+
+  -- it finds one behind the last match
+  pub some_next : (after at end : ℕ) (old new : List ℕ) (r : Option ℕ) → at ≡ after - 1 → r ≡ Some end → after ≤ end →
+      Answers r (find re text at) (PutsLate old new after) → Answers (Some end) (next_match false re text after) (Puts old new after)
+  some_next after at end old new None e is h found = absurd cc
+  some_next after at end old new (Some x) e is h found =
+      let same : x ≡ end = same_Some x end is in
+      let m = found.0 in
+      let some = ap (find re text) (sym e) ∙ found.1 in
+      let behind : after ≤ m.trace.end = omega (arith, h, same, found.2.0) in
+      let put = late old new after m x behind found.2 in (
+        m,
+        next_same re text false after (λ x' some'. subst (λ (y : Match). after ≤ y.trace.end) (same_Some m x' (sym some ∙ some')) behind) ∙ some,
+        (sym same ∙ put.0, put.1),
+      )
+
+  -- it finds an empty one at the end of the last match
+  pub skipped : (after at end : ℕ) (old new : List ℕ) (r : Option ℕ) → at ≡ after - 1 → r ≡ Some end → end < after →
+      Answers r (find re text at) (PutsLate old new after) →
+      (m : Match) × (find re text (after - 1) ≡ Some m) × (m.trace.end < after) × (new ≡ old)
+  skipped after at end old new None e is h found = absurd cc
+  skipped after at end old new (Some x) e is h found =
+      let same : x ≡ end = same_Some x end is in
+      let m = found.0 in
+      let before : m.trace.end < after = omega (arith, h, same, found.2.0) in (
+        m,
+        ap (find re text) (sym e) ∙ found.1,
+        before,
+        found.2.1 ∙ cond-true _ old (old ++ gap after m) (lt-ltb m.trace.end after before),
+      )
+
+  -- then the second search finds the next match
+  pub second_next : (after : ℕ) (old new : List ℕ) (first : Match) → find re text (after - 1) ≡ Some first → first.trace.end < after →
+      (r : Option ℕ) → Answers r (find re text after) (PutsLate old new after) →
+      Answers r (next_match false re text after) (Puts old new after)
+  second_next after old new first some h r found =
+      answers_as r _ _ _ _ (sym (next_later re text false after first some h))
+      (λ m end is put. let at = leftmost_within re text false after m is in late old new after m end (omega (arith, at.0, at.1)) put)
+      found
+
+  pub inside : (after : ℕ) (old new : List ℕ) (r : Option ℕ) → Answers r (next_match false re text after) (Puts old new after) →
+      IfSome r (λ end. (after ≤ end) × (end ≤ length text))
+  inside after old new None found = tt
+  inside after old new (Some end) found =
+      let at = next_within re text false after found.0 found.1 in (omega (arith, at.0, found.2.0), omega (arith, at.1, found.2.0))
+
+  -- the next match is the first of those that are left
+  pub step : (after end : ℕ) (old new whole : List ℕ) → Answers (Some end) (next_match false re text after) (Puts old new after) →
+      old ++ replaced_by written text (after - 1) (matches_after false re text after) ≡ whole →
+      new ++ replaced_by written text (end + 1 - 1) (matches_after false re text (end + 1)) ≡ whole
+  unfolding replaced_by
+  step after end old new whole found e =
+      let m = found.0 in
+      let back : end + 1 - 1 ≡ m.trace.end = omega (arith, found.2.0) in
+      let rest = replaced_by written text m.trace.end (matches_after false re text (m.trace.end + 1)) in
+      ap₂ (λ at more. new ++ replaced_by written text at (matches_after false re text more)) back (ap (λ n. n + 1) found.2.0)
+      ∙ ap (λ front. front ++ rest) found.2.1
+      ∙ append_assoc old (gap after m) rest
+      ∙ ap (λ ms. old ++ replaced_by written text (after - 1) ms) (sym (matches_after_some re text false after m found.1))
+      ∙ e
+
+  pub last_step : (after : ℕ) (old whole : List ℕ) → next_match false re text after ≡ None →
+      old ++ replaced_by written text (after - 1) (matches_after false re text after) ≡ whole → old ++ drop (after - 1) text ≡ whole
+  unfolding replaced_by
+  last_step after old whole none e =
+      ap (λ ms. old ++ replaced_by written text (after - 1) ms) (sym (matches_after_none re text false after none)) ∙ e
+
+  pub first_alone : (r : Option ℕ) (old new : List ℕ) → Answers r (next_match false re text 0) (Puts old new 0) → IfNone r (new ≡ old) →
+      new ++ drop (unwrap_or r 0) text ≡ old ++ replaced text by (take 1 (find_all re text))
+  unfolding replaced_by
+  first_alone None old new found none =
+      let no_match = sym (matches_after_bytes re text) ∙ matches_after_none re text false 0 found in
+      ap (λ front. front ++ text) none ∙ ap (λ ms. old ++ replaced text by (take 1 ms)) (sym no_match)
+  first_alone (Some end) old new found none =
+      let m = found.0 in
+      let matches = sym (matches_after_bytes re text) ∙ matches_after_some re text false 0 m found.1 in
+      ap₂ (λ front at. front ++ drop at text) found.2.1 found.2.0
+      ∙ append_assoc old (gap 0 m) (drop m.trace.end text)
+      ∙ ap (λ ms. old ++ replaced text by (take 1 ms)) (sym matches)
+
+-- captures are the groups of their match
+module _ (text : List ℕ) (m : Match) (found : Captures) (is : IsCapturesOf text m found) where
+  pub whole_span : captures_span found 0 ≡ Some (span m)
+  whole_span = group_span-zero false _ _ _ ∙ ap Some is.1.whole_is
+
+  span_of : (n : ℕ) → captures_span found n ≡ (if n == 0 then Some (span m) else group_of m n)
+  span_of zero = whole_span
+  span_of (suc n) = is.2 (suc n) (omega arith) ∙ sym (cond-false _ _ _ (ne_eqb (suc n) 0 (omega arith)))
+
+  pub same_groups : group_text found ≡ group_bytes text m
+  same_groups = fun_ext (λ n. ap₂ bytes_of is.0 (span_of n))

@@ -1,0 +1,5 @@
+pub mod Word
+pub mod Weight
+pub mod Reading
+pub mod Replacing
+pub mod Groups

@@ -1,0 +1,24 @@
+-- A text in which matches of a pattern are replaced.
+use Rattle.std.specs.Prelude.{ℕ, ◌-◌, ◌&&◌, ◌==◌, List, [], ◌∷◌, ◌++◌, take, if◌then◌else◌}
+use Rattle.std.specs.Char.{is_ascii_digit}
+use Rattle.regex.specs.Patterns.{Re, Match, find_all}
+use Rattle.regex.specs.Replace.{group_bytes, replaced_by}
+use Rattle.mlr_pattern.specs.declared.which.Which.{Which}
+use Rattle.mlr_pattern.specs.declared.which.Which.TheVariants.{First, All}
+
+-- what a replacement stands for: a backslash with a digit is the text of the group of this number, any other byte itself
+abbrev pub filled : (ℕ → List ℕ) → List ℕ → List ℕ
+filled group [] = []
+filled group (b ∷ []) = b ∷ []
+filled group (b ∷ d ∷ by) =
+    if (b == 92) && is_ascii_digit d then group (d - 48) ++ filled group by
+    else b ∷ filled group (d ∷ by)
+
+-- the matches that are replaced, of those that `regex` finds in a text from left to right
+abbrev pub matches_of : Which → Re → List ℕ → List Match
+matches_of First re text = take 1 (find_all re text)
+matches_of All re text = find_all re text
+
+-- The text with each of these matches replaced. Group 0 is the match, and a group that doesn't stand in it has no text.
+abbrev pub replaced : List ℕ → List ℕ → List Match → List ℕ
+replaced text by matches = replaced_by (λ m. filled (group_bytes text m) by) text 0 matches

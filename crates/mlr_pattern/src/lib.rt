@@ -1,0 +1,19 @@
+//! The patterns of verbs: how a word gives a pattern, which texts are read as one, and how its matches are replaced.
+#![tactic(auto)]
+
+mod read;
+#[cfg(test)]
+mod read_tests;
+mod replace;
+#[cfg(test)]
+mod replace_tests;
+mod weight;
+mod which;
+mod word;
+
+pub use read::{PatternFault, read_pattern};
+pub use regex::bytes::{Matcher, Regex as Pattern};
+pub use replace::{append_replaced, matches, replaced};
+pub use weight::is_heavy;
+pub use which::Which;
+pub use word::{PatternWord, pattern_word};

@@ -1,0 +1,78 @@
+ghost use Rattle.std.specs.Prelude.{◌≡◌, min, nat_le};
+ghost use Rattle.mlr_pattern.specs.Weight.{weight, factor, number_in_front};
+
+/// From this weight on a pattern may be refused for its size.
+const HEAVY: usize = 1000;
+
+/// Whether the weight of a pattern is 1,000 or more. The weight begins with the count of bytes of the text, and is
+/// multiplied by each decimal number that directly follows a `{` or a `,`; the number 0 counts as 1.
+pub fn is_heavy(text: &[u8]) -> bool
+    ensures { result ≡ nat_le 1000 (weight text.now) }
+{
+    let mut weight = text.len();
+    let mut left = text;
+    while let [byte, rest @ ..] = left {
+        if weight >= HEAVY {
+            return true;
+        }
+        weight *= factor(*byte, rest);
+        left = rest;
+    }
+    weight >= HEAVY
+}
+
+/// By what a byte multiplies the weight, in front of such a text, up to 1,000.
+fn factor(byte: u8, behind: &[u8]) -> usize
+    ensures { result ≡ min 1000 (factor byte behind.now) }
+{
+    if matches!(byte, b'{' | b',') {
+        number_in_front(behind).max(1)
+    } else {
+        1
+    }
+}
+
+/// The decimal number at the front of a text, up to 1,000.
+fn number_in_front(text: &[u8]) -> usize
+    ensures { result ≡ min 1000 (number_in_front text.now) }
+{
+    let mut number = 0;
+    let mut left = text;
+    while let [byte, rest @ ..] = left {
+        if number >= HEAVY || !byte.is_ascii_digit() {
+            break;
+        }
+        number = number * 10 + usize::from(*byte - b'0');
+        left = rest;
+    }
+    number.min(HEAVY)
+}
+
+#[cfg(test)]
+mod tests {
+    use super::*;
+
+    #[test]
+    fn heavy_patterns(rt: HostRuntime) {
+        let table: [(&[u8], bool); 13] = [
+            (b"", false),
+            (b"abc", false),
+            (b"a{1000}", true),
+            (b"a{166}", false),
+            (b"a{167}", true),
+            (b"a{0}{0}{0}", false),
+            (b"a{2,50}", false),
+            (b"a{2,80}", true),
+            (b"a{,99}", false),
+            (b"a{,200}", true),
+            (b"a 1000", false),
+            (b"a{99999999999999999999999999}", true),
+            (b"a{x1000}", false),
+        ];
+        for (i, row) in table.iter().enumerate() {
+            let (text, heavy) = *row;
+            assert_eq!(rt; is_heavy(text), heavy, "at {i}");
+        }
+        assert!(rt; is_heavy(&[b'a'; 1000]) && !is_heavy(&[b'a'; 999]));
+    }
+}

@@ -1,0 +1,63 @@
+ghost use Rattle.std.specs.Prelude.{◌≡◌};
+ghost use Rattle.mlr_pattern.specs.Word.{shed, is_either_case};
+
+/// A pattern as a word of a command line gives it.
+#[derive(Clone, Copy, Debug, PartialEq, Eq)]
+pub struct PatternWord<'a> {
+    /// The text of the pattern, without the quotes of the word.
+    pub text: &'a [u8],
+    /// Whether letters match in either case.
+    pub either_case: bool,
+}
+
+/// A word in double quotes sheds them, and after `"..."i` either case matches. Any other word is the text itself.
+pub fn pattern_word(word: &[u8]) -> PatternWord<'_>
+    ensures text { result.text.now ≡ shed word.now }
+    ensures either_case { result.either_case ≡ is_either_case word.now }
+{
+    match word {
+        [b'"', text @ .., b'"'] => PatternWord {
+            text,
+            either_case: false,
+        },
+        [b'"', text @ .., b'"', b'i'] => PatternWord {
+            text,
+            either_case: true,
+        },
+        _ => PatternWord {
+            text: word,
+            either_case: false,
+        },
+    }
+}
+
+#[cfg(test)]
+mod tests {
+    use super::*;
+
+    #[test]
+    fn words_shed_their_quotes(rt: HostRuntime) {
+        let table: [(&[u8], &[u8], bool); 14] = [
+            (b"abc", b"abc", false),
+            (b"\"abc\"", b"abc", false),
+            (b"\"abc\"i", b"abc", true),
+            (b"\"\"", b"", false),
+            (b"\"\"i", b"", true),
+            (b"\"", b"\"", false),
+            (b"\"i", b"\"i", false),
+            (b"", b"", false),
+            (b"i", b"i", false),
+            (b"abci", b"abci", false),
+            (b"\"abc", b"\"abc", false),
+            (b"abc\"i", b"abc\"i", false),
+            (b"\"abc\"I", b"\"abc\"I", false),
+            (b"\"a\"b\"i", b"a\"b", true),
+        ];
+        for (i, row) in table.iter().enumerate() {
+            let (word, text, either_case) = *row;
+            let found = pattern_word(word);
+            assert_eq!(rt; found.text, text, "at {i}");
+            assert_eq!(rt; found.either_case, either_case, "at {i}");
+        }
+    }
+}
