@@ -1,7 +1,7 @@
 ghost use Rattle.std.specs.Prelude.{◌≡◌, ◌+◌, ◌<◌, ◌≤◌, ◌^◌, ◌++◌, ℕ, List, [], length, true, IfOk, OnOk};
 ghost use Rattle.mlr_event.specs.declared.event.Event.{Event};
 ghost use Rattle.mlr_event.specs.declared.options.ReadOpts.{ReadOpts};
-ghost use Rattle.mlr_lines.specs.Standing.{Adds};
+ghost use Rattle.mlr_event.specs.Adding.{Adds};
 ghost use Rattle.read_csv.specs.Usable.{is_usable as csv_usable};
 ghost use Rattle.read_dkvp_nidx.specs.Usable.{is_usable as line_usable};
 ghost use Rattle.read_xtab_pprint.specs.Usable.{is_usable as block_usable};

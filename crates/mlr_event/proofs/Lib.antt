@@ -2,3 +2,5 @@ pub mod Distinct
 pub mod Putting
 pub mod Streams
 pub mod Naming
+pub mod Making
+mod Tac

@@ -1,3 +1,6 @@
 pub mod Reading
 pub mod Rows
 pub mod Stream
+pub mod Adding
+pub mod Verb
+pub mod Models

@@ -1,6 +1,6 @@
 -- What a file gives, in whatever format: comments, records and a fault; their numbers, and the names of fields.
 use Rattle.std.specs.Prelude.{ℕ, ◌+◌, Bool, true, false, not, if◌then◌else◌, List, [], ◌∷◌, ◌++◌, length, Option, Some, None}
-use Rattle.std.specs.List.{list_any, find, range_with_len}
+use Rattle.std.specs.List.{list_any, find, range_with_len, zip}
 use Rattle.std.specs.Str.{bytes_eq}
 use Rattle.std.specs.Fmt.{decimal}
 use Rattle.mlr_spec.specs.Tree.{Tree}
@@ -71,13 +71,7 @@ distinct_behind before (name ∷ names) = free_name before name ∷ distinct_beh
 abbrev pub distinct_names : List (List ℕ) → List (List ℕ)
 distinct_names names = distinct_behind [] names
 
--- names and values side by side, as far as both go
-abbrev pub paired : {V : Type 0} → List (List ℕ) → List V → List (List ℕ × V)
-paired [] values = []
-paired (name ∷ names) [] = []
-paired (name ∷ names) (value ∷ values) = (name, value) ∷ paired names values
-
 -- the record of these names and values: names that repeat are made distinct, or the last value stands at the first place
 abbrev pub record_of : Bool → List (List ℕ) → List Tree → List (List ℕ × Tree)
-record_of true names values = paired (distinct_names names) values
-record_of false names values = put_each [] (paired names values)
+record_of true names values = zip (distinct_names names) values
+record_of false names values = put_each [] (zip names values)

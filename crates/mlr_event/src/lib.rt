@@ -5,16 +5,25 @@
 mod event;
 mod events;
 mod fault;
+mod field_names;
 mod header;
+mod laws;
+pub mod models;
 mod names;
 mod options;
 pub mod rows;
 #[cfg(test)]
 mod rows_tests;
+mod step;
+#[cfg(test)]
+mod step_tests;
 
 pub use event::{Body, Ctx, Event, Piece};
 pub use events::Events;
 pub use fault::Fault;
+pub use field_names::Names;
 pub use header::Header;
+pub use laws::verb_laws;
 pub use names::{FileRef, InputName, Mode, StyleId, Target};
 pub use options::{Comments, Format, ReadOpts};
+pub use step::Step;

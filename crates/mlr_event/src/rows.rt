@@ -56,7 +56,7 @@ pub fn push_comment(
 }
 
 /// Names that are taken.
-pub trait Names {
+pub trait TakenNames {
     /// The names, in order.
     ghost names: { Self → List (List ℕ) };
 
@@ -69,7 +69,7 @@ pub trait Names {
         ensures { result ≡ is_among (names self.now) name.now };
 }
 
-impl Names for Record {
+impl TakenNames for Record {
     ghost names = { keys_of };
 
     fn count(&self) -> usize {
@@ -81,7 +81,7 @@ impl Names for Record {
     }
 }
 
-impl Names for Vec<Bytes> {
+impl TakenNames for Vec<Bytes> {
     ghost names = { λ names. names.items };
 
     fn count(&self) -> usize {
@@ -104,7 +104,7 @@ fn suffixed(alloc: Global, name: &[u8], number: usize) -> Result<Bytes, NoMemory
 }
 
 /// The name as it is free: a name that is taken gets the least suffix from 2 up that makes a free one.
-pub fn free_name<N: Names>(alloc: Global, names: &N, name: &[u8]) -> Result<Bytes, NoMemory>
+pub fn free_name<N: TakenNames>(alloc: Global, names: &N, name: &[u8]) -> Result<Bytes, NoMemory>
     requires { length (N.names names.now) < 2 ^ 63 }
     ensures { IfOk result (λ free. free ≡ free_name (N.names names.now) name.now) }
 {

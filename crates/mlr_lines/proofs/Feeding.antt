@@ -7,7 +7,8 @@ use Rattle.mlr_event.specs.declared.event.Event.{Event}
 use Rattle.mlr_lines.specs.declared.lines.Lines.{Lines}
 use Rattle.mlr_lines.specs.Lines.{without_mark, ended_lines, begun_line, ended_behind, begun_behind}
 use Rattle.mlr_lines.specs.Steps.{are_none, unmarked_line, unmarked_lines}
-use Rattle.mlr_lines.specs.Standing.{Adds, Stands, Takes, behind, given}
+use Rattle.mlr_event.specs.Adding.{Adds}
+use Rattle.mlr_lines.specs.Standing.{Stands, Takes, behind, given}
 use Rattle.mlr_lines.proofs.Cutting.{ended_lines-append, begun-append, first-append, begun_line-is}
 
 module _ {F : Type 0} (after : F → List ℕ → F) (gives : F → List ℕ → List Event) where

@@ -7,10 +7,6 @@ use Rattle.mlr_lines.specs.declared.stage.Stage.TheVariants.{Open, Ended, Broken
 use Rattle.mlr_lines.specs.Lines.{ended_lines, begun_line, ended_behind, begun_behind}
 use Rattle.mlr_lines.specs.Steps.{are_none, unmarked_lines}
 
--- what a list has more than an earlier one is what was put behind another list
-abbrev pub Adds : List Event → List Event → List Event → List Event → Type 0
-Adds old new before after = (more : List Event) × (after ≡ before ++ more) × (new ≡ old ++ more)
-
 module _ {F : Type 0} where
   -- more bytes may come, or the end
   abbrev pub IsOpen : Lines F → Type 0

@@ -1,7 +1,8 @@
 ghost use Rattle.std.specs.Prelude.{◌≡◌, ◌↔◌, ◌+◌, ◌^◌, ◌<◌, ◌≤◌, ℕ, List, [], ◌++◌, false, length, IsTrue, OnOk, OnErr};
 ghost use Rattle.mlr_lines.specs.Lines.{ended_lines, begun_line};
 ghost use Rattle.mlr_lines.specs.Steps.{unmarked_line};
-ghost use Rattle.mlr_lines.specs.Standing.{Adds, CanTake, IsBroken, IsEnded, IsOpen, Stands, StandsAtEnd, Takes, behind, given};
+ghost use Rattle.mlr_event.specs.Adding.{Adds};
+ghost use Rattle.mlr_lines.specs.Standing.{CanTake, IsBroken, IsEnded, IsOpen, Stands, StandsAtEnd, Takes, behind, given};
 
 use crate::LineFormat;
 use crate::cut::{first_line, unmarked};

@@ -4,4 +4,5 @@ mod Finding
 mod Named
 mod Children
 mod Unflattening
+mod NamedPaths
 mod RoundTrip

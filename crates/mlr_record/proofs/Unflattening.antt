@@ -9,7 +9,7 @@ use Rattle.std.proofs.lemmas.Bool.{cases_Bool, or_parts, true≢false}
 use Rattle.mlr_spec.specs.Tree.{Tree, absent, empty, string, int, fraction, wide, boolean, mapping, array, error, fields_of, map_of, array_of}
 use Rattle.mlr_spec.specs.Pairs.{keys_of, are_distinct, value_at, put_at, put_each}
 use Rattle.mlr_spec.specs.Split.{place_in}
-use Rattle.mlr_spec.specs.Flatten.{Node, leaf, made, node_and, leaves_in, change_child, put_path, put_in, path_of, with_collection, are_positions_from, finished, finished_pairs, put_paths, unflat}
+use Rattle.mlr_spec.specs.Flatten.{Node, Nodes, leaf, made, node_and, leaves_in, change_child, put_path, put_in, path_of, with_collection, are_positions_from, finished, finished_pairs, put_paths, unflat}
 use Rattle.mlr_spec.proofs.Pairs.{put_at-none}
 use Rattle.mlr_spec.proofs.Splitting.{cases_Option, split_by-none}
 use Rattle.mlr_spec.proofs.Flattening.{put_each-distinct, drop-more, absent-before}
@@ -48,7 +48,11 @@ put_at-ends name value (p ∷ pairs) =
       | inr other ↦ rw other (ap (λ x. (p.0, leaf p.1) ∷ x) (put_at-ends name value pairs))
     ]
 
-finished-ends : (pairs : List (List ℕ × Tree)) → finished_pairs (nodes_of (ends pairs)) ≡ pairs
+-- a value put under a name among values
+pub put_in-ends : (name : List ℕ) (value : Tree) (pairs : List (List ℕ × Tree)) → put_in (name ∷ []) value (nodes_of (ends pairs)) ≡ nodes_of (ends (put_at name value pairs))
+put_in-ends name value pairs = change_child-put name (put_path [] value) (ends pairs) ∙ ap nodes_of (put_at-ends name value pairs)
+
+pub finished-ends : (pairs : List (List ℕ × Tree)) → finished_pairs (nodes_of (ends pairs)) ≡ pairs
 finished-ends [] = refl
 finished-ends (p ∷ pairs) = ap (λ x. p ∷ x) (finished-ends pairs)
 
@@ -86,14 +90,17 @@ module _ (separator : List ℕ) where
         | inr found ↦ absurd (true≢false (sym (ap is_some found.1) ∙ plain))
       ]
 
+  -- a field that unflattening doesn't change is put under its whole name
+  pub put_in-plain : (p : List ℕ × Tree) (nodes : Nodes) → is_unflattened separator p ≡ false → put_in (path_of separator p.0) (with_collection p.1) nodes ≡ put_in (p.0 ∷ []) p.1 nodes
+  put_in-plain p nodes plain =
+      let here = or_parts (is_some (place_in separator p.0)) (stands_for_collection p.1) plain in
+      ap₂ (λ path value. put_in path value nodes) (path_of-plain p.0 here.0) (with_collection-plain p.1 here.1)
+
   put_paths-plain : (front pairs : List (List ℕ × Tree)) → list_any (is_unflattened separator) pairs ≡ false → put_paths separator (nodes_of (ends front)) pairs ≡ nodes_of (ends (put_each front pairs))
   put_paths-plain front [] plain = refl
   put_paths-plain front (p ∷ pairs) plain =
       let parts = or_parts (is_unflattened separator p) (list_any (is_unflattened separator) pairs) plain in
-      let here = or_parts (is_some (place_in separator p.0)) (stands_for_collection p.1) parts.0 in
-      let put : put_in (path_of separator p.0) (with_collection p.1) (nodes_of (ends front)) ≡ nodes_of (ends (put_at p.0 p.1 front)) =
-      ap₂ (λ path value. put_in path value (nodes_of (ends front))) (path_of-plain p.0 here.0) (with_collection-plain p.1 here.1)
-      ∙ change_child-put p.0 (put_path [] p.1) (ends front) ∙ ap nodes_of (put_at-ends p.0 p.1 front) in
+      let put = put_in-plain p (nodes_of (ends front)) parts.0 ∙ put_in-ends p.0 p.1 front in
       ap (λ nodes. put_paths separator nodes pairs) put ∙ put_paths-plain (put_at p.0 p.1 front) pairs parts.1
 
   -- a record whose names spell no paths, and without the texts of empty collections

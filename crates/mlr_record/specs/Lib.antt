@@ -5,4 +5,5 @@ pub mod NodeView
 pub mod NodesFall
 pub mod Children
 pub mod Paths
+pub mod NamedPaths
 pub mod Leaves

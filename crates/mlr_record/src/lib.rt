@@ -11,4 +11,4 @@ pub mod split;
 mod unflatten;
 
 pub use laws::flattened_again;
-pub use record::Record;
+pub use record::{Field, Record};

@@ -1,6 +1,7 @@
-ghost use Rattle.std.specs.Prelude.{◌≡◌, ◌<◌, ◌++◌, ◌∷◌, true, [], length, if◌then◌else◌, is_ok, IfOk, OnOk, map, slice_get, is_some, vec_len, slice_index_or, remove};
+ghost use Rattle.std.specs.Prelude.{◌≡◌, ◌<◌, ◌++◌, ◌∷◌, true, ℕ, List, [], length, set, if◌then◌else◌, is_ok, IfOk, OnOk, map, slice_get, is_some, vec_len, slice_index_or, remove};
 ghost use Rattle.std.specs.List.{zip};
 ghost use Rattle.std.specs.Option.{option_map};
+ghost use Rattle.mlr_spec.specs.Tree.{Tree};
 ghost use Rattle.mlr_spec.specs.Pairs.{value_at, put_at, remove_at, place_at, rename_at, keys_of, are_distinct};
 ghost use Rattle.mlr_value.specs.Value.{tree_of};
 ghost use Rattle.mlr_record.specs.declared.record.Field.{Field};
@@ -10,12 +11,13 @@ use mlr_spec::NoMemory;
 use mlr_value::{Bytes, Value};
 use std::alloc::Global;
 use std::marker::Model;
+use std::mem::replace;
 
 /// A name and its value.
 #[derive(Drop)]
 pub struct Field {
-    name: Bytes,
-    value: Value,
+    pub name: Bytes,
+    pub value: Value,
 }
 
 /// A record: fields in order, no two of one name. A search goes over the fields, since records are short.
@@ -131,6 +133,31 @@ impl Record {
         let mut fields = Vec::with_capacity(alloc, names.len())?;
         put_values(alloc, names, values, &mut fields)?;
         Ok(Record { alloc, fields })
+    }
+
+    /// A record of these fields, of which no two have one name. It takes no memory and makes no search.
+    pub fn of_fields(alloc: Global, fields: Vec<Field>) -> Self
+        requires { are_distinct (keys_of (pairs_of fields.items)) ≡ true }
+        ensures { result ≡ pairs_of fields.items }
+    {
+        Record { alloc, fields }
+    }
+
+    /// The fields, as a vector. It takes no memory.
+    pub fn into_fields(self) -> Vec<Field>
+        ensures fields { pairs_of result.items ≡ self }
+        ensures distinct { are_distinct (keys_of self) ≡ true }
+    {
+        self.fields
+    }
+
+    /// Gives the field at this place another value, and answers the one that it had. It takes no memory.
+    pub fn replace(&mut self, place: usize, value: Value) -> Value
+        requires { place < length self.old }
+        ensures had { (pair : List ℕ × Tree) → tree_of result ≡ (slice_index_or self.old place pair).1 }
+        ensures new { (pair : List ℕ × Tree) → self.new ≡ set self.old place ((slice_index_or self.old place pair).0, tree_of value) }
+    {
+        replace(&mut self.fields[place].value, value)
     }
 
     /// A copy, which takes the room of the list at once.

@@ -19,6 +19,15 @@ fn record_of(alloc: Global, pairs: &[(&str, &str)]) -> Result<Record, NoMemory> 
     Ok(record)
 }
 
+/// These names.
+fn names(alloc: Global, of: &[&str]) -> Result<Vec<Bytes>, NoMemory> {
+    let mut names = Vec::new(alloc);
+    for name in of {
+        names.push(Bytes::copy_of(alloc, name.as_bytes())?)?;
+    }
+    Ok(names)
+}
+
 /// The fields in their order, as `a=1,b=2,`.
 fn shown(alloc: Global, record: &Record) -> Result<Bytes, NoMemory> {
     let mut text = Bytes::new(alloc);
@@ -246,6 +255,108 @@ fn a_long_path_is_left(rt: HostRuntime) -> Result<(), Fail> {
     Ok(())
 }
 
+/// The names of the fields that are taken, and the record `a.b=1,c.d=2,a.e=3,c=4,z.1=5` after it was unflattened with
+/// them at `.` and then flattened with `:`.
+const NAMED: [(&[&str], &str); 8] = [
+    (&["a"], "a:b=1,a:e=3,c.d=2,c=4,z.1=5,"),
+    (&["c"], "a.b=1,c=4,a.e=3,z.1=5,"),
+    (&["z", "a"], "a:b=1,a:e=3,c.d=2,c=4,z:1=5,"),
+    (&["z", "z"], "a.b=1,c.d=2,a.e=3,c=4,z:1=5,"),
+    (&["a.b", "b", "", "a."], "a.b=1,c.d=2,a.e=3,c=4,z.1=5,"),
+    (&["A", "y"], "a.b=1,c.d=2,a.e=3,c=4,z.1=5,"),
+    (&[], "a.b=1,c.d=2,a.e=3,c=4,z.1=5,"),
+    (&["a", "c", "z"], "a:b=1,a:e=3,c=4,z:1=5,"),
+];
+
+#[test]
+fn named_paths_are_unflattened(rt: HostRuntime) -> Result<(), Fail> {
+    let alloc = rt.alloc();
+    for (given, left) in &NAMED {
+        let mut record = record_of(
+            alloc,
+            &[
+                ("a.b", "1"),
+                ("c.d", "2"),
+                ("a.e", "3"),
+                ("c", "4"),
+                ("z.1", "5"),
+            ],
+        )?;
+        record.unflatten_named(b".", names(alloc, given)?.as_slice())?;
+        record.flatten(b":")?;
+        assert_eq!(rt; shown(alloc, &record)?.as_slice(), left.as_bytes());
+    }
+    Ok(())
+}
+
+#[test]
+fn named_values_are_replaced_by_maps(rt: HostRuntime) -> Result<(), Fail> {
+    let alloc = rt.alloc();
+    let mut record = record_of(
+        alloc,
+        &[
+            ("a", "1"),
+            ("c", "2"),
+            ("a::b", "3"),
+            ("c::d", "4"),
+            ("a::", "5"),
+            ("::a", "6"),
+        ],
+    )?;
+    record.unflatten_named(b"::", names(alloc, &["a", ""])?.as_slice())?;
+    record.flatten(b".")?;
+    assert_eq!(rt;
+        shown(alloc, &record)?.as_slice(),
+        b"a.b=3,a.=5,c=2,c::d=4,.a=6,".as_slice()
+    );
+    Ok(())
+}
+
+#[test]
+fn named_texts_become_collections(rt: HostRuntime) -> Result<(), Fail> {
+    let alloc = rt.alloc();
+    let mut record = record_of(
+        alloc,
+        &[
+            ("a", "{}"),
+            ("b", "{}"),
+            ("c", "[]"),
+            ("d", "[]"),
+            ("d.1", "[]"),
+            ("e.1", "{}"),
+        ],
+    )?;
+    record.unflatten_named(b".", names(alloc, &["e", "a", "c"])?.as_slice())?;
+    assert_eq!(rt; record.len(), 6);
+    assert!(rt; matches!(record.get(b"a"), Some(Value::Map(map)) if map.len() == 0));
+    assert!(rt; matches!(record.get(b"b"), Some(Value::Str(_))));
+    assert!(rt; matches!(record.get(b"c"), Some(Value::Array(array)) if array.len() == 0));
+    assert!(rt; matches!(record.get(b"d"), Some(Value::Str(_))));
+    assert!(rt; matches!(record.get(b"d.1"), Some(Value::Str(_))));
+    assert!(rt; matches!(record.get(b"e"), Some(Value::Array(array)) if array.len() == 1));
+    Ok(())
+}
+
+#[test]
+fn a_long_named_path_is_left(rt: HostRuntime) -> Result<(), Fail> {
+    let alloc = rt.alloc();
+    let mut name = Bytes::new(alloc);
+    for _ in 0..199 {
+        name.append(b"a.")?;
+    }
+    let mut record = Record::new(alloc)?;
+    record.put(name.as_slice(), Value::Empty)?;
+    name.append(b"a.")?;
+    record.put(name.as_slice(), text_value(alloc, "{}")?)?;
+    record.unflatten_named(b".", names(alloc, &["a"])?.as_slice())?;
+    assert_eq!(rt; record.len(), 2);
+    assert_eq!(rt; record.entry(0).0, b"a".as_slice());
+    assert!(rt; matches!(record.entry(0).1, Value::Map(_)));
+    assert_eq!(rt; record.entry(1).0, name.as_slice());
+    assert!(rt; matches!(record.entry(1).1, Value::Map(map) if map.len() == 0));
+    Ok(())
+}
+
 #[test]
 fn a_record_is_copied(rt: HostRuntime) -> Result<(), Fail> {
     let alloc = rt.alloc();
@@ -253,5 +364,23 @@ fn a_record_is_copied(rt: HostRuntime) -> Result<(), Fail> {
     let copy = record.copy()?;
     record.remove(b"b");
     assert_eq!(rt; shown(alloc, &copy)?.as_slice(), b"a=1,b=2,".as_slice());
+    Ok(())
+}
+
+#[test]
+fn fields_taken_out_and_put_back(rt: HostRuntime) -> Result<(), Fail> {
+    let alloc = rt.alloc();
+    let mut record = record_of(alloc, &[("a", "1"), ("b", "2"), ("c", "3")])?;
+    if record.len() == 3 {
+        let had = record.replace(1, Value::Empty);
+        assert!(rt; matches!(had, Value::Str(_)));
+    }
+    let fields = record.into_fields();
+    assert_eq!(rt; fields.len(), 3);
+    let record = Record::of_fields(alloc, fields);
+    assert_eq!(rt;
+        shown(alloc, &record)?.as_slice(),
+        b"a=1,b=,c=3,".as_slice()
+    );
     Ok(())
 }

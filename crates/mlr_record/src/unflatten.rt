@@ -11,13 +11,14 @@ ghost use Rattle.mlr_record.specs.Nodes.{nodes_of};
 ghost use Rattle.mlr_record.specs.NodeView.{node_of, tree_at_end};
 ghost use Rattle.mlr_record.specs.Parts.{parts_of_rest};
 ghost use Rattle.mlr_record.specs.Paths.{ends, is_unflattened, stands_for_collection, is_array};
+ghost use Rattle.mlr_record.specs.NamedPaths.{is_named, put_if_named, put_named, unflat_named, is_unflattened_named};
 
 use crate::Record;
 use crate::node::{Leaf, Node, Nodes};
 use crate::split::{count_parts, next_part, separator_place};
 use itoa::Buffer;
 use mlr_spec::NoMemory;
-use mlr_value::{ArrayValue, MapValue, Value};
+use mlr_value::{ArrayValue, Bytes, MapValue, Value};
 use std::alloc::Global;
 
 /// How many names a path may have. A name that spells a longer one is left as it is.
@@ -36,6 +37,19 @@ impl Record {
         }
         Ok(())
     }
+
+    /// Does the same to the named fields alone: those of which the part before the first separator, or the whole name
+    /// where there is none, is among the names. Any other field stays as it is in its place, with the text `{}` or `[]`
+    /// too. A record in which no field changes is left as it is without memory.
+    pub fn unflatten_named(&mut self, separator: &[u8], names: &[Bytes]) -> Result<(), NoMemory>
+        requires { 0 < length separator.now }
+        ensures { self.new ≡ (if is_ok result then unflat_named separator.now names.now self.old else self.old) }
+    {
+        if has_named_path(self, separator, names) {
+            *self = unflattened_named(self, separator, names)?;
+        }
+        Ok(())
+    }
 }
 
 /// Whether there is a field that unflattening changes.
@@ -51,6 +65,38 @@ fn has_path(from: &Record, separator: &[u8]) -> bool
         }
     }
     false
+}
+
+/// Whether there is a named field that unflattening changes.
+fn has_named_path(from: &Record, separator: &[u8], names: &[Bytes]) -> bool
+    requires { 0 < length separator.now }
+    ensures found { result ≡ list_any (is_unflattened_named separator.now names.now) from.now }
+    ensures distinct { are_distinct (keys_of from.now) ≡ true }
+{
+    for place in 0..from.len() {
+        let (name, value) = from.entry(place);
+        if is_named_path(name, value, separator, names) {
+            return true;
+        }
+    }
+    false
+}
+
+/// Whether this field is named and unflattening changes it.
+fn is_named_path(name: &[u8], value: &Value, separator: &[u8], names: &[Bytes]) -> bool
+    requires { 0 < length separator.now }
+    ensures { result ≡ is_unflattened_named separator.now names.now (name.now, tree_of value.now) }
+{
+    is_path(name, value, separator) && is_named(name, separator, names)
+}
+
+/// Whether the first part of a name is among the names.
+fn is_named(name: &[u8], separator: &[u8], names: &[Bytes]) -> bool
+    requires { 0 < length separator.now }
+    ensures { result ≡ is_named separator.now names.now name.now }
+{
+    let (first, _) = next_part(separator, name);
+    names.iter().any(|other| first == other.as_slice())
 }
 
 /// Whether unflattening changes this field.
@@ -114,6 +160,57 @@ fn put_fields<'a>(
         put_field(name, value, separator, into, alloc)?;
     }
     Ok(())
+}
+
+/// The same of the named fields, the others as they are.
+fn unflattened_named(from: &Record, separator: &[u8], names: &[Bytes]) -> Result<Record, NoMemory>
+    requires { 0 < length separator.now }
+    ensures { IfOk result (λ made. made ≡ unflat_named separator.now names.now from.now) }
+{
+    let alloc = from.allocator();
+    let mut nodes = Nodes::new(alloc);
+    put_named_fields(from, separator, names, &mut nodes, alloc)?;
+    let mut into = Record::new(alloc)?;
+    finish_fields(&nodes, &mut into, alloc)?;
+    Ok(into)
+}
+
+/// Puts the values of the named fields at their paths, and the others under their names.
+fn put_named_fields<'a>(
+    from: &'a Record,
+    separator: &[u8],
+    names: &[Bytes],
+    into: &mut Nodes<'a>,
+    alloc: Global,
+) -> Result<(), NoMemory>
+    requires separator { 0 < length separator.now }
+    requires empty { into.old ≡ [] }
+    ensures { OnOk result (nodes_of into.new ≡ put_named separator.now names.now no_nodes from.now) }
+{
+    for place in 0..from.len() {
+        let (name, value) = from.entry(place);
+        put_if_named(name, value, separator, names, into, alloc)?;
+    }
+    Ok(())
+}
+
+/// Puts the value of a field at the path that the name spells if it is named, else under the name.
+fn put_if_named<'a>(
+    name: &'a [u8],
+    value: &'a Value,
+    separator: &[u8],
+    names: &[Bytes],
+    into: &mut Nodes<'a>,
+    alloc: Global,
+) -> Result<(), NoMemory>
+    requires { 0 < length separator.now }
+    ensures { OnOk result (nodes_of into.new ≡ put_if_named separator.now names.now (name.now, tree_of value.now) (nodes_of into.old)) }
+{
+    if is_named(name, separator, names) {
+        put_field(name, value, separator, into, alloc)
+    } else {
+        put_child(name, None, Leaf::Stands(value), separator, into, alloc)
+    }
 }
 
 /// Puts the value of a field at the path that the name spells.

@@ -1,6 +1,6 @@
 -- Records made of a header and values.
-use Rattle.std.proofs.Common.{◌≡◌, ℕ, zero, suc, ◌+◌, ◌-◌, ◌^◌, ◌<◌, ◌≤◌, Bool, true, false, ◌||◌, List, [], ◌∷◌, ◌++◌, map, length, get_or, take, drop, None, refl, ap, ap₂, sym, ◌∙◌, append_assoc, arith, inl, inr, add-one, length-take, length-append}
-use Rattle.std.proofs.lemmas.List.{append-nil, take_more}
+use Rattle.std.proofs.Common.{◌≡◌, ℕ, zero, suc, ◌+◌, ◌-◌, ◌^◌, ◌<◌, ◌≤◌, Bool, true, false, ◌||◌, List, [], ◌∷◌, ◌++◌, map, length, get_or, take, drop, None, refl, ap, ap₂, sym, ◌∙◌, append_assoc, arith, inl, inr, add-one, length-take, length-append, take_all}
+use Rattle.std.proofs.lemmas.List.{append-nil, take_more, drop_all}
 use Rattle.std.specs.Fmt.{decimal}
 use Rattle.std.specs.List.{zip}
 use Rattle.std.proofs.lemmas.List.{take-append-drop}
@@ -9,7 +9,7 @@ use Rattle.std.specs.Str.{bytes_eq}
 use Rattle.mlr_spec.specs.Pairs.{are_distinct, value_at, put_at, keys_of}
 use Rattle.mlr_spec.specs.Tree.{Tree}
 use Rattle.mlr_spec.proofs.Flattening.{put_each-distinct}
-use Rattle.mlr_event.specs.Reading.{is_among, free_name, distinct_behind, distinct_names, paired, record_of}
+use Rattle.mlr_event.specs.Reading.{is_among, free_name, distinct_behind, distinct_names, record_of}
 use Rattle.mlr_event.specs.Rows.{with_field, with_fields}
 use Rattle.mlr_event.proofs.Distinct.{are_distinct-names, free_name-free, length-distinct}
 use Rattle.mlr_event.proofs.Putting.{with_fields-more, with_fields-none, value_at-free, record_of-is}
@@ -31,7 +31,7 @@ distinct-at before (n ∷ names) (suc place) name key below =
     distinct-at (before ++ free ∷ []) names place name key (omega arith)
     ∙ ap (λ b. free_name b (get_or names place name)) (append_assoc before (free ∷ []) (take place (distinct_behind (before ++ free ∷ []) names)))
 
-keys-paired : (names : List (List ℕ)) (values : List Tree) → length names ≡ length values → keys_of (paired names values) ≡ names
+keys-paired : (names : List (List ℕ)) (values : List Tree) → length names ≡ length values → keys_of (zip names values) ≡ names
 keys-paired [] values same = refl
 keys-paired (name ∷ names) [] same = absurd (omega arith)
 keys-paired (name ∷ names) (value ∷ values) same = ap (λ more. name ∷ more) (keys-paired names values (omega arith))
@@ -52,9 +52,9 @@ fields-distinct false false header values n low low_2 few is = refl
 fields-distinct false true header values n low low_2 few is =
     let names = take n header in
     let same : distinct_names names ≡ names = take-distinct [] header n ∙ ap (take n) (is refl) in
-    let pairs = paired names (take n values) in
+    let pairs = zip names (take n values) in
     let keys : keys_of pairs ≡ names = keys-paired names (take n values) (omega (arith, length-take n header, length-take n values)) in
-    ap (λ k. paired k (take n values)) same
+    ap (λ k. zip k (take n values)) same
     ∙ sym (put_each-distinct [] pairs (ap are_distinct (keys ∙ sym same) ∙ are_distinct-names names (omega (arith, length-take n header))))
 
 -- fields, and then more fields
@@ -166,25 +166,13 @@ surplus-more dedupe pairs place count value values below =
 pub surplus-none : (dedupe : Bool) (pairs : List (List ℕ × Tree)) (n count : ℕ) (values : List Tree) → count ≡ 0 → values ≡ [] → with_fields dedupe pairs (positions_from n count) values ≡ pairs
 surplus-none dedupe pairs n count values none empty = ap₂ (λ k vs. with_fields dedupe pairs (positions_from n k) vs) none empty ∙ with_fields-none dedupe pairs
 
-take-all : {A : Type 0} (xs : List A) (n : ℕ) → length xs ≤ n → take n xs ≡ xs
-take-all [] zero enough = refl
-take-all [] (suc n) enough = refl
-take-all (x ∷ xs) zero enough = absurd (omega arith)
-take-all (x ∷ xs) (suc n) enough = ap (λ more. x ∷ more) (take-all xs n (omega arith))
-
-drop-all : {A : Type 0} (xs : List A) (n : ℕ) → length xs ≤ n → drop n xs ≡ []
-drop-all [] zero enough = refl
-drop-all [] (suc n) enough = refl
-drop-all (x ∷ xs) zero enough = absurd (omega arith)
-drop-all (x ∷ xs) (suc n) enough = drop-all xs n (omega arith)
-
 -- the keys of a row
 keys-named : (header : List (List ℕ)) (n named : ℕ) → named ≤ n → named ≤ length header → (named < n → named ≡ length header) → take named header ++ positions_from (named + 1) (n - named) ≡ row_keys header n
 keys-named header n named low low_2 full =
     elim (cases_lt named n) as (λ _. take named header ++ positions_from (named + 1) (n - named) ≡ row_keys header n) [
       | inl less ↦
           let is = full less in
-          let whole : take (length header) header ≡ take n header = take-all header (length header) (omega arith) ∙ sym (take-all header n (omega arith)) in
+          let whole : take (length header) header ≡ take n header = take_all (length header) header (omega arith) ∙ sym (take_all n header (omega arith)) in
           ap (λ k. take k header ++ positions_from (k + 1) (n - k)) is ∙ ap (λ front. front ++ positions_from (length header + 1) (n - length header)) whole
       | inr more ↦
           let is : named ≡ n = omega arith in
@@ -201,18 +189,13 @@ row-made dedupe header values named low low_2 full =
     ∙ ap₂ (with_fields dedupe []) (keys-named header (length values) named low low_2 full) (take-append-drop named values)
     ∙ sym (record_of-is dedupe (row_keys header (length values)) values)
 
-pub zip-paired : (names : List (List ℕ)) (values : List Tree) → zip names values ≡ paired names values
-zip-paired [] values = refl
-zip-paired (name ∷ names) [] = refl
-zip-paired (name ∷ names) (value ∷ values) = ap (λ more. (name, value) ∷ more) (zip-paired names values)
-
 -- a value for each name
 pub full-made : (dedupe distinct : Bool) (header : List (List ℕ)) (values : List Tree) → length values ≡ length header → length header < 2 ^ 62 → (dedupe || distinct) ≡ true
-    → (distinct ≡ true → distinct_names header ≡ header) → paired (distinct_names header) values ≡ record_of dedupe (row_keys header (length values)) values
+    → (distinct ≡ true → distinct_names header ≡ header) → zip (distinct_names header) values ≡ record_of dedupe (row_keys header (length values)) values
 full-made dedupe distinct header values full few pushed is =
     let n = length header in
     ap (λ d. with_fields d [] header values) (sym pushed)
-    ∙ ap₂ (with_fields (dedupe || distinct) []) (sym (take-all header n (omega arith))) (sym (take-all values n (omega arith)))
+    ∙ ap₂ (with_fields (dedupe || distinct) []) (sym (take_all n header (omega arith))) (sym (take_all n values (omega arith)))
     ∙ fields-distinct dedupe distinct header values n (omega arith) (omega arith) few is
-    ∙ sym (surplus-none dedupe (with_fields dedupe [] (take n header) (take n values)) (n + 1) (length values - n) (drop n values) (omega arith) (drop-all values n (omega arith)))
+    ∙ sym (surplus-none dedupe (with_fields dedupe [] (take n header) (take n values)) (n + 1) (length values - n) (drop n values) (omega arith) (drop_all n values (omega arith)))
     ∙ row-made dedupe header values n (omega arith) (omega arith) (λ less. refl)

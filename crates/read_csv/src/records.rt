@@ -1,5 +1,6 @@
 ghost use Rattle.std.specs.Prelude.{◌≡◌, ◌+◌, ◌-◌, ◌<◌, ◌≤◌, ◌^◌, ◌∷◌, [], length, map, take, drop, IfOk, OnOk, vec_len};
-ghost use Rattle.mlr_event.specs.Reading.{distinct_names, paired, record_of};
+ghost use Rattle.std.specs.List.{zip};
+ghost use Rattle.mlr_event.specs.Reading.{distinct_names, record_of};
 ghost use Rattle.mlr_event.specs.Rows.{with_fields};
 ghost use Rattle.mlr_value.specs.Value.{tree_of};
 ghost use Rattle.read_csv.specs.Rows.{positions_from, row_keys};
@@ -55,7 +56,7 @@ pub(crate) fn record_of_row(
 fn full_record(alloc: Global, names: &Header, values: &mut Vec<Value>) -> Result<Record, NoMemory>
     requires full { length names.now ≡ vec_len values.old }
     requires few { length names.now < 2 ^ 62 }
-    ensures made { IfOk result (λ made. made ≡ paired (distinct_names names.now) (map tree_of values.old.items)) }
+    ensures made { IfOk result (λ made. made ≡ zip (distinct_names names.now) (map tree_of values.old.items)) }
     ensures empty { OnOk result (values.new.items ≡ []) }
 {
     let room = Vec::with_capacity(alloc, values.len())?;

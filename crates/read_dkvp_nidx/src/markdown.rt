@@ -1,7 +1,8 @@
 ghost use Rattle.std.specs.Prelude.{◌≡◌, ◌^◌, ◌<◌, [], Some, length, map, true, IfOk, OnOk};
+ghost use Rattle.std.specs.List.{zip};
 ghost use Rattle.mlr_spec.specs.Infer.{tree_of_data};
 ghost use Rattle.mlr_spec.specs.Pairs.{are_distinct};
-ghost use Rattle.mlr_event.specs.Reading.{paired, record_of};
+ghost use Rattle.mlr_event.specs.Reading.{record_of};
 ghost use Rattle.read_dkvp_nidx.specs.Markdown.{block_behind, markdown_row, row, row_block, row_items as items_in_block, under};
 ghost use Rattle.read_dkvp_nidx.specs.Row.{block_of, place_of, row_items};
 
@@ -137,7 +138,7 @@ fn push_cells(
     requires distinct { are_distinct names.now ≡ true }
     requires same { length cells.now ≡ length names.now }
     requires empty { record.old ≡ [] }
-    ensures { OnOk result (record.new ≡ paired names.now (map (tree_of_data opts.now.infer) cells.now)) }
+    ensures { OnOk result (record.new ≡ zip names.now (map (tree_of_data opts.now.infer) cells.now)) }
 {
     for (i, cell) in cells.iter().enumerate() {
         push_text(alloc, opts, names[i].as_slice(), cell.as_slice(), record)?;

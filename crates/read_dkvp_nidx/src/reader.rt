@@ -2,7 +2,7 @@ ghost use Rattle.std.specs.Prelude.{◌≡◌, ◌↔◌, ◌+◌, ◌^◌, ◌<
 ghost use Rattle.mlr_event.specs.declared.event.Ctx.{Ctx};
 ghost use Rattle.mlr_event.specs.declared.names.FileRef.{FileRef};
 ghost use Rattle.mlr_event.specs.declared.options.ReadOpts.{ReadOpts};
-ghost use Rattle.mlr_lines.specs.Standing.{Adds};
+ghost use Rattle.mlr_event.specs.Adding.{Adds};
 ghost use Rattle.read_dkvp_nidx.specs.Lines.{line_fed, line_read};
 ghost use Rattle.read_dkvp_nidx.specs.Standing.{CanTake, HasEnded, IsBroken, IsOpen, StandsFor, StandsForWhole, ctx_fed, ctx_read, used};
 ghost use Rattle.read_dkvp_nidx.specs.Usable.{is_usable};

@@ -9,7 +9,7 @@ use Rattle.mlr_event.specs.declared.options.ReadOpts.{ReadOpts}
 use Rattle.mlr_event.specs.Reading.{ctx_after, events_of}
 use Rattle.mlr_event.specs.Stream.{has_fault, events_behind, ctx_behind}
 use Rattle.mlr_event.proofs.Streams.{events_of-append, ctx_after-append, has_fault-append}
-use Rattle.mlr_lines.specs.Standing.{Adds}
+use Rattle.mlr_event.specs.Adding.{Adds}
 use Rattle.read_json_lines.specs.declared.stream.Stream.{Stream}
 use Rattle.read_json_lines.specs.Files.{file_items, json_fed}
 use Rattle.read_json_lines.specs.Streams.{IsFit, Turned, future}

@@ -12,7 +12,7 @@ use Rattle.mlr_event.specs.Reading as reading
 use Rattle.mlr_event.specs.Reading.{Item, ctx_after, events_of}
 use Rattle.mlr_event.specs.Stream.{has_fault, events_behind, ctx_behind}
 use Rattle.mlr_event.proofs.Streams.{events_of-append, ctx_after-append}
-use Rattle.mlr_lines.specs.Standing.{Adds}
+use Rattle.mlr_event.specs.Adding.{Adds}
 use Rattle.read_json_lines.specs.declared.listing.Trouble.TheVariants.{Syntax}
 use Rattle.read_json_lines.specs.declared.stream.Stream.{Stream}
 use Rattle.read_json_lines.specs.Records.{start_state, fault_of}

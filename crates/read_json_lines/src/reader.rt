@@ -3,7 +3,7 @@ ghost use Rattle.mlr_event.specs.declared.event.Ctx.{Ctx};
 ghost use Rattle.mlr_event.specs.declared.event.Event.{Event};
 ghost use Rattle.mlr_event.specs.declared.names.FileRef.{FileRef};
 ghost use Rattle.mlr_event.specs.declared.options.ReadOpts.{ReadOpts};
-ghost use Rattle.mlr_lines.specs.Standing.{Adds};
+ghost use Rattle.mlr_event.specs.Adding.{Adds};
 ghost use Rattle.read_json_lines.specs.Files.{ctx_fed, ctx_read, json_fed, json_read};
 ghost use Rattle.read_json_lines.specs.Standing.{CanTake, HasEnded, IsBroken, IsOpen, Moves, StandsFor, StandsForWhole, StandsWith, is_usable, is_waiting, used};
 

@@ -1,7 +1,8 @@
 ghost use Rattle.std.specs.Prelude.{◌≡◌, ◌^◌, ◌<◌, [], Some, length, map, true, IfOk, OnOk};
+ghost use Rattle.std.specs.List.{zip};
 ghost use Rattle.mlr_spec.specs.Infer.{tree_of_data};
 ghost use Rattle.mlr_spec.specs.Pairs.{are_distinct};
-ghost use Rattle.mlr_event.specs.Reading.{paired, record_of};
+ghost use Rattle.mlr_event.specs.Reading.{record_of};
 ghost use Rattle.read_xtab_pprint.specs.Cells.{cells_in};
 ghost use Rattle.read_xtab_pprint.specs.Pprint.{cells_items, header_behind, is_rule, row};
 ghost use Rattle.read_xtab_pprint.specs.PprintRules.{plain_header, plain_items, row_items};
@@ -136,7 +137,7 @@ fn push_cells(
     requires distinct { are_distinct names.now ≡ true }
     requires same { length (cells_in line.now) ≡ length names.now }
     requires empty { record.old ≡ [] }
-    ensures { OnOk result (record.new ≡ paired names.now (map (tree_of_data opts.now.infer) (cells_in line.now))) }
+    ensures { OnOk result (record.new ≡ zip names.now (map (tree_of_data opts.now.infer) (cells_in line.now))) }
 {
     let barred = is_barred(line);
     let mut place = 0;

@@ -6,7 +6,7 @@ use Rattle.mlr_event.proofs.rows.free_name.Goals.{then-has+else-loop-number-test
 
 pub returns-then-not-has : goal.returns-then-not-has
 returns-then-not-has g c =
-    let names = g.N.Names.names c.args.names.now in
+    let names = g.N.TakenNames.names c.args.names.now in
     let free : is_among names c.as_slice.result.now ≡ false = sym c.has-in-loop-number.ensures ∙ c.if-not-has.true in
     let text = c.as_slice.ensures ∙ c.in_ok-text.ensures in
     c.in_ok-text.ensures
@@ -14,7 +14,7 @@ returns-then-not-has g c =
 
 pub returns : goal.returns
 returns g c =
-    let names = g.N.Names.names c.args.names.now in
+    let names = g.N.TakenNames.names c.args.names.now in
     let name = c.args.name.now in
     let same : free_name names name ≡ name =
     elim c.if-has.branch [

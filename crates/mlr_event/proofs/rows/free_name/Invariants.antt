@@ -4,4 +4,4 @@ use Rattle.mlr_event.proofs.rows.free_name.Given as goal
 
 -- the suffixes before this one are taken
 abbrev pub invariant-loop-number : goal.invariant-loop-number
-invariant-loop-number g l = (k : ℕ) → 2 ≤ k → k < l.number → is_among (g.N.Names.names l.names) (suffixed l.name k) ≡ true
+invariant-loop-number g l = (k : ℕ) → 2 ≤ k → k < l.number → is_among (g.N.TakenNames.names l.names) (suffixed l.name k) ≡ true

@@ -3,10 +3,9 @@ use Rattle.std.proofs.lemmas.Result.{IfOk-weaker}
 use Rattle.std.specs.List.{zip}
 use Rattle.std.specs.Vec.{vec_len}
 use Rattle.mlr_spec.specs.Pairs.{are_distinct}
-use Rattle.mlr_event.specs.Reading.{distinct_names, paired}
+use Rattle.mlr_event.specs.Reading.{distinct_names}
 use Rattle.mlr_event.proofs.Distinct.{are_distinct-names, length-distinct}
 use Rattle.mlr_value.specs.Value.{tree_of}
-use Rattle.read_csv.proofs.Recording.{zip-paired}
 use Rattle.read_csv.proofs.records.full_record.Goals as goal
 
 pub of_values-requires-clause-distinct : goal.of_values-requires-clause-distinct
@@ -19,6 +18,6 @@ pub returns-clause-made : goal.returns-clause-made
 returns-clause-made c =
     let names = c.keys.result.now in
     let values = map tree_of c.args.values.now.items in
-    let same : zip names (map tree_of c.replace.result.items) ≡ paired (distinct_names c.args.names.now) values =
-    ap₂ zip c.keys.ensures (ap (λ v. map tree_of v.items) c.replace.ensures.value) ∙ zip-paired (distinct_names c.args.names.now) values in
-    IfOk-weaker c.of_values.result (λ made. made ≡ zip names (map tree_of c.replace.result.items)) (λ made. made ≡ paired (distinct_names c.args.names.now) values) (λ made is. is ∙ same) c.of_values.ensures
+    let same : zip names (map tree_of c.replace.result.items) ≡ zip (distinct_names c.args.names.now) values =
+    ap₂ zip c.keys.ensures (ap (λ v. map tree_of v.items) c.replace.ensures.value) in
+    IfOk-weaker c.of_values.result (λ made. made ≡ zip names (map tree_of c.replace.result.items)) (λ made. made ≡ zip (distinct_names c.args.names.now) values) (λ made is. is ∙ same) c.of_values.ensures

@@ -2,8 +2,9 @@ use Rattle.std.proofs.Common.{rules, ◌≡◌, ◌+◌, ◌-◌, ◌≤◌, ◌
 use Rattle.std.proofs.lemmas.List.{length-map}
 use Rattle.std.proofs.lemmas.Result.{IfOk-weaker}
 use Rattle.std.specs.Vec.{vec_len}
+use Rattle.std.specs.List.{zip}
 use Rattle.mlr_event.specs.Rows.{with_fields}
-use Rattle.mlr_event.specs.Reading.{distinct_names, paired, record_of}
+use Rattle.mlr_event.specs.Reading.{distinct_names, record_of}
 use Rattle.mlr_value.specs.Value.{tree_of}
 use Rattle.read_csv.specs.Rows.{positions_from, row_keys}
 use Rattle.read_csv.proofs.Recording.{fields-distinct, full-made, row-made, map-drop, length-with_fields}
@@ -61,8 +62,8 @@ returns-then-len-clause-made c =
     let full : length values ≡ length header =
     omega (arith, length-map items tree_of, size, c.if-len.true, c.len-then-distinct.ensures, c.len-then-distinct-2.ensures.count, ap length c.header-names.ensures) in
     let few : length header < 2 ^ 62 = omega (arith, c.len-then-distinct-2.ensures.few, ap length c.header-names.ensures) in
-    let made : paired (distinct_names names) values ≡ record_of dedupe (row_keys header (vec_len c.args.values.now)) values =
-    ap (λ n. paired (distinct_names n) values) c.header-names.ensures
+    let made : zip (distinct_names names) values ≡ record_of dedupe (row_keys header (vec_len c.args.values.now)) values =
+    ap (λ n. zip (distinct_names n) values) c.header-names.ensures
     ∙ full-made dedupe c.is_distinct.result header values full few c.if-distinct.true c.is_distinct.ensures
     ∙ ap (λ n. record_of dedupe (row_keys header n) values) (length-map items tree_of ∙ sym size) in
-    IfOk-weaker c.full_record.result (λ r. r ≡ paired (distinct_names names) values) (λ r. r ≡ record_of dedupe (row_keys header (vec_len c.args.values.now)) values) (λ r is. is ∙ made) c.full_record.ensures.made
+    IfOk-weaker c.full_record.result (λ r. r ≡ zip (distinct_names names) values) (λ r. r ≡ record_of dedupe (row_keys header (vec_len c.args.values.now)) values) (λ r is. is ∙ made) c.full_record.ensures.made

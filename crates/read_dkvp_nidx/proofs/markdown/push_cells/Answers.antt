@@ -1,7 +1,7 @@
 use Rattle.std.proofs.Common.{◌+◌, ◌<◌, ◌∷◌, ◌++◌, [], length, drop, map, ap, ap₂, sym, ◌∙◌, append_assoc, arith}
+use Rattle.std.specs.List.{zip}
 use Rattle.mlr_spec.specs.Infer.{tree_of_data}
 use Rattle.mlr_spec.specs.Pairs.{keys_of, value_at}
-use Rattle.mlr_event.specs.Reading.{paired}
 use Rattle.mlr_event.proofs.Naming.{at-place, free-at, keys-at}
 use Rattle.read_dkvp_nidx.proofs.markdown.push_cells.Goals as goal
 
@@ -25,9 +25,9 @@ loop-i-preserved c =
     let below : i < length names = omega arith in
     let put = c.in_ok-push_text.ensures ∙ ap₂ (λ key text. pairs ++ (key, tree text) ∷ []) c.as_slice.ensures c.as_slice-in-loop-i.ensures in
     record {
-      fields = ap (λ r. r ++ paired (drop (i + 1) names) (map tree more)) put
-          ∙ append_assoc pairs ((name, tree cell) ∷ []) (paired (drop (i + 1) names) (map tree more))
-          ∙ ap₂ (λ texts left. pairs ++ paired texts (map tree left)) (sym (at-place names i name below c.index-names-i.is)) (sym (at-place cells i cell (omega arith) c.index-cells-i.is))
+      fields = ap (λ r. r ++ zip (drop (i + 1) names) (map tree more)) put
+          ∙ append_assoc pairs ((name, tree cell) ∷ []) (zip (drop (i + 1) names) (map tree more))
+          ∙ ap₂ (λ texts left. pairs ++ zip texts (map tree left)) (sym (at-place names i name below c.index-names-i.is)) (sym (at-place cells i cell (omega arith) c.index-cells-i.is))
           ∙ c.loop-i.invariant.fields;
       keys = ap keys_of put ∙ keys-at names i name (tree cell) pairs c.loop-i.invariant.keys below c.index-names-i.is;
     }

@@ -1,7 +1,7 @@
 use Rattle.std.proofs.Common.{◌+◌, ◌<◌, ◌∷◌, ◌++◌, [], length, drop, map, ap, ap₂, sym, ◌∙◌, append_assoc, arith}
+use Rattle.std.specs.List.{zip}
 use Rattle.mlr_spec.specs.Infer.{tree_of_data}
 use Rattle.mlr_spec.specs.Pairs.{keys_of, value_at}
-use Rattle.mlr_event.specs.Reading.{paired}
 use Rattle.read_xtab_pprint.specs.Cells.{cells_left}
 use Rattle.read_xtab_pprint.specs.Pprint.{words_of}
 use Rattle.mlr_event.proofs.Naming.{at-place, free-at, keys-at}
@@ -28,9 +28,9 @@ loop-cell-preserved c =
     let below : place < length names = omega (arith, ap length cut.0, c.loop-cell.invariant.left) in
     let put = c.in_ok-push_text.ensures ∙ ap (λ key. pairs ++ (key, tree cell) ∷ []) c.as_slice.ensures in
     record {
-      fields = ap (λ r. r ++ paired (drop (place + 1) names) (map tree more)) put
-          ∙ append_assoc pairs ((name, tree cell) ∷ []) (paired (drop (place + 1) names) (map tree more))
-          ∙ ap₂ (λ texts cells. pairs ++ paired texts (map tree cells)) (sym (at-place names place name below c.index-names-place.is)) (sym cut.0)
+      fields = ap (λ r. r ++ zip (drop (place + 1) names) (map tree more)) put
+          ∙ append_assoc pairs ((name, tree cell) ∷ []) (zip (drop (place + 1) names) (map tree more))
+          ∙ ap₂ (λ texts cells. pairs ++ zip texts (map tree cells)) (sym (at-place names place name below c.index-names-place.is)) (sym cut.0)
           ∙ c.loop-cell.invariant.fields;
       keys = ap keys_of put ∙ keys-at names place name (tree cell) pairs c.loop-cell.invariant.keys below c.index-names-place.is;
       left = omega (arith, ap length cut.0, c.loop-cell.invariant.left);

@@ -1,7 +1,7 @@
 use Rattle.std.proofs.Common.{◌≡◌, ◌+◌, ◌++◌, length, drop, take, map}
+use Rattle.std.specs.List.{zip}
 use Rattle.mlr_spec.specs.Infer.{tree_of_data}
 use Rattle.mlr_spec.specs.Pairs.{keys_of}
-use Rattle.mlr_event.specs.Reading.{paired}
 use Rattle.read_xtab_pprint.specs.Cells.{cells_left}
 use Rattle.read_xtab_pprint.specs.Pprint.{words_of}
 use Rattle.read_xtab_pprint.proofs.table.push_cells.Given as goal
@@ -9,8 +9,8 @@ use Rattle.read_xtab_pprint.proofs.table.push_cells.Given as goal
 -- the cells that are left come to what all cells come to
 abbrev pub invariant-loop-cell : goal.invariant-loop-cell
 invariant-loop-cell l = record {
-  fields : l.record ++ paired (drop l.place l.names) (map (tree_of_data l.opts.infer) (cells_left l.barred (words_of l.left)))
-      ≡ paired l.names (map (tree_of_data l.opts.infer) (cells_left l.barred (words_of l.fn.line)));
+  fields : l.record ++ zip (drop l.place l.names) (map (tree_of_data l.opts.infer) (cells_left l.barred (words_of l.left)))
+      ≡ zip l.names (map (tree_of_data l.opts.infer) (cells_left l.barred (words_of l.fn.line)));
   keys : keys_of l.record ≡ take l.place l.names;
   left : l.place + length (cells_left l.barred (words_of l.left)) ≡ length l.names;
 }

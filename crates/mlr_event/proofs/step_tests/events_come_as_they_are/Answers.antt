@@ -1,0 +1,8 @@
+use Rattle.std.proofs.Common.{[], refl}
+use Rattle.mlr_event.proofs.step_tests.events_come_as_they_are.Goals as goal
+
+pub step-requires-2 : goal.step-requires-2
+step-requires-2 g c = ([], c.in_ok-step.ensures.stands [] c.new-cat.ensures refl, refl)
+
+pub step-requires-3 : goal.step-requires-3
+step-requires-3 g c = ([], c.in_ok-step-2.ensures.stands [] (c.in_ok-step.ensures.stands [] c.new-cat.ensures refl) refl, refl)

@@ -1,0 +1,80 @@
+-- What a verb makes of a list of events.
+use Rattle.std.specs.Prelude.{◌≡◌, ℕ, Bool, true, false, not, if◌then◌else◌, List, [], ◌∷◌, ◌++◌}
+use Rattle.std.specs.List.{list_any, list_all, filter}
+use Rattle.mlr_spec.specs.Tree.{Tree}
+use Rattle.mlr_event.specs.declared.event.Ctx.{Ctx}
+use Rattle.mlr_event.specs.declared.event.Event.{Event}
+use Rattle.mlr_event.specs.declared.event.Event.TheVariants as event
+
+-- a verb: what it gives before all events, what a record gives after the events before it, what the end gives after all
+-- events, whether more records give nothing, and whether it may give anything but records
+pub record Verb : Type 0 where
+  pub first : List Event
+  pub now : List Event → List (List ℕ × Tree) → Ctx → List Event
+  pub late : List Event → Ctx → List Event
+  pub closed : List Event → Bool
+  pub effects : Bool
+
+abbrev pub is_record : Event → Bool
+is_record (event.Rec fields ctx) = true
+is_record (event.Text text) = false
+is_record (event.Out target piece) = false
+is_record (event.End ctx) = false
+is_record (event.Fault fault) = false
+
+abbrev pub is_fault : Event → Bool
+is_fault (event.Rec fields ctx) = false
+is_fault (event.Text text) = false
+is_fault (event.Out target piece) = false
+is_fault (event.End ctx) = false
+is_fault (event.Fault fault) = true
+
+-- an end or a fault is the last event of a list; a list without one is open
+abbrev pub is_last : Event → Bool
+is_last (event.Rec fields ctx) = false
+is_last (event.Text text) = false
+is_last (event.Out target piece) = false
+is_last (event.End ctx) = true
+is_last (event.Fault fault) = true
+
+abbrev pub is_open : List Event → Bool
+is_open events = not (list_any is_last events)
+
+-- nothing comes behind a fault
+abbrev pub then_unless_fault : List Event → List Event → List Event
+then_unless_fault events more = if list_any is_fault events then events else events ++ more
+
+-- what an event gives after those before it: texts, pieces and faults stand as they are
+abbrev pub gives : Verb → List Event → Event → List Event
+gives verb before (event.Rec fields ctx) = verb.now before fields ctx
+gives verb before (event.Text text) = event.Text text ∷ []
+gives verb before (event.Out target piece) = event.Out target piece ∷ []
+gives verb before (event.End ctx) = then_unless_fault (verb.late before ctx) (event.End ctx ∷ [])
+gives verb before (event.Fault fault) = event.Fault fault ∷ []
+
+-- what events give one after another, behind others
+abbrev pub made_behind : Verb → List Event → List Event → List Event
+made_behind verb before [] = []
+made_behind verb before (e ∷ events) = then_unless_fault (gives verb before e) (made_behind verb (before ++ e ∷ []) events)
+
+-- what a verb makes of a list of events
+abbrev pub made : Verb → List Event → List Event
+made verb events = then_unless_fault verb.first (made_behind verb [] events)
+
+-- a verb without effects gives records alone
+pub record GivesRecords (verb : Verb) : Type 0 where
+  pub first : list_all is_record verb.first ≡ true
+  pub now : (before : List Event) (fields : List (List ℕ × Tree)) (ctx : Ctx) → list_all is_record (verb.now before fields ctx) ≡ true
+  pub late : (before : List Event) (ctx : Ctx) → list_all is_record (verb.late before ctx) ≡ true
+
+abbrev pub IsQuiet : Verb → Type 0
+IsQuiet verb = verb.effects ≡ false → GivesRecords verb
+
+-- a verb that is closed gives nothing more
+abbrev pub StaysClosed : Verb → Type 0
+StaysClosed verb = (before behind : List Event) → verb.closed before ≡ true →
+    ((fields : List (List ℕ × Tree)) (ctx : Ctx) → verb.now (before ++ behind) fields ctx ≡ []) × ((ctx : Ctx) → verb.late (before ++ behind) ctx ≡ [])
+
+-- the texts, pieces and faults, and the end
+abbrev pub others : List Event → List Event
+others events = filter (λ e. not (is_record e)) events

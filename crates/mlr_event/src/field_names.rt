@@ -1,0 +1,120 @@
+ghost use Rattle.std.specs.Prelude.{◌≡◌, ◌++◌, ◌∷◌, [], length, if◌then◌else◌, is_ok, IfOk, slice_get};
+ghost use Rattle.std.specs.Option.{option_map};
+ghost use Rattle.mlr_event.specs.Reading.{is_among};
+
+use mlr_spec::NoMemory;
+use mlr_value::Bytes;
+use std::alloc::Global;
+use std::marker::Model;
+
+/// Names of fields, in order, as the options of verbs have them. A name may repeat.
+#[derive(Drop)]
+pub struct Names {
+    alloc: Global,
+    names: Vec<Bytes>,
+}
+
+impl Model for Names {
+    ghost use Rattle.std.specs.Prelude.{List, ℕ};
+
+    ghost Value = { List (List ℕ) };
+
+    ghost view = { λ names. names.names.items };
+}
+
+impl Names {
+    /// No names. It takes no memory.
+    pub fn new(alloc: Global) -> Self
+        ensures { result ≡ [] }
+    {
+        Names {
+            alloc,
+            names: Vec::new(alloc),
+        }
+    }
+
+    /// How many names there are.
+    pub fn len(&self) -> usize
+        ensures { result ≡ length self.now }
+    {
+        self.names.len()
+    }
+
+    /// The name at this place, which counts from 0.
+    pub fn at(&self, place: usize) -> Option<&Bytes>
+        ensures { option_map (λ name. name.now) result ≡ slice_get self.now place }
+    {
+        self.names.get(place)
+    }
+
+    /// All names.
+    #[inline]
+    pub fn as_slice(&self) -> &[Bytes]
+        ensures { result.now ≡ self.now }
+    {
+        self.names.as_slice()
+    }
+
+    /// Puts a name last.
+    pub fn push(&mut self, name: Bytes) -> Result<(), NoMemory>
+        ensures { self.new ≡ (if is_ok result then self.old ++ name ∷ [] else self.old) }
+    {
+        self.names.push(name)?;
+        Ok(())
+    }
+
+    /// The names, as a vector.
+    pub fn into_vec(self) -> Vec<Bytes>
+        ensures { result.items ≡ self }
+    {
+        self.names
+    }
+
+    /// Whether this name is among them. It takes no memory.
+    #[inline]
+    pub fn has(&self, name: &[u8]) -> bool
+        ensures { result ≡ is_among self.now name.now }
+    {
+        self.names.iter().any(|other| name == other.as_slice())
+    }
+
+    /// A copy.
+    pub fn copy(&self) -> Result<Names, NoMemory>
+        ensures { IfOk result (λ copy. copy ≡ self.now) }
+    {
+        let mut names = Vec::with_capacity(self.alloc, self.names.len())?;
+        for name in &self.names {
+            names.push(Bytes::copy_of(self.alloc, name.as_slice())?)?;
+        }
+        Ok(Names {
+            alloc: self.alloc,
+            names,
+        })
+    }
+}
+
+#[cfg(test)]
+mod tests {
+    use super::*;
+
+    #[test]
+    fn names_kept_in_order(rt: HostRuntime) -> Result<(), NoMemory> {
+        let alloc = rt.alloc();
+        let mut names = Names::new(alloc);
+        for name in [b"b".as_slice(), b"a", b"", b"a", b"a name past 16 bytes"] {
+            names.push(Bytes::copy_of(alloc, name)?)?;
+        }
+        let copy = names.copy()?;
+        assert_eq!(rt; copy.len(), 5);
+        assert!(rt; copy.has(b"") && copy.has(b"a name past 16 bytes") && !copy.has(b"c"));
+        assert_eq!(rt;
+            copy.at(1).map(|name| name.as_slice()),
+            Some(b"a".as_slice())
+        );
+        assert!(rt; copy.at(5).is_none());
+        assert_eq!(rt; copy.as_slice()[0].as_slice(), b"b".as_slice());
+        let names = names.into_vec();
+        assert_eq!(rt; names[4].as_slice(), b"a name past 16 bytes".as_slice());
+        Ok(())
+    }
+}

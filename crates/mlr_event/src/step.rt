@@ -1,0 +1,49 @@
+ghost use Rattle.std.specs.Prelude.{◌≡◌, ◌↔◌, ◌++◌, ◌∷◌, [], List, true, IsTrue, OnOk, OnErr};
+ghost use Rattle.mlr_event.specs.declared.event.Event.{Event as SpecEvent};
+ghost use Rattle.mlr_event.specs.Adding.{Adds};
+ghost use Rattle.mlr_event.specs.Verb.{IsQuiet, StaysClosed, Verb, is_open, made};
+
+use crate::{Event, Events};
+use mlr_spec::NoMemory;
+
+/// Takes events one by one, and makes others of them: a verb, or whatever works like one. It stands for the list of
+/// events that it was given.
+pub trait Step {
+    /// What it makes of a list of events, which never changes.
+    ghost verb: { Self → Verb };
+
+    /// It has begun, and was given these events.
+    ghost stands: { Self → List SpecEvent → Type 0 };
+
+    /// A call found no memory.
+    ghost broken: { Self → Type 0 };
+
+    /// Takes an event, and puts behind `out` what it gives after those before. No end and no fault may have come before.
+    fn step(&mut self, event: Event, out: &mut Events) -> Result<(), NoMemory>
+        requires { (given : List SpecEvent) × stands self.old given × (is_open given ≡ true) }
+        ensures verb { verb self.new ≡ verb self.old }
+        ensures stands { OnOk result ((given : List SpecEvent) → stands self.old given → is_open given ≡ true → stands self.new (given ++ event ∷ [])) }
+        ensures adds { OnOk result ((given : List SpecEvent) → stands self.old given → is_open given ≡ true → Adds out.old out.new (made (verb self.old) given) (made (verb self.old) (given ++ event ∷ []))) }
+        ensures err { OnErr result (broken self.new) };
+
+    /// Whether more records give nothing. It takes no memory.
+    fn closed(&self) -> bool
+        ensures { (given : List SpecEvent) → stands self.now given → result ≡ (verb self.now).closed given };
+
+    /// Whether it may give anything but records. It takes no memory.
+    fn has_effects(&self) -> bool
+        ensures { result ≡ (verb self.now).effects };
+
+    /// Whether a call found no memory. Then nothing more may be asked of it.
+    fn is_broken(&self) -> bool
+        ensures { IsTrue result ↔ broken self.now };
+
+    /// An object that stands for a list found memory in all calls.
+    ghost whole: { (s : Self) (given : List SpecEvent) → stands s given → broken s → ⊥ };
+
+    /// Without effects it gives records alone.
+    ghost quiet: { (s : Self) → IsQuiet (verb s) };
+
+    /// Once it is closed it gives nothing more.
+    ghost closes: { (s : Self) → StaysClosed (verb s) };
+}
