@@ -5,7 +5,8 @@ use Rattle.mlr_event.specs.declared.event.Body.{Body}
 use Rattle.writers.specs.declared.options.WriteOpts.{WriteOpts}
 use Rattle.writers.specs.declared.writer.Writer.{Writer}
 use Rattle.writers.specs.Run.{Run, start}
-use Rattle.writers.specs.Standing.{Adds, StandsFor, run_of}
+use Rattle.mlr_event.specs.Adding.{Adds}
+use Rattle.writers.specs.Standing.{StandsFor, run_of}
 use Rattle.writers.specs.Written.{after, end_text, given, gives, run_behind, written}
 
 module _ (opts : WriteOpts) where

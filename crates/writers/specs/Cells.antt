@@ -1,10 +1,9 @@
 -- What a record is written as: its fields, flattened or unflattened, and their texts.
 use Rattle.std.specs.Prelude.{ℕ, Bool, true, false, ◌&&◌, nat_lt, if◌then◌else◌, List, [], ◌∷◌, map, length}
 use Rattle.std.specs.Str.{bytes_eq}
-use Rattle.mlr_spec.specs.declared.json.JsonStyle.TheVariants.{Single}
 use Rattle.mlr_spec.specs.Flatten.{flat, unflat}
-use Rattle.mlr_spec.specs.Json.{json_text}
-use Rattle.mlr_spec.specs.Tree.{Tree, is_collection, text_of}
+use Rattle.mlr_spec.specs.Tree.{Tree}
+use Rattle.text_forms.specs.Shown.{shown}
 use Rattle.writers.specs.declared.options.WriteOpts.{WriteOpts}
 use Rattle.writers.specs.declared.form.Part.{Part}
 use Rattle.writers.specs.declared.form.Part.TheVariants.{Keys, Values}
@@ -15,14 +14,10 @@ shaped opts r =
     if opts.flatten then flat opts.flatsep r else (
     if opts.unflatten && nat_lt 0 (length opts.flatsep) then unflat opts.flatsep r else r)
 
--- a value as one text: a map or an array that is left is its JSON text on one line
-abbrev pub cell_text : Tree → List ℕ
-cell_text value = if is_collection value then json_text Single value else text_of value
-
 -- the key or the value of a field, and all keys or values of a record
 abbrev pub part_text : Part → List ℕ × Tree → List ℕ
 part_text Keys field = field.0
-part_text Values field = cell_text field.1
+part_text Values field = shown field.1
 
 abbrev pub texts : Part → List (List ℕ × Tree) → List (List ℕ)
 texts part r = map (part_text part) r

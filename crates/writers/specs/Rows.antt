@@ -8,7 +8,8 @@ use Rattle.writers.specs.declared.form.FieldForm.TheVariants as form
 use Rattle.writers.specs.declared.options.WriteOpts.{WriteOpts}
 use Rattle.writers.specs.declared.form.RowStyle.{RowStyle}
 use Rattle.writers.specs.declared.form.RowStyle.TheVariants as row
-use Rattle.writers.specs.Cells.{cell_text, part_text, texts}
+use Rattle.text_forms.specs.Shown.{shown}
+use Rattle.writers.specs.Cells.{part_text, texts}
 use Rattle.writers.specs.Csv.{csv_escaped, csv_field, csv_line}
 use Rattle.writers.specs.Dkvp.{dkvp_field}
 use Rattle.writers.specs.Headed.{headed, heading}
@@ -56,7 +57,7 @@ row_text style opts run r = headed (is_headerless style opts) run r (header_in s
 -- a field among the others of its record
 abbrev pub field_text : FieldForm → WriteOpts → List ℕ × Tree → List ℕ
 field_text form.Pair opts field = dkvp_field opts field
-field_text form.Value opts field = cell_text field.1
+field_text form.Value opts field = shown field.1
 field_text (form.Json style) opts field = json_field style 1 field
 field_text (form.Row style part) opts field = field_in style opts (part_text part field)
 field_text form.Dashes opts field = codes "---"

@@ -27,7 +27,3 @@ IsBroken writer = writer.stage ≡ Broken
 pub record StandsFor (opts : WriteOpts) (writer : Writer) (bodies : List Body) : Type 0 where
   pub options : writer.opts ≡ opts
   pub run : run_of writer.state ≡ run_behind opts start bodies
-
--- what a text has more than an earlier one is what was put behind another text
-abbrev pub Adds : List ℕ → List ℕ → List ℕ → List ℕ → Type 0
-Adds old new before after = (more : List ℕ) × (after ≡ before ++ more) × (new ≡ old ++ more)

@@ -3,7 +3,7 @@ use Rattle.std.specs.Prelude.{ℕ, ◌-◌, true, max, List, [], ◌∷◌, ◌+
 use Rattle.writers.specs.Width.{code_points}
 use Rattle.std.specs.List.{flat_map, fold}
 use Rattle.mlr_spec.specs.Tree.{Tree}
-use Rattle.writers.specs.Cells.{cell_text}
+use Rattle.text_forms.specs.Shown.{shown}
 use Rattle.writers.specs.Headed.{unless_empty, behind_gap}
 use Rattle.writers.specs.Run.{Run}
 
@@ -15,7 +15,7 @@ abbrev pub longest_key : List (List ℕ × Tree) → ℕ
 longest_key r = fold (λ width field. max width (code_points field.0)) 0 r
 
 abbrev pub xtab_line : ℕ → List ℕ × Tree → List ℕ
-xtab_line width field = padded width field.0 ++ 32 ∷ cell_text field.1 ++ 10 ∷ []
+xtab_line width field = padded width field.0 ++ 32 ∷ shown field.1 ++ 10 ∷ []
 
 abbrev pub xtab_record : Run → List (List ℕ × Tree) → List ℕ
 xtab_record run r = unless_empty r (behind_gap run (flat_map (xtab_line (longest_key r)) r))

@@ -4,12 +4,12 @@ ghost use Rattle.writers.specs.Columns.{block_widths, key_widths, widened};
 ghost use Rattle.writers.specs.Pprint.{length_at, shown};
 ghost use Rattle.writers.specs.Width.{code_points};
 
-use crate::cells::{append_cell, held_text};
 use crate::width::count_points;
 use mlr_record::Record;
 use mlr_spec::NoMemory;
 use mlr_value::Bytes;
 use std::alloc::Global;
+use text_forms::{append_shown, held_text};
 
 /// The records of a run that are held back, and the widths of their columns.
 #[derive(Drop)]
@@ -117,7 +117,7 @@ fn length_at(column: usize, fields: &Record, scratch: &mut Bytes) -> Result<usiz
         Some(text) => Ok(count_shown(text)),
         None => {
             scratch.clear();
-            append_cell(value, scratch)?;
+            append_shown(value, scratch)?;
             Ok(count_shown(scratch.as_slice()))
         }
     }

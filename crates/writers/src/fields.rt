@@ -1,19 +1,20 @@
 ghost use Rattle.std.specs.Prelude.{◌≡◌, ◌++◌, OnOk, map, codes};
 ghost use Rattle.mlr_spec.specs.Json.{joined};
 ghost use Rattle.mlr_value.specs.Value.{tree_of};
-ghost use Rattle.writers.specs.Cells.{cell_text, part_text};
+ghost use Rattle.text_forms.specs.Shown.{shown};
+ghost use Rattle.writers.specs.Cells.{part_text};
 ghost use Rattle.writers.specs.Dkvp.{dkvp_field};
 ghost use Rattle.writers.specs.Joined.{separated};
 ghost use Rattle.writers.specs.Rows.{field_in, field_text, line_text};
 
 use crate::WriteOpts;
-use crate::cells::{append_cell, held_text};
 use crate::escape::append_field;
 use crate::form::{FieldForm, Part, RowStyle};
 use mlr_json::append_json_field;
 use mlr_record::Record;
 use mlr_spec::NoMemory;
 use mlr_value::{Bytes, Value};
+use text_forms::{append_shown, held_text};
 
 /// Puts a record behind `out` as one line, of fields between OFS.
 pub(crate) fn append_line(
@@ -85,7 +86,7 @@ fn append_form(
 {
     match form {
         FieldForm::Pair => append_pair(opts, key, value, out),
-        FieldForm::Value => append_cell(value, out),
+        FieldForm::Value => append_shown(value, out),
         FieldForm::Json(style) => append_json_field(key, value, style, out),
         FieldForm::Row(style, Part::Keys) => append_field(style, opts, key, out),
         FieldForm::Row(style, Part::Values) => append_value(style, opts, value, scratch, out),
@@ -98,7 +99,7 @@ fn append_pair(opts: &WriteOpts, key: &[u8], value: &Value, out: &mut Bytes) -> 
 {
     out.append(key)?;
     append_mark(opts.ops.as_slice(), out)?;
-    append_cell(value, out)
+    append_shown(value, out)
 }
 
 /// A value in a row: out of the text that it holds, or out of what it prints, which is put into a buffer that is kept.
@@ -110,13 +111,13 @@ fn append_value(
     scratch: &mut Bytes,
     out: &mut Bytes,
 ) -> Result<(), NoMemory>
-    ensures { OnOk result (out.new ≡ out.old ++ field_in style opts.now (cell_text (tree_of value.now))) }
+    ensures { OnOk result (out.new ≡ out.old ++ field_in style opts.now (shown (tree_of value.now))) }
 {
     match held_text(value) {
         Some(text) => append_field(style, opts, text, out),
         None => {
             scratch.clear();
-            append_cell(value, scratch)?;
+            append_shown(value, scratch)?;
             append_field(style, opts, scratch.as_slice(), out)
         }
     }

@@ -1,7 +1,8 @@
 ghost use Rattle.std.specs.Prelude.{◌≡◌, ◌↔◌, ℕ, List, [], ◌++◌, ◌∷◌, true, false, IsTrue, IfOk, OnOk, OnErr};
 ghost use Rattle.mlr_event.specs.declared.event.Body.{Body};
 ghost use Rattle.writers.specs.declared.options.WriteOpts.{WriteOpts};
-ghost use Rattle.writers.specs.Standing.{Adds, HasEnded, IsBroken, IsOpen, StandsFor, run_of};
+ghost use Rattle.mlr_event.specs.Adding.{Adds};
+ghost use Rattle.writers.specs.Standing.{HasEnded, IsBroken, IsOpen, StandsFor, run_of};
 ghost use Rattle.writers.specs.Headed.{headed_after};
 ghost use Rattle.writers.specs.Rows.{row_text};
 ghost use Rattle.writers.specs.Written.{after, end_text, gives, record_after, record_text, written};

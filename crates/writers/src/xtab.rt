@@ -4,12 +4,12 @@ ghost use Rattle.mlr_value.specs.Value.{tree_of};
 ghost use Rattle.writers.specs.Standing.{run_of};
 ghost use Rattle.writers.specs.Xtab.{longest_key, xtab_after, xtab_line, xtab_record};
 
-use crate::cells::append_cell;
 use crate::state::State;
 use crate::width::{append_padding, count_points};
 use mlr_record::Record;
 use mlr_spec::NoMemory;
 use mlr_value::{Bytes, Value};
+use text_forms::append_shown;
 
 /// Puts a record behind `out`, behind an empty line if it isn't the first.
 pub(crate) fn append_xtab(
@@ -63,6 +63,6 @@ fn append_field_line(
     out.append(key)?;
     append_padding(count_points(key), width, out)?;
     out.push(b' ')?;
-    append_cell(value, out)?;
+    append_shown(value, out)?;
     out.push(b'\n')
 }
