@@ -1,8 +1,7 @@
 -- One match after another, as they are replaced.
-use Rattle.std.proofs.Common.{◌≡◌, ℕ, zero, suc, ◌+◌, ◌-◌, ◌<◌, ◌≤◌, ◌==◌, nat_lt, false, List, ◌++◌, take, drop, length, Option, None, Some, Result, Ok, Err, is_ok, OnOk, IfNone, IfSome, slice_range, if◌then◌else◌, sym, ap, ap₂, ◌∙◌, subst, arith, append_assoc, ne_eqb}
+use Rattle.std.proofs.Common.{◌≡◌, ℕ, zero, suc, ◌+◌, ◌-◌, ◌<◌, ◌≤◌, ◌==◌, nat_lt, false, List, ◌++◌, take, drop, length, Option, None, Some, Result, Ok, Err, is_ok, OnOk, IfSome, slice_range, if◌then◌else◌, sym, ap, ap₂, ◌∙◌, subst, arith, append_assoc, ne_eqb}
 use Rattle.std.proofs.lemmas.Bool.{cond-true, cond-false, le-ltb, lt-ltb}
 use Rattle.std.proofs.lemmas.Option.{none-some, same_Some}
-use Rattle.std.specs.Option.{unwrap_or}
 use mathlib.Core.Path.{fun_ext}
 use Rattle.regex.specs.Patterns.{Re, Match, find, find_all, span}
 use Rattle.regex.specs.Search.{Answers, next_match, matches_after}
@@ -12,8 +11,10 @@ use Rattle.regex.specs.Bytes.{captures_span, IsCapturesOf}
 use Rattle.regex.specs.declared.bytes.captures.Captures.{Captures}
 use Rattle.regex.proofs.CapturesLemmas.{group_span-zero}
 use Rattle.regex.proofs.SearchLemmas.{leftmost_within, next_same, next_later, next_within, matches_after_none, matches_after_some, matches_after_bytes}
-use Rattle.mlr_pattern.specs.Groups.{group_text}
-use Rattle.mlr_pattern.specs.Replacing.{filled, replaced}
+use Rattle.mlr_pattern.specs.Groups.{group_text, behind_first}
+use Rattle.mlr_pattern.specs.Replacing.{filled, matches_of, replaced}
+use Rattle.mlr_pattern.specs.declared.which.Which.{Which}
+use Rattle.mlr_pattern.specs.declared.which.Which.TheVariants.{First, All}
 
 pub on_ok : {A E : Type 0} (r : Result A E) (new a b c : List ℕ) → new ≡ (if is_ok r then a else b) → a ≡ c → OnOk r (new ≡ c)
 on_ok (Ok x) new a b c e h = e ∙ h
@@ -117,18 +118,25 @@ module _ (re : Re) (text by : List ℕ) where
   last_step after old whole none e =
       ap (λ ms. old ++ replaced_by written text (after - 1) ms) (sym (matches_after_none re text false after none)) ∙ e
 
-  pub first_alone : (r : Option ℕ) (old new : List ℕ) → Answers r (next_match false re text 0) (Puts old new 0) → IfNone r (new ≡ old) →
-      new ++ drop (unwrap_or r 0) text ≡ old ++ replaced text by (take 1 (find_all re text))
+  whole_from_start : (old : List ℕ) →
+      old ++ replaced_by written text (0 - 1) (matches_after false re text 0) ≡ old ++ replaced text by (find_all re text)
+  whole_from_start old = ap (λ ms. old ++ replaced_by written text 0 ms) (matches_after_bytes re text)
+
+  pub found_whole : (which : Which) (old new : List ℕ) (end : ℕ) → Answers (Some end) (next_match false re text 0) (Puts old new 0) →
+      new ++ behind_first which re text by end ≡ old ++ replaced text by (matches_of which re text)
   unfolding replaced_by
-  first_alone None old new found none =
-      let no_match = sym (matches_after_bytes re text) ∙ matches_after_none re text false 0 found in
-      ap (λ front. front ++ text) none ∙ ap (λ ms. old ++ replaced text by (take 1 ms)) (sym no_match)
-  first_alone (Some end) old new found none =
+  found_whole First old new end found =
       let m = found.0 in
       let matches = sym (matches_after_bytes re text) ∙ matches_after_some re text false 0 m found.1 in
       ap₂ (λ front at. front ++ drop at text) found.2.1 found.2.0
       ∙ append_assoc old (gap 0 m) (drop m.trace.end text)
       ∙ ap (λ ms. old ++ replaced text by (take 1 ms)) (sym matches)
+  found_whole All old new end found = step 0 end old new _ found (whole_from_start old)
+
+  pub none_whole : (which : Which) → next_match false re text 0 ≡ None → replaced text by (matches_of which re text) ≡ text
+  unfolding replaced_by
+  none_whole First none = ap (λ ms. replaced text by (take 1 ms)) (sym (matches_after_bytes re text) ∙ matches_after_none re text false 0 none)
+  none_whole All none = ap (λ ms. replaced text by ms) (sym (matches_after_bytes re text) ∙ matches_after_none re text false 0 none)
 
 -- captures are the groups of their match
 module _ (text : List ℕ) (m : Match) (found : Captures) (is : IsCapturesOf text m found) where

@@ -1,8 +1,23 @@
--- The texts of the groups of a match, as they are found. No public clause cites this module.
-use Rattle.std.specs.Prelude.{ℕ, List}
+-- The texts of the groups of a match, as they are found, and the text behind a match. No public clause cites this module.
+use Rattle.std.specs.Prelude.{ℕ, ◌+◌, ◌-◌, false, List, drop}
 use Rattle.regex.specs.Bytes.{captures_span, captures_haystack}
-use Rattle.regex.specs.Replace.{bytes_of}
+use Rattle.regex.specs.Patterns.{Re}
+use Rattle.regex.specs.Replace.{bytes_of, group_bytes, replaced_by}
+use Rattle.regex.specs.Search.{matches_after}
 use Rattle.regex.specs.declared.bytes.captures.Captures.{Captures}
+use Rattle.mlr_pattern.specs.Replacing.{filled}
+use Rattle.mlr_pattern.specs.declared.which.Which.{Which}
+use Rattle.mlr_pattern.specs.declared.which.Which.TheVariants.{First, All}
 
 abbrev pub group_text : Captures → ℕ → List ℕ
 group_text found n = bytes_of (captures_haystack found) (captures_span found n)
+
+-- What follows the last match with all matches there replaced. `after` is one more than the end of that match, or 0.
+abbrev pub rest_replaced : Re → List ℕ → List ℕ → ℕ → List ℕ
+rest_replaced re text by after =
+    replaced_by (λ m. filled (group_bytes text m) by) text (after - 1) (matches_after false re text after)
+
+-- what follows the first match, which ends here
+abbrev pub behind_first : Which → Re → List ℕ → List ℕ → ℕ → List ℕ
+behind_first First re text by end = drop end text
+behind_first All re text by end = rest_replaced re text by (end + 1)

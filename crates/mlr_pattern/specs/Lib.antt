@@ -3,3 +3,5 @@ pub mod Weight
 pub mod Reading
 pub mod Replacing
 pub mod Groups
+pub mod Values
+pub mod Several

@@ -1,19 +1,25 @@
 //! The patterns of verbs: how a word gives a pattern, which texts are read as one, and how its matches are replaced.
 #![tactic(auto)]
 
+mod patterns;
 mod read;
 #[cfg(test)]
 mod read_tests;
 mod replace;
 #[cfg(test)]
 mod replace_tests;
+mod values;
+#[cfg(test)]
+mod values_tests;
 mod weight;
 mod which;
 mod word;
 
+pub use patterns::Patterns;
 pub use read::{PatternFault, read_pattern};
 pub use regex::bytes::{Matcher, Regex as Pattern};
-pub use replace::{append_replaced, matches, replaced};
+pub use replace::{append_replaced, matches, replaced, replaced_if_found};
+pub use values::{ssub_value, sub_value};
 pub use weight::is_heavy;
 pub use which::Which;
 pub use word::{PatternWord, pattern_word};

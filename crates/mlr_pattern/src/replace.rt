@@ -1,9 +1,9 @@
-ghost use Rattle.std.specs.Prelude.{◌≡◌, false, ◌+◌, ◌-◌, ◌<◌, ◌≤◌, ◌++◌, length, nat_lt, is_some, slice_range, if◌then◌else◌, IfOk, OnOk, IfSome, IfNone};
+ghost use Rattle.std.specs.Prelude.{◌≡◌, true, false, ◌+◌, ◌-◌, ◌<◌, ◌≤◌, ◌++◌, length, nat_lt, is_some, slice_range, unwrap_or, if◌then◌else◌, IfOk, OnOk, IfSome, IfNone};
 ghost use Rattle.regex.specs.Patterns.{find};
-ghost use Rattle.regex.specs.Search.{Answers, next_match, matches_after};
-ghost use Rattle.regex.specs.Replace.{group_bytes, replaced_by};
+ghost use Rattle.regex.specs.Search.{Answers, next_match};
+ghost use Rattle.regex.specs.Replace.{group_bytes};
 ghost use Rattle.regex.specs.Bytes.{regex_pattern, matcher_pattern, captures_span, captures_haystack};
-ghost use Rattle.mlr_pattern.specs.Groups.{group_text};
+ghost use Rattle.mlr_pattern.specs.Groups.{group_text, rest_replaced, behind_first};
 ghost use Rattle.mlr_pattern.specs.Replacing.{filled, matches_of, replaced};
 
 use crate::which::Which;
@@ -51,37 +51,84 @@ pub fn append_replaced(
         ++ replaced text.now by.now (matches_of which (matcher_pattern matcher.old) text.now)) }
     ensures same { matcher_pattern matcher.new ≡ matcher_pattern matcher.old }
 {
+    if append_if_found(matcher, text, by, which, out)? {
+        return Ok(());
+    }
+    out.append(text)
+}
+
+/// The text with matches replaced, or none where no match is found, so that the text stays as it is.
+pub fn replaced_if_found(
+    alloc: Global,
+    matcher: &mut Matcher<'_>,
+    text: &[u8],
+    by: &[u8],
+    which: Which,
+) -> Result<Option<Bytes>, NoMemory>
+    ensures text { IfOk result (λ made. unwrap_or made text.now
+        ≡ replaced text.now by.now (matches_of which (matcher_pattern matcher.old) text.now)) }
+    ensures same { matcher_pattern matcher.new ≡ matcher_pattern matcher.old }
+{
+    let mut out = Bytes::new(alloc);
+    let found = append_if_found(matcher, text, by, which, &mut out)?;
+    Ok(if found { Some(out) } else { None })
+}
+
+/// Puts the text with matches replaced, and nothing where no match is found. Answers whether one was found.
+fn append_if_found(
+    matcher: &mut Matcher<'_>,
+    text: &[u8],
+    by: &[u8],
+    which: Which,
+    out: &mut Bytes,
+) -> Result<bool, NoMemory>
+    ensures found { IfOk result (λ found. found ≡ true → out.new ≡ out.old
+        ++ replaced text.now by.now (matches_of which (matcher_pattern matcher.old) text.now)) }
+    ensures none { IfOk result (λ found. found ≡ false → (out.new ≡ out.old)
+        × (replaced text.now by.now (matches_of which (matcher_pattern matcher.old) text.now) ≡ text.now)) }
+    ensures same { matcher_pattern matcher.new ≡ matcher_pattern matcher.old }
+{
+    let Some(end) = append_next(matcher, text, by, 0, out)? else {
+        return Ok(false);
+    };
+    append_behind(matcher, text, by, which, end, out)?;
+    Ok(true)
+}
+
+/// Puts what follows the first match, which ends here.
+fn append_behind(
+    matcher: &mut Matcher<'_>,
+    text: &[u8],
+    by: &[u8],
+    which: Which,
+    end: usize,
+    out: &mut Bytes,
+) -> Result<(), NoMemory>
+    requires { end ≤ length text.now }
+    ensures text { OnOk result (out.new ≡ out.old
+        ++ behind_first which (matcher_pattern matcher.old) text.now by.now end) }
+    ensures same { matcher_pattern matcher.new ≡ matcher_pattern matcher.old }
+{
     match which {
-        Which::First => append_first(matcher, text, by, out),
-        Which::All => append_all(matcher, text, by, out),
+        Which::First => out.append(&text[end..]),
+        Which::All => append_rest(matcher, text, by, end + 1, out),
     }
 }
 
-fn append_first(
+/// Puts what follows the last match, with all matches there replaced. `after` is one more than the end of the last
+/// match, or 0 before the first.
+fn append_rest(
     matcher: &mut Matcher<'_>,
     text: &[u8],
     by: &[u8],
+    mut after: usize,
     out: &mut Bytes,
 ) -> Result<(), NoMemory>
+    requires { after ≤ length text.now + 1 }
     ensures text { OnOk result (out.new ≡ out.old
-        ++ replaced text.now by.now (matches_of Which.First (matcher_pattern matcher.old) text.now)) }
+        ++ rest_replaced (matcher_pattern matcher.old) text.now by.now after) }
     ensures same { matcher_pattern matcher.new ≡ matcher_pattern matcher.old }
 {
-    let end = append_next(matcher, text, by, 0, out)?;
-    out.append(&text[end.unwrap_or(0)..])
-}
-
-fn append_all(
-    matcher: &mut Matcher<'_>,
-    text: &[u8],
-    by: &[u8],
-    out: &mut Bytes,
-) -> Result<(), NoMemory>
-    ensures text { OnOk result (out.new ≡ out.old
-        ++ replaced text.now by.now (matches_of Which.All (matcher_pattern matcher.old) text.now)) }
-    ensures same { matcher_pattern matcher.new ≡ matcher_pattern matcher.old }
-{
-    let mut after = 0;
     while let Some(end) = append_next(matcher, text, by, after, out)? {
         after = end + 1;
     }

@@ -1,0 +1,30 @@
+use Rattle.std.proofs.Common.{◌≡◌, ◌++◌, false, IfNone, ap, ◌∙◌, subst}
+use Rattle.regex.specs.Bytes.{matcher_pattern}
+use Rattle.regex.specs.Search.{Answers, next_match}
+use Rattle.mlr_pattern.specs.Groups.{behind_first}
+use Rattle.mlr_pattern.proofs.Replacing.{Puts, found_whole, none_whole}
+use Rattle.mlr_pattern.proofs.replace.append_if_found.Goals as goal
+
+pub returns-in_default-clause-none : goal.returns-in_default-clause-none
+returns-in_default-clause-none c =
+    let re = matcher_pattern c.args.matcher.now in
+    let text = c.args.text.now in
+    let by = c.args.by.now in
+    let old = c.args.out.now in
+    let new = c.append_next.new.out in
+    let none = subst (λ r. Answers r (next_match false re text 0) (Puts re text by old new 0)) c.in_default.is c.in_ok-end.ensures.found in
+    let kept = subst (λ r. IfNone r (new ≡ old)) c.in_default.is c.in_ok-end.ensures.none in
+    λ _. (kept, none_whole re text by c.args.which none)
+
+pub returns-clause-found : goal.returns-clause-found
+returns-clause-found c =
+    let re = matcher_pattern c.args.matcher.now in
+    let text = c.args.text.now in
+    let by = c.args.by.now in
+    let old = c.args.out.now in
+    let new = c.append_next.new.out in
+    let end = c.in-Some.end in
+    let found = subst (λ r. Answers r (next_match false re text 0) (Puts re text by old new 0)) c.in-Some.is c.in_ok-end.ensures.found in
+    λ _. c.in_ok-append_behind.ensures.text
+    ∙ ap (λ p. new ++ behind_first c.args.which p text by end) c.in_ok-end.ensures.same
+    ∙ found_whole re text by c.args.which old new end found

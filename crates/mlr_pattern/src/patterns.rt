@@ -1,0 +1,110 @@
+ghost use Rattle.std.specs.Prelude.{◌≡◌, ◌++◌, ◌∷◌, [], length, if◌then◌else◌, is_ok, IfOk, map, slice_get};
+ghost use Rattle.std.specs.Arc.{arc_value};
+ghost use Rattle.std.specs.Option.{option_map};
+ghost use Rattle.regex.specs.Bytes.{regex_pattern};
+ghost use Rattle.mlr_pattern.specs.Several.{patterns_in};
+
+use crate::Pattern;
+use mlr_spec::NoMemory;
+use std::alloc::Global;
+use std::sync::Arc;
+
+/// Patterns, in order, as the options of verbs have them. A copy shares them.
+#[derive(Drop)]
+pub struct Patterns {
+    alloc: Global,
+    patterns: Vec<Arc<Pattern>>,
+}
+
+impl Patterns {
+    /// No patterns. It takes no memory.
+    pub fn new(alloc: Global) -> Self
+        ensures { patterns_in result ≡ [] }
+    {
+        Patterns {
+            alloc,
+            patterns: Vec::new(alloc),
+        }
+    }
+
+    /// How many patterns there are.
+    pub fn len(&self) -> usize
+        ensures { result ≡ length (patterns_in self.now) }
+    {
+        self.patterns.len()
+    }
+
+    /// The pattern at this place, which counts from 0.
+    pub fn at(&self, place: usize) -> Option<&Arc<Pattern>>
+        ensures { option_map (λ pattern. regex_pattern (arc_value pattern.now)) result ≡ slice_get (patterns_in self.now) place }
+    {
+        self.patterns.get(place)
+    }
+
+    /// All patterns.
+    #[inline]
+    pub fn as_slice(&self) -> &[Arc<Pattern>]
+        ensures { map (λ pattern. regex_pattern (arc_value pattern)) result.now ≡ patterns_in self.now }
+    {
+        self.patterns.as_slice()
+    }
+
+    /// Puts a pattern last.
+    pub fn push(&mut self, pattern: Arc<Pattern>) -> Result<(), NoMemory>
+        ensures { patterns_in self.new ≡ (if is_ok result then patterns_in self.old ++ regex_pattern (arc_value pattern) ∷ [] else patterns_in self.old) }
+    {
+        self.patterns.push(pattern)?;
+        Ok(())
+    }
+
+    /// The patterns, as a vector.
+    pub fn into_vec(self) -> Vec<Arc<Pattern>>
+        ensures { map (λ pattern. regex_pattern (arc_value pattern)) result.items ≡ patterns_in self }
+    {
+        self.patterns
+    }
+
+    /// A copy, which shares the patterns.
+    pub fn copy(&self) -> Result<Patterns, NoMemory>
+        ensures { IfOk result (λ copy. patterns_in copy ≡ patterns_in self.now) }
+    {
+        let mut patterns = Vec::with_capacity(self.alloc, self.patterns.len())?;
+        for pattern in &self.patterns {
+            patterns.push(Arc::try_clone(pattern)?)?;
+        }
+        Ok(Patterns {
+            alloc: self.alloc,
+            patterns,
+        })
+    }
+}
+
+#[cfg(test)]
+mod tests {
+    use super::*;
+    use crate::{matches, read_pattern};
+    use std::test::Fail;
+
+    #[test]
+    fn patterns_kept_in_order(rt: HostRuntime) -> Result<(), Fail> {
+        let alloc = rt.alloc();
+        let mut patterns = Patterns::new(alloc);
+        for text in [b"^a".as_slice(), b"b$"] {
+            let Ok(pattern) = read_pattern(alloc, text, false) else {
+                assert!(rt; false);
+                return Ok(());
+            };
+            patterns.push(Arc::new(alloc, pattern)?)?;
+        }
+        let copy = patterns.copy()?;
+        assert_eq!(rt; copy.len(), 2);
+        assert_eq!(rt; copy.as_slice().len(), 2);
+        assert!(rt; copy.at(2).is_none());
+        let Some(first) = copy.at(0) else {
+            return Ok(());
+        };
+        assert!(rt; matches(alloc, first, b"ab")? && !matches(alloc, first, b"ba")?);
+        assert_eq!(rt; patterns.into_vec().len(), 2);
+        Ok(())
+    }
+}

@@ -1,0 +1,9 @@
+mod Filters
+mod Picking
+mod Once
+mod Places
+mod Tests
+mod Labels
+mod Spaceless
+mod Ascending
+mod Deep

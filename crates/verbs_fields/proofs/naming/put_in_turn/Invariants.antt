@@ -1,0 +1,13 @@
+use Rattle.std.proofs.Common.{◌≡◌, [], length}
+use Rattle.mlr_spec.specs.Pairs.{put_each}
+use Rattle.mlr_record.specs.Fields.{pairs_of}
+use Rattle.verbs_fields.specs.Naming.{in_turn, values_of}
+use Rattle.verbs_fields.proofs.naming.put_in_turn.Given as goal
+
+-- what is left comes to what the whole comes to
+abbrev pub invariant-loop-key : goal.invariant-loop-key
+invariant-loop-key l =
+    put_each l.into (in_turn l.last (values_of (pairs_of l.fields.rest.items))) ≡ put_each [] (in_turn l.last (values_of (pairs_of l.fn.fields.items)))
+
+abbrev pub decreases-loop-key : goal.decreases-loop-key
+decreases-loop-key l = length l.fields.rest.items

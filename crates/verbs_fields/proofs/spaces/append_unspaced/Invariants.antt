@@ -1,0 +1,7 @@
+use Rattle.std.proofs.Common.{◌≡◌, ◌++◌, drop}
+use Rattle.verbs_fields.specs.Spaces.{unspaced_text}
+use Rattle.verbs_fields.proofs.spaces.append_unspaced.Given as goal
+
+-- what is left comes to what the whole comes to
+abbrev pub invariant-loop-byte : goal.invariant-loop-byte
+invariant-loop-byte l = l.into ++ unspaced_text l.other (drop l.byte-index l.text) ≡ l.fn.into ++ unspaced_text l.other l.text

@@ -1,0 +1,6 @@
+pub mod Choosing
+pub mod Having
+pub mod Ordering
+pub mod Naming
+pub mod Spaces
+pub mod Sorting

@@ -1,0 +1,130 @@
+ghost use Rattle.std.specs.Prelude.{◌≡◌, ℕ, false, List, [], IfOk, OnOk};
+ghost use Rattle.std.specs.Option.{option_map, unwrap_or};
+ghost use Rattle.std.specs.Str.{bytes_eq};
+ghost use Rattle.mlr_spec.specs.Pairs.{value_at};
+ghost use Rattle.mlr_value.specs.Value.{tree_of};
+ghost use Rattle.mlr_record.specs.Fields.{pair_of, pairs_of};
+ghost use Rattle.verbs_fields.specs.Choosing.{dropped, is_empty, is_sparse, kept, picked, plain_text, put_once, sparse, templated};
+
+use crate::taking::{take_field, take_named};
+use mlr_event::Names;
+use mlr_event::rows::TakenNames;
+use mlr_record::{Field, Record};
+use mlr_spec::NoMemory;
+use mlr_value::{Bytes, Value};
+use std::alloc::Global;
+
+/// The named fields, in the record's order, as `cut -f` gives them. It takes no memory.
+pub fn keep_named(names: &Names, from: Record) -> Record
+    ensures { result ≡ kept names.now from }
+{
+    let mut fields = from.into_fields();
+    let alloc = *fields.allocator();
+    fields.retain(|field| names.has(field.name.as_slice()));
+    Record::of_fields(alloc, fields)
+}
+
+/// The fields that aren't named, as `cut -x -f` gives them. It takes no memory.
+pub fn drop_named(names: &Names, from: Record) -> Record
+    ensures { result ≡ dropped names.now from }
+{
+    let mut fields = from.into_fields();
+    let alloc = *fields.allocator();
+    fields.retain(|field| !names.has(field.name.as_slice()));
+    Record::of_fields(alloc, fields)
+}
+
+/// The named fields in the order of the names, as `cut -o -f` gives them. A name that repeats counts once. It takes room
+/// for the named fields.
+pub fn pick_named(names: &Names, from: Record) -> Result<Record, NoMemory>
+    ensures { IfOk result (λ made. made ≡ picked names.now from) }
+{
+    let mut fields = from.into_fields();
+    let alloc = *fields.allocator();
+    let mut taken = Vec::with_capacity(alloc, names.len().min(fields.len()))?;
+    take_named(names.as_slice(), &mut fields, &mut taken)?;
+    Ok(Record::of_fields(alloc, taken))
+}
+
+/// A field for each name in the order of the names, as `template` gives them: one that the record lacks has the text as
+/// its value. A name that repeats counts once. It takes memory for the record.
+pub fn template(alloc: Global, names: &Names, text: &[u8], from: Record) -> Result<Record, NoMemory>
+    ensures { IfOk result (λ made. made ≡ templated names.now text.now from) }
+{
+    let mut fields = from.into_fields();
+    let mut made = Record::new(alloc)?;
+    put_each_named(alloc, names.as_slice(), text, &mut fields, &mut made)?;
+    Ok(made)
+}
+
+/// Puts a field for each name into a record without fields.
+fn put_each_named(
+    alloc: Global,
+    names: &[Bytes],
+    text: &[u8],
+    fields: &mut Vec<Field>,
+    into: &mut Record,
+) -> Result<(), NoMemory>
+    requires { into.old ≡ [] }
+    ensures { OnOk result (into.new ≡ templated names.now text.now (pairs_of fields.old.items)) }
+{
+    for name in names {
+        put_named(alloc, name.as_slice(), text, fields, into)?;
+    }
+    Ok(())
+}
+
+/// Puts the field of this name last, unless it is there.
+fn put_named(
+    alloc: Global,
+    name: &[u8],
+    text: &[u8],
+    fields: &mut Vec<Field>,
+    into: &mut Record,
+) -> Result<(), NoMemory>
+    ensures into { OnOk result (into.new ≡ put_once name.now (unwrap_or (value_at name.now (pairs_of fields.old.items)) (plain_text text.now)) into.old) }
+    ensures others { OnOk result ((other : List ℕ) → bytes_eq name.now other ≡ false → value_at other (pairs_of fields.new.items) ≡ value_at other (pairs_of fields.old.items)) }
+{
+    if into.has(name) {
+        return Ok(());
+    }
+    let value = match take_field(fields, name) {
+        Some(field) => field.value,
+        None => plain_text(alloc, text)?,
+    };
+    into.push(name, value)
+}
+
+/// The text as a value that isn't inferred.
+fn plain_text(alloc: Global, text: &[u8]) -> Result<Value, NoMemory>
+    ensures { IfOk result (λ value. tree_of value ≡ plain_text text.now) }
+{
+    if text.is_empty() {
+        return Ok(Value::Empty);
+    }
+    Ok(Value::Str(Bytes::copy_of(alloc, text)?))
+}
+
+/// The fields without the empty ones, or without those among the named, as `sparsify` gives them. It takes no memory.
+pub fn sparsify(names: Option<&Names>, from: Record) -> Record
+    ensures { result ≡ sparse (option_map (λ names. names.now) names.entry) from }
+{
+    let mut fields = from.into_fields();
+    let alloc = *fields.allocator();
+    fields.retain(|field| !is_sparse(names, field));
+    Record::of_fields(alloc, fields)
+}
+
+/// Whether a field is chosen and empty.
+fn is_sparse(names: Option<&Names>, field: &Field) -> bool
+    ensures { result ≡ is_sparse (option_map (λ names. names.now) names.entry) (pair_of field.now) }
+{
+    is_empty(&field.value) && names.is_none_or(|names| names.has(field.name.as_slice()))
+}
+
+/// Whether a value is a text of no bytes.
+pub fn is_empty(value: &Value) -> bool
+    ensures { result ≡ is_empty (tree_of value.now) }
+{
+    matches!(value, Value::Empty)
+}

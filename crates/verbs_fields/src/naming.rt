@@ -1,0 +1,162 @@
+ghost use Rattle.std.specs.Prelude.{◌≡◌, ◌<◌, ◌++◌, ◌∷◌, [], true, length, drop, map, IfOk, OnOk, MatchOption};
+ghost use Rattle.std.specs.List.{zip};
+ghost use Rattle.mlr_spec.specs.Pairs.{are_distinct, put_at, put_each};
+ghost use Rattle.mlr_value.specs.Value.{tree_of};
+ghost use Rattle.mlr_record.specs.Fields.{pair_of, pairs_of};
+ghost use Rattle.text_forms.specs.Shown.{shown};
+ghost use Rattle.mlr_event.specs.Reading.{is_among};
+ghost use Rattle.verbs_fields.specs.Choosing.{dropped};
+ghost use Rattle.verbs_fields.specs.Naming.{alternated, in_turn, labelled, renamed, values_of};
+
+use itoa::Buffer;
+use mlr_event::Names;
+use mlr_record::{Field, Record};
+use mlr_spec::NoMemory;
+use mlr_value::{Bytes, Value};
+use std::alloc::Global;
+use text_forms::shown;
+
+/// A name and the one that it becomes.
+#[derive(Drop)]
+pub struct Renaming {
+    pub old: Bytes,
+    pub new: Bytes,
+}
+
+/// Whether no name repeats, as `label` asks for. It takes no memory.
+pub fn are_distinct(names: &Names) -> bool
+    ensures { result ≡ are_distinct names.now }
+{
+    let mut left = names.as_slice();
+    while let Some((name, more)) = left.split_first() {
+        if is_among(more, name.as_slice()) {
+            return false;
+        }
+        left = more;
+    }
+    true
+}
+
+/// The first fields under the names in order, as `label` gives them. Names past the last field have no effect, and a
+/// field past the last name is dropped if it has one of the names. It takes room for the fields and the longer names.
+pub fn label(names: &Names, from: Record) -> Result<Record, NoMemory>
+    requires { are_distinct names.now ≡ true }
+    ensures { IfOk result (λ made. made ≡ labelled names.now from) }
+{
+    let fields = from.into_fields();
+    let alloc = *fields.allocator();
+    let mut made = Vec::with_capacity(alloc, fields.len())?;
+    put_labelled(alloc, names.as_slice(), fields, &mut made)?;
+    Ok(Record::of_fields(alloc, made))
+}
+
+/// Puts the fields under the names behind others.
+fn put_labelled(
+    alloc: Global,
+    names: &[Bytes],
+    fields: Vec<Field>,
+    into: &mut Vec<Field>,
+) -> Result<(), NoMemory>
+    ensures { OnOk result (pairs_of into.new.items ≡ pairs_of into.old.items ++ labelled names.now (pairs_of fields.items)) }
+{
+    let mut left = names;
+    for field in fields {
+        match left.split_first() {
+            Some((name, more)) => {
+                let name = Bytes::copy_of(alloc, name.as_slice())?;
+                into.push(Field {
+                    name,
+                    value: field.value,
+                })?;
+                left = more;
+            }
+            None => push_other(names, field, into)?,
+        }
+    }
+    Ok(())
+}
+
+/// Puts a field last, unless it is named.
+fn push_other(names: &[Bytes], field: Field, into: &mut Vec<Field>) -> Result<(), NoMemory>
+    ensures { OnOk result (pairs_of into.new.items ≡ pairs_of into.old.items ++ dropped names.now (pair_of field ∷ [])) }
+{
+    if !is_among(names, field.name.as_slice()) {
+        into.push(field)?;
+    }
+    Ok(())
+}
+
+/// Whether this name is among them.
+fn is_among(names: &[Bytes], name: &[u8]) -> bool
+    ensures { result ≡ is_among names.now name.now }
+{
+    names.iter().any(|other| name == other.as_slice())
+}
+
+/// The fields renamed one after another, as `rename` gives them: each in its place, and another field of the new name
+/// is taken out. It takes memory for longer names.
+pub fn rename_each(renamings: &[Renaming], from: Record) -> Result<Record, NoMemory>
+    ensures { IfOk result (λ made. made ≡ renamed renamings.now from) }
+{
+    let mut made = from;
+    rename_in(renamings, &mut made)?;
+    Ok(made)
+}
+
+/// Renames the fields of a record one after another.
+fn rename_in(renamings: &[Renaming], fields: &mut Record) -> Result<(), NoMemory>
+    ensures { OnOk result (fields.new ≡ renamed renamings.now fields.old) }
+{
+    for renaming in renamings {
+        fields.rename(renaming.old.as_slice(), renaming.new.as_slice())?;
+    }
+    Ok(())
+}
+
+/// The values in turn as keys and values, as `altkv` gives them: an odd last value gets the number of its pair as its
+/// key, and a key that repeats keeps its place and takes the later value. It takes memory for the record.
+pub fn altkv(alloc: Global, from: Record) -> Result<Record, NoMemory>
+    ensures { IfOk result (λ made. made ≡ alternated from) }
+{
+    let fields = from.into_fields();
+    let count = fields.len();
+    let mut made = Record::new(alloc)?;
+    let mut buffer = Buffer::new();
+    let last = buffer.format(count - count / 2);
+    put_in_turn(alloc, fields, last.as_bytes(), &mut made)?;
+    Ok(made)
+}
+
+/// Puts the values in turn as keys and values into a record without fields.
+fn put_in_turn(
+    alloc: Global,
+    fields: Vec<Field>,
+    last: &[u8],
+    into: &mut Record,
+) -> Result<(), NoMemory>
+    requires { into.old ≡ [] }
+    ensures { OnOk result (into.new ≡ put_each [] (in_turn last.now (values_of (pairs_of fields.items)))) }
+{
+    let mut fields = fields.into_iter();
+    while let Some(key) = fields.next() {
+        put_turn(alloc, key.value, fields.next(), last, into)?;
+    }
+    Ok(())
+}
+
+/// Puts a key and the value that follows it, or, where none does, the last key and this value.
+fn put_turn(
+    alloc: Global,
+    key: Value,
+    next: Option<Field>,
+    last: &[u8],
+    into: &mut Record,
+) -> Result<(), NoMemory>
+    ensures { OnOk result (MatchOption next (into.new ≡ put_at last.now (tree_of key) into.old)
+        (λ field. into.new ≡ put_at (shown (tree_of key)) (tree_of field.value) into.old)) }
+{
+    match next {
+        Some(field) => into.put(shown(alloc, &key)?.as_slice(), field.value),
+        None => into.put(last, key),
+    }
+}

@@ -1,0 +1,182 @@
+ghost use Rattle.std.specs.Prelude.{◌≡◌, ◌++◌, [], true, IfOk, OnOk};
+ghost use Rattle.std.specs.List.{list_any};
+ghost use Rattle.mlr_spec.specs.Pairs.{keys_of, are_distinct};
+ghost use Rattle.mlr_value.specs.Value.{tree_of};
+ghost use Rattle.mlr_record.specs.Fields.{pair_of, pairs_of};
+ghost use Rattle.verbs_fields.specs.Spaces.{has_space, is_spaced, is_spaced_string, takes_keys, takes_values, unspaced, unspaced_byte, unspaced_field, unspaced_text, unspaced_value};
+
+use mlr_record::{Field, Record};
+use mlr_spec::{InferOpts, NoMemory};
+use mlr_value::{Bytes, Value, from_data};
+use std::alloc::Global;
+
+/// What `unspace` takes of a field.
+#[derive(Clone, Copy, Debug, PartialEq, Eq)]
+pub enum UnspacePart {
+    Both,
+    /// `-k`.
+    Keys,
+    /// `-v`.
+    Values,
+}
+
+/// The verb `unspace`: a text in place of each space.
+#[derive(Drop)]
+pub struct Unspace {
+    pub text: Bytes,
+    pub part: UnspacePart,
+}
+
+impl Unspace {
+    /// The record with the text in place of each space. A string that is changed is inferred as data; other values stay
+    /// as they are, maps and arrays too. Of keys that become equal the first gives the place and the last the value. A
+    /// record without spaces is left as it is without memory.
+    pub fn take(&self, alloc: Global, from: Record) -> Result<Record, NoMemory>
+        ensures { IfOk result (λ made. made ≡ unspaced self.now from) }
+    {
+        if !has_spaced(self.part, &from) {
+            return Ok(from);
+        }
+        let mut made = Record::new(alloc)?;
+        put_unspaced(alloc, self, from.into_fields(), &mut made)?;
+        Ok(made)
+    }
+}
+
+/// Whether a record has a space in what is taken of its fields.
+fn has_spaced(part: UnspacePart, from: &Record) -> bool
+    ensures found { result ≡ list_any (is_spaced part) from.now }
+    ensures distinct { are_distinct (keys_of from.now) ≡ true }
+{
+    for place in 0..from.len() {
+        let (name, value) = from.entry(place);
+        if is_spaced(part, name, value) {
+            return true;
+        }
+    }
+    false
+}
+
+/// Whether a field has a space in what is taken of it.
+fn is_spaced(part: UnspacePart, name: &[u8], value: &Value) -> bool
+    ensures { result ≡ is_spaced part (name.now, tree_of value.now) }
+{
+    (takes_keys(part) && has_space(name)) || (takes_values(part) && is_spaced_string(value))
+}
+
+fn takes_keys(part: UnspacePart) -> bool
+    ensures { result ≡ takes_keys part }
+{
+    matches!(part, UnspacePart::Both | UnspacePart::Keys)
+}
+
+fn takes_values(part: UnspacePart) -> bool
+    ensures { result ≡ takes_values part }
+{
+    matches!(part, UnspacePart::Both | UnspacePart::Values)
+}
+
+fn has_space(text: &[u8]) -> bool
+    ensures { result ≡ has_space text.now }
+{
+    text.iter().any(|byte| *byte == b' ')
+}
+
+fn is_spaced_string(value: &Value) -> bool
+    ensures { result ≡ is_spaced_string (tree_of value.now) }
+{
+    match value {
+        Value::Str(text) => has_space(text.as_slice()),
+        _ => false,
+    }
+}
+
+/// Puts the fields without their spaces into a record without fields.
+fn put_unspaced(
+    alloc: Global,
+    unspace: &Unspace,
+    fields: Vec<Field>,
+    into: &mut Record,
+) -> Result<(), NoMemory>
+    requires { into.old ≡ [] }
+    ensures { OnOk result (into.new ≡ unspaced unspace.now (pairs_of fields.items)) }
+{
+    for field in fields {
+        let Field { name, value } = unspaced_field(alloc, unspace, field)?;
+        into.put(name.as_slice(), value)?;
+    }
+    Ok(())
+}
+
+/// The field without its spaces.
+fn unspaced_field(alloc: Global, unspace: &Unspace, field: Field) -> Result<Field, NoMemory>
+    ensures { IfOk result (λ made. pair_of made ≡ unspaced_field unspace.now (pair_of field)) }
+{
+    let other = unspace.text.as_slice();
+    let Field { name, value } = field;
+    let name = if takes_keys(unspace.part) {
+        unspaced_name(alloc, other, name)?
+    } else {
+        name
+    };
+    let value = if takes_values(unspace.part) {
+        unspaced_value(alloc, other, value)?
+    } else {
+        value
+    };
+    Ok(Field { name, value })
+}
+
+/// The name without its spaces.
+fn unspaced_name(alloc: Global, other: &[u8], name: Bytes) -> Result<Bytes, NoMemory>
+    ensures { IfOk result (λ made. made ≡ unspaced_text other.now name) }
+{
+    if has_space(name.as_slice()) {
+        unspaced_text(alloc, other, name.as_slice())
+    } else {
+        Ok(name)
+    }
+}
+
+/// The value without its spaces.
+fn unspaced_value(alloc: Global, other: &[u8], value: Value) -> Result<Value, NoMemory>
+    ensures { IfOk result (λ made. tree_of made ≡ unspaced_value other.now (tree_of value)) }
+{
+    match &value {
+        Value::Str(text) if has_space(text.as_slice()) => {
+            let text = unspaced_text(alloc, other, text.as_slice())?;
+            from_data(alloc, text.as_slice(), InferOpts::plain())
+        }
+        _ => Ok(value),
+    }
+}
+
+/// The text with another in place of each space.
+fn unspaced_text(alloc: Global, other: &[u8], text: &[u8]) -> Result<Bytes, NoMemory>
+    ensures { IfOk result (λ made. made ≡ unspaced_text other.now text.now) }
+{
+    let mut made = Bytes::new(alloc);
+    append_unspaced(other, text, &mut made)?;
+    Ok(made)
+}
+
+/// Puts the text behind `into`, with another in place of each space.
+fn append_unspaced(other: &[u8], text: &[u8], into: &mut Bytes) -> Result<(), NoMemory>
+    ensures { OnOk result (into.new ≡ into.old ++ unspaced_text other.now text.now) }
+{
+    for byte in text {
+        append_byte(other, *byte, into)?;
+    }
+    Ok(())
+}
+
+/// Puts the byte behind `into`, or another text in place of a space.
+fn append_byte(other: &[u8], byte: u8, into: &mut Bytes) -> Result<(), NoMemory>
+    ensures { OnOk result (into.new ≡ into.old ++ unspaced_byte other.now byte) }
+{
+    if byte == b' ' {
+        into.append(other)
+    } else {
+        into.push(byte)
+    }
+}

@@ -1,0 +1,5 @@
+pub mod Changing
+pub mod Matching
+pub mod Grepping
+pub mod Renaming
+pub mod RenamingSteps

@@ -1,0 +1,4 @@
+mod Changing
+mod Decoded
+mod Putting
+mod Flattening

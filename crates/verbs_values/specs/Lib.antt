@@ -1,0 +1,6 @@
+pub mod Changing
+pub mod Filling
+pub mod Dates
+pub mod Json
+pub mod Flattening
+pub mod Unflattening

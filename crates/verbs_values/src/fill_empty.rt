@@ -1,0 +1,51 @@
+ghost use Rattle.std.specs.Prelude.{◌≡◌, true, IfOk};
+ghost use Rattle.verbs_values.specs.Filling.{filled, fill_empty};
+ghost use Rattle.mlr_value.specs.Value.{tree_of};
+
+use crate::change::{Change, change_record};
+use crate::string::string_of;
+use mlr_record::Record;
+use mlr_spec::{InferOpts, NoMemory};
+use mlr_value::{Bytes, Value, from_data};
+use std::alloc::Global;
+
+/// `fill-empty`: gives each empty value a text.
+#[derive(Drop)]
+pub struct FillEmpty {
+    /// `-v`: the text, which is `N/A` by default.
+    pub text: Bytes,
+    /// `-S`: the text is a string, and isn't inferred.
+    pub as_string: bool,
+}
+
+impl FillEmpty {
+    /// What it makes of a record. It takes memory for a text of more than 16 bytes, once for each empty value.
+    pub fn take(&self, alloc: Global, from: Record) -> Result<Record, NoMemory>
+        ensures { IfOk result (λ made. made ≡ fill_empty self.now.text self.now.as_string from) }
+    {
+        change_record(self, alloc, from)
+    }
+}
+
+impl Change for FillEmpty {
+    ghost use Rattle.std.specs.Prelude.{true};
+    ghost use Rattle.verbs_values.specs.Filling.{filled};
+
+    ghost takes = { λ verb name. true };
+
+    ghost image = { λ verb value. filled verb.text verb.as_string value };
+
+    fn takes(&self, _: &[u8]) -> bool {
+        true
+    }
+
+    fn image(&self, alloc: Global, value: Value) -> Result<Value, NoMemory> {
+        match value {
+            Value::Empty if self.as_string => {
+                Ok(string_of(Bytes::copy_of(alloc, self.text.as_slice())?))
+            }
+            Value::Empty => from_data(alloc, self.text.as_slice(), InferOpts::plain()),
+            value => Ok(value),
+        }
+    }
+}

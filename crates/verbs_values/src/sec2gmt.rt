@@ -1,0 +1,74 @@
+ghost use Rattle.std.specs.Prelude.{◌≡◌, IfOk};
+ghost use Rattle.verbs_values.specs.Dates.{sec2gmt_fields, sec2gmtdate_fields};
+
+use crate::change::{Change, change_record};
+use mlr_event::Names;
+use mlr_record::Record;
+use mlr_spec::NoMemory;
+use mlr_time::{sec2gmt, sec2gmtdate};
+use mlr_value::Value;
+use std::alloc::Global;
+
+/// `sec2gmt`: turns the seconds of the named fields into dates with times of day.
+#[derive(Drop)]
+pub struct Sec2Gmt {
+    pub names: Names,
+}
+
+impl Sec2Gmt {
+    /// What it makes of a record. It takes memory for each text.
+    pub fn take(&self, alloc: Global, from: Record) -> Result<Record, NoMemory>
+        ensures { IfOk result (λ made. made ≡ sec2gmt_fields self.now.names from) }
+    {
+        change_record(self, alloc, from)
+    }
+}
+
+impl Change for Sec2Gmt {
+    ghost use Rattle.mlr_event.specs.Reading.{is_among};
+    ghost use Rattle.mlr_time.specs.Times.{sec2gmt};
+
+    ghost takes = { λ verb name. is_among verb.names name };
+
+    ghost image = { λ verb value. sec2gmt value };
+
+    fn takes(&self, name: &[u8]) -> bool {
+        self.names.has(name)
+    }
+
+    fn image(&self, alloc: Global, value: Value) -> Result<Value, NoMemory> {
+        sec2gmt(alloc, value)
+    }
+}
+
+/// `sec2gmtdate`: turns the seconds of the named fields into dates.
+#[derive(Drop)]
+pub struct Sec2GmtDate {
+    pub names: Names,
+}
+
+impl Sec2GmtDate {
+    /// What it makes of a record. It takes no memory.
+    pub fn take(&self, alloc: Global, from: Record) -> Result<Record, NoMemory>
+        ensures { IfOk result (λ made. made ≡ sec2gmtdate_fields self.now.names from) }
+    {
+        change_record(self, alloc, from)
+    }
+}
+
+impl Change for Sec2GmtDate {
+    ghost use Rattle.mlr_event.specs.Reading.{is_among};
+    ghost use Rattle.mlr_time.specs.Times.{sec2gmtdate};
+
+    ghost takes = { λ verb name. is_among verb.names name };
+
+    ghost image = { λ verb value. sec2gmtdate value };
+
+    fn takes(&self, name: &[u8]) -> bool {
+        self.names.has(name)
+    }
+
+    fn image(&self, alloc: Global, value: Value) -> Result<Value, NoMemory> {
+        sec2gmtdate(alloc, value)
+    }
+}

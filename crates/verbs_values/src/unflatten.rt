@@ -1,0 +1,32 @@
+ghost use Rattle.std.specs.Prelude.{◌≡◌, ◌<◌, length, IfOk};
+ghost use Rattle.verbs_values.specs.Unflattening.{unflatten};
+
+use mlr_event::Names;
+use mlr_record::Record;
+use mlr_spec::NoMemory;
+use mlr_value::Bytes;
+
+/// `unflatten`: puts each value at the path that the name of its field spells.
+#[derive(Drop)]
+pub struct Unflatten {
+    /// `-f`: the first parts of the names of the fields that it takes, or all fields.
+    pub names: Option<Names>,
+    /// `-s`: what stands between the parts of a name.
+    pub separator: Bytes,
+}
+
+impl Unflatten {
+    /// What it makes of a record. It takes memory only for a record in which a field that it takes changes.
+    pub fn take(&self, from: Record) -> Result<Record, NoMemory>
+        requires { 0 < length self.now.separator }
+        ensures { IfOk result (λ made. made ≡ unflatten self.now.separator self.now.names from) }
+    {
+        let separator = self.separator.as_slice();
+        let mut record = from;
+        match &self.names {
+            Some(names) => record.unflatten_named(separator, names.as_slice())?,
+            None => record.unflatten(separator)?,
+        }
+        Ok(record)
+    }
+}
