@@ -1,0 +1,9 @@
+use Rattle.verbs_stream.specs.Trying.{CanStep}
+use Rattle.verbs_stream.proofs.trying.step_lines.Given as goal
+
+-- it may be given more
+abbrev pub invariant-loop-nr : goal.invariant-loop-nr
+invariant-loop-nr l =
+    (goal.iterator-loop-nr).can_next l.nr-iterator ×
+    (goal.iterator-loop-nr).is_finite l.nr-iterator ×
+    CanStep l.verb

@@ -1,0 +1,4 @@
+pub mod Streaming
+pub mod Laws
+pub mod Trying
+pub mod Each

@@ -1,0 +1,50 @@
+-- Verbs that give records for each record, by the records before it, and nothing at the end.
+use Rattle.std.specs.Prelude.{◌≡◌, ℕ, Bool, true, false, List, [], ◌∷◌, ◌++◌, map}
+use Rattle.std.specs.List.{flat_map}
+use Rattle.mlr_spec.specs.Tree.{Tree}
+use Rattle.mlr_event.specs.declared.event.Ctx.{Ctx}
+use Rattle.mlr_event.specs.declared.event.Event.{Event}
+use Rattle.mlr_event.specs.declared.event.Event.TheVariants as event
+use Rattle.mlr_event.specs.Verb.{Verb}
+
+-- a record
+abbrev pub Fields : Type 0
+Fields = List (List ℕ × Tree)
+
+-- what a record gives after others, and whether more records give nothing after them
+pub record Streaming : Type 0 where
+  pub gives : List Fields → Fields → List Fields
+  pub closed : List Fields → Bool
+
+-- the records among events
+abbrev pub record_in : Event → List Fields
+record_in (event.Rec fields ctx) = fields ∷ []
+record_in (event.Text text) = []
+record_in (event.Out target piece) = []
+record_in (event.End ctx) = []
+record_in (event.Fault fault) = []
+
+abbrev pub records_in : List Event → List Fields
+records_in events = flat_map record_in events
+
+-- records with the context of the one that gave them
+abbrev pub rows : Ctx → List Fields → List Event
+rows ctx records = map (λ fields. event.Rec fields ctx) records
+
+-- such a verb over events
+abbrev pub verb_of : Streaming → Verb
+verb_of streaming = record {
+  first = [];
+  now = λ before fields ctx. rows ctx (streaming.gives (records_in before) fields);
+  late = λ before ctx. [];
+  closed = λ before. streaming.closed (records_in before);
+  effects = false;
+}
+
+-- a verb that is closed gives nothing more
+abbrev pub StaysShut : Streaming → Type 0
+StaysShut streaming = (before behind : List Fields) (fields : Fields) → streaming.closed before ≡ true → streaming.gives (before ++ behind) fields ≡ []
+
+-- a verb that keeps no state, and never closes
+abbrev pub each : (Fields → List Fields) → Streaming
+each gives = record { gives = λ before fields. gives fields; closed = λ before. false }

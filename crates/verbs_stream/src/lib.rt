@@ -1,0 +1,26 @@
+//! The streaming verbs: each gives records for each record, by the records before it, and nothing at the end. `Spec` says
+//! which verb, with its options, and `StreamVerb` is the verb in a chain.
+#![tactic(auto)]
+
+#[cfg(test)]
+mod fields_tests;
+mod give;
+mod options;
+mod repeat;
+mod spec;
+mod streaming;
+#[cfg(test)]
+mod thread_tests;
+#[cfg(test)]
+mod trying;
+#[cfg(test)]
+mod values_tests;
+mod verb;
+#[cfg(test)]
+mod verb_tests;
+
+pub use spec::{
+    Cut, CutFields, HavingFields, Label, Rename, Reorder, Repeat, SortWithinRecords, Sparsify,
+    Spec, Template,
+};
+pub use verb::StreamVerb;

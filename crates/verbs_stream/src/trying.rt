@@ -1,0 +1,132 @@
+//! What tests do with a verb: records of texts go in, and what comes out is shown as texts.
+ghost use Rattle.std.specs.Prelude.{◌≡◌, OnOk};
+ghost use Rattle.verbs_stream.specs.Each.{IsSound};
+ghost use Rattle.verbs_stream.specs.Trying.{CanStep};
+
+use crate::{Spec, StreamVerb};
+use mlr_event::{Ctx, Event, Events, Names, Step};
+use mlr_pattern::{Pattern, read_pattern};
+use mlr_record::Record;
+use mlr_spec::{InferOpts, NoMemory};
+use mlr_value::{Bytes, from_data};
+use std::alloc::Global;
+use std::sync::Arc;
+use std::test::Fail;
+use text_forms::append_shown;
+
+/// The record of a line such as `a=1,b=xyz`, whose values are inferred.
+pub(crate) fn record_of(alloc: Global, line: &str) -> Result<Record, NoMemory> {
+    let mut record = Record::new(alloc)?;
+    for field in line.split(',') {
+        if let Some((name, text)) = field.split_once('=') {
+            let value = from_data(alloc, text.as_bytes(), InferOpts::plain())?;
+            record.put(name.as_bytes(), value)?;
+        }
+    }
+    Ok(record)
+}
+
+/// Puts a record behind `text` as `a=1,b=xyz` with LF.
+fn append_record(record: &Record, text: &mut Bytes) -> Result<(), NoMemory> {
+    for place in 0..record.len() {
+        let (name, value) = record.entry(place);
+        if place > 0 {
+            text.append(b",")?;
+        }
+        text.append(name)?;
+        text.append(b"=")?;
+        append_shown(value, text)?;
+    }
+    text.append(b"\n")
+}
+
+/// What came out, a line for each event.
+pub(crate) fn shown(alloc: Global, out: &Events) -> Result<Bytes, NoMemory> {
+    let mut text = Bytes::new(alloc);
+    for place in 0..out.len() {
+        match out.at(place) {
+            Some(Event::Rec(record, _)) => append_record(record, &mut text)?,
+            Some(Event::Text(line)) => text.append(line.as_slice())?,
+            Some(Event::End(_)) => text.append(b"end\n")?,
+            _ => text.append(b"other\n")?,
+        }
+    }
+    Ok(text)
+}
+
+/// Gives a verb a record with its number.
+fn step_record(
+    verb: &mut StreamVerb,
+    record: Record,
+    nr: u64,
+    out: &mut Events,
+) -> Result<(), NoMemory>
+    requires { CanStep verb.old }
+    ensures { OnOk result (CanStep verb.new) }
+{
+    let at = Ctx {
+        nr,
+        fnr: nr,
+        filenum: 1,
+    };
+    verb.step(Event::Rec(record, at), out)
+}
+
+/// Gives a verb a record for each line.
+fn step_lines(
+    alloc: Global,
+    verb: &mut StreamVerb,
+    lines: &str,
+    out: &mut Events,
+) -> Result<(), NoMemory>
+    requires { CanStep verb.old }
+    ensures { OnOk result (CanStep verb.new) }
+{
+    for (nr, line) in lines.split('\n').enumerate() {
+        step_record(verb, record_of(alloc, line)?, nr as u64, out)?;
+    }
+    Ok(())
+}
+
+/// What the verb of these options makes of records, a line for each, and of the end.
+pub(crate) fn tried(alloc: Global, spec: Spec, lines: &str) -> Result<Bytes, NoMemory>
+    requires { IsSound spec }
+{
+    let mut verb = StreamVerb::new(alloc, spec)?;
+    let mut out = Events::new(alloc);
+    step_lines(alloc, &mut verb, lines, &mut out)?;
+    let at = Ctx {
+        nr: 0,
+        fnr: 0,
+        filenum: 1,
+    };
+    verb.step(Event::End(at), &mut out)?;
+    shown(alloc, &out)
+}
+
+/// The names of a text such as `a,b`.
+pub(crate) fn names(alloc: Global, text: &str) -> Result<Names, NoMemory> {
+    let mut made = Names::new(alloc);
+    for name in text.split(',') {
+        made.push(Bytes::copy_of(alloc, name.as_bytes())?)?;
+    }
+    Ok(made)
+}
+
+/// A pattern that is one.
+pub(crate) fn pattern(alloc: Global, text: &[u8]) -> Result<Arc<Pattern>, Fail> {
+    match read_pattern(alloc, text, false) {
+        Ok(pattern) => Ok(Arc::new(alloc, pattern)?),
+        Err(_) => Err(Fail::new("no pattern")),
+    }
+}
+
+/// Whether the verb of these options makes these lines of those, before the end.
+pub(crate) fn makes(alloc: Global, spec: Spec, lines: &str, want: &str) -> Result<bool, NoMemory>
+    requires { IsSound spec }
+{
+    let made = tried(alloc, spec, lines)?;
+    let mut whole = Bytes::copy_of(alloc, want.as_bytes())?;
+    whole.append(b"end\n")?;
+    Ok(made == whole)
+}
