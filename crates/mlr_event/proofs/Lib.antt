@@ -3,4 +3,6 @@ pub mod Putting
 pub mod Streams
 pub mod Naming
 pub mod Making
+pub mod Ordered
 mod Tac
+pub mod Crosses

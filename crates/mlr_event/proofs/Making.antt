@@ -13,7 +13,7 @@ use Rattle.mlr_event.specs.Verb.{IsQuiet, Verb, gives, is_fault, is_last, is_ope
 pub no-fault : (xs ys : List Event) → list_any is_fault xs ≡ false → then_unless_fault xs ys ≡ xs ++ ys
 no-fault xs ys none = ap (λ t. cond t xs (xs ++ ys)) none
 
-then-nothing : (xs : List Event) → then_unless_fault xs [] ≡ xs
+pub then-nothing : (xs : List Event) → then_unless_fault xs [] ≡ xs
 then-nothing xs = elim (cases_Bool (list_any is_fault xs)) as (λ _. then_unless_fault xs [] ≡ xs) [
   | inl some ↦ ap (λ t. cond t xs (xs ++ [])) some
   | inr none ↦ no-fault xs [] none ∙ append-nil xs

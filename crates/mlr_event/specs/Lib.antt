@@ -3,4 +3,5 @@ pub mod Rows
 pub mod Stream
 pub mod Adding
 pub mod Verb
+pub mod Parts
 pub mod Models

@@ -6,7 +6,8 @@ use Rattle.mlr_spec.specs.Tree.{Tree}
 use Rattle.mlr_event.specs.declared.event.Ctx.{Ctx}
 use Rattle.mlr_event.specs.declared.event.Event.{Event}
 use Rattle.mlr_event.specs.declared.event.Event.TheVariants as event
-use Rattle.mlr_event.specs.Verb.{IsQuiet, StaysClosed, Verb, gives, is_open, is_record}
+use Rattle.mlr_event.specs.Parts.{records-part}
+use Rattle.mlr_event.specs.Verb.{IsQuiet, KeepsOrder, StaysClosed, Verb, gives, is_open, is_record}
 
 -- each record as it is
 abbrev pub cat : Verb
@@ -14,6 +15,9 @@ cat = record { first = []; now = λ before fields ctx. event.Rec fields ctx ∷ 
 
 pub cat-quiet : IsQuiet cat
 cat-quiet none = record { first = refl; now = λ before fields ctx. refl; late = λ before ctx. refl }
+
+pub cat-orderly : KeepsOrder cat
+cat-orderly = record { first = refl; now = λ before fields ctx. refl; late = λ before ctx. refl }
 
 pub cat-closes : StaysClosed cat
 cat-closes before behind is = absurd (let e : false ≡ true = is in cc)
@@ -65,6 +69,9 @@ records-alone (row ∷ rows) = list_all-append is_record (last_first rows) (even
 
 pub tac-quiet : IsQuiet tac
 tac-quiet none = record { first = refl; now = λ before fields ctx. refl; late = λ before ctx. records-alone (flat_map row_of before) }
+
+pub tac-orderly : KeepsOrder tac
+tac-orderly = record { first = refl; now = λ before fields ctx. refl; late = λ before ctx. records-part (last_first (flat_map row_of before)) (records-alone (flat_map row_of before)) }
 
 pub tac-closes : StaysClosed tac
 tac-closes before behind is = absurd (let e : false ≡ true = is in cc)

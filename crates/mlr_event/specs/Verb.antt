@@ -1,5 +1,5 @@
 -- What a verb makes of a list of events.
-use Rattle.std.specs.Prelude.{◌≡◌, ℕ, Bool, true, false, not, if◌then◌else◌, List, [], ◌∷◌, ◌++◌}
+use Rattle.std.specs.Prelude.{◌≡◌, ℕ, Bool, true, false, not, ◌&&◌, if◌then◌else◌, List, [], ◌∷◌, ◌++◌}
 use Rattle.std.specs.List.{list_any, list_all, filter}
 use Rattle.mlr_spec.specs.Tree.{Tree}
 use Rattle.mlr_event.specs.declared.event.Ctx.{Ctx}
@@ -29,6 +29,13 @@ is_fault (event.Out target piece) = false
 is_fault (event.End ctx) = false
 is_fault (event.Fault fault) = true
 
+abbrev pub is_end : Event → Bool
+is_end (event.Rec fields ctx) = false
+is_end (event.Text text) = false
+is_end (event.Out target piece) = false
+is_end (event.End ctx) = true
+is_end (event.Fault fault) = false
+
 -- an end or a fault is the last event of a list; a list without one is open
 abbrev pub is_last : Event → Bool
 is_last (event.Rec fields ctx) = false
@@ -39,6 +46,16 @@ is_last (event.Fault fault) = true
 
 abbrev pub is_open : List Event → Bool
 is_open events = not (list_any is_last events)
+
+-- a list of events: an end or a fault is its last
+abbrev pub is_list : List Event → Bool
+is_list [] = true
+is_list (e ∷ []) = true
+is_list (e ∷ f ∷ events) = not (is_last e) && is_list (f ∷ events)
+
+-- events that may stand inside a list: no end is among them, and a fault is the last
+abbrev pub is_part : List Event → Bool
+is_part events = not (list_any is_end events) && is_list events
 
 -- nothing comes behind a fault
 abbrev pub then_unless_fault : List Event → List Event → List Event
@@ -69,6 +86,12 @@ pub record GivesRecords (verb : Verb) : Type 0 where
 
 abbrev pub IsQuiet : Verb → Type 0
 IsQuiet verb = verb.effects ≡ false → GivesRecords verb
+
+-- a verb makes lists of lists: of its own it gives no end, and nothing behind a fault
+pub record KeepsOrder (verb : Verb) : Type 0 where
+  pub first : is_part verb.first ≡ true
+  pub now : (before : List Event) (fields : List (List ℕ × Tree)) (ctx : Ctx) → is_part (verb.now before fields ctx) ≡ true
+  pub late : (before : List Event) (ctx : Ctx) → is_part (verb.late before ctx) ≡ true
 
 -- a verb that is closed gives nothing more
 abbrev pub StaysClosed : Verb → Type 0

@@ -1,5 +1,5 @@
-ghost use Rattle.std.specs.Prelude.{◌≡◌, ◌++◌, ◌∷◌, [], length, if◌then◌else◌, is_ok, slice_get};
-ghost use Rattle.std.specs.Option.{option_map};
+ghost use Rattle.std.specs.Prelude.{◌≡◌, ◌++◌, ◌∷◌, [], length, if◌then◌else◌, is_ok, slice_get, None, reverse};
+ghost use Rattle.std.specs.Option.{option_map, option_to_list};
 
 use crate::Event;
 use mlr_spec::NoMemory;
@@ -55,6 +55,32 @@ impl Events {
         ensures { self.new ≡ (if is_ok result then self.old ++ event ∷ [] else self.old) }
     {
         self.events.push(event)?;
+        Ok(())
+    }
+
+    /// Takes the last event out, if there is one. It takes no memory.
+    #[inline]
+    pub fn pop(&mut self) -> Option<Event>
+        ensures events { self.old ≡ self.new ++ option_to_list result }
+        ensures none { result ≡ None → self.old ≡ [] }
+    {
+        self.events.pop()
+    }
+
+    /// Turns the order round. It takes no memory.
+    #[inline]
+    pub fn reverse(&mut self)
+        ensures { self.new ≡ reverse self.old }
+    {
+        self.events.reverse();
+    }
+
+    /// Puts all events of another list last, and leaves none in it.
+    pub fn append(&mut self, other: &mut Events) -> Result<(), NoMemory>
+        ensures events { self.new ≡ (if is_ok result then self.old ++ other.old else self.old) }
+        ensures other { other.new ≡ (if is_ok result then [] else other.old) }
+    {
+        self.events.append(&mut other.events)?;
         Ok(())
     }
 

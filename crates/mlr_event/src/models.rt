@@ -27,7 +27,7 @@ impl Cat {
 impl Step for Cat {
     ghost use Rattle.std.specs.Prelude.{◌≡◌, [], ◌∷◌, false, true};
     ghost use Rattle.mlr_event.specs.declared.event.Event.TheVariants as event;
-    ghost use Rattle.mlr_event.specs.Models.{cat, cat-closes, cat-quiet, never-both};
+    ghost use Rattle.mlr_event.specs.Models.{cat, cat-closes, cat-orderly, cat-quiet, never-both};
 
     ghost verb = { λ s. cat };
 
@@ -38,6 +38,8 @@ impl Step for Cat {
     ghost whole = { λ s given holds is. never-both s.broken holds is };
 
     ghost quiet = { λ s. cat-quiet };
+
+    ghost orderly = { λ s. cat-orderly };
 
     ghost closes = { λ s. cat-closes };
 
@@ -83,7 +85,7 @@ impl Tac {
 
 impl Step for Tac {
     ghost use Rattle.std.specs.Prelude.{◌≡◌, [], ◌∷◌, false, true};
-    ghost use Rattle.mlr_event.specs.Models.{TacStands, never-both, tac, tac-closes, tac-quiet};
+    ghost use Rattle.mlr_event.specs.Models.{TacStands, never-both, tac, tac-closes, tac-orderly, tac-quiet};
 
     ghost verb = { λ s. tac };
 
@@ -94,6 +96,8 @@ impl Step for Tac {
     ghost whole = { λ s given holds is. never-both s.broken holds.0 is };
 
     ghost quiet = { λ s. tac-quiet };
+
+    ghost orderly = { λ s. tac-orderly };
 
     ghost closes = { λ s. tac-closes };
 

@@ -1,7 +1,7 @@
 ghost use Rattle.std.specs.Prelude.{◌≡◌, ◌↔◌, ◌++◌, ◌∷◌, [], List, true, IsTrue, OnOk, OnErr};
 ghost use Rattle.mlr_event.specs.declared.event.Event.{Event as SpecEvent};
 ghost use Rattle.mlr_event.specs.Adding.{Adds};
-ghost use Rattle.mlr_event.specs.Verb.{IsQuiet, StaysClosed, Verb, is_open, made};
+ghost use Rattle.mlr_event.specs.Verb.{IsQuiet, KeepsOrder, StaysClosed, Verb, is_open, made};
 
 use crate::{Event, Events};
 use mlr_spec::NoMemory;
@@ -43,6 +43,9 @@ pub trait Step {
 
     /// Without effects it gives records alone.
     ghost quiet: { (s : Self) → IsQuiet (verb s) };
+
+    /// Of its own it gives no end, and nothing behind a fault.
+    ghost orderly: { (s : Self) → KeepsOrder (verb s) };
 
     /// Once it is closed it gives nothing more.
     ghost closes: { (s : Self) → StaysClosed (verb s) };

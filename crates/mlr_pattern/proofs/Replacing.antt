@@ -1,5 +1,5 @@
 -- One match after another, as they are replaced.
-use Rattle.std.proofs.Common.{◌≡◌, ℕ, zero, suc, ◌+◌, ◌-◌, ◌<◌, ◌≤◌, ◌==◌, nat_lt, false, List, ◌++◌, take, drop, length, Option, None, Some, Result, Ok, Err, is_ok, OnOk, IfSome, slice_range, if◌then◌else◌, sym, ap, ap₂, ◌∙◌, subst, arith, append_assoc, ne_eqb}
+use Rattle.std.proofs.Common.{◌≡◌, ℕ, zero, suc, ◌+◌, ◌-◌, ◌<◌, ◌≤◌, ◌==◌, nat_lt, false, List, ◌++◌, take, drop, length, Option, None, Some, Result, Ok, Err, is_ok, is_some, OnOk, IfSome, slice_range, if◌then◌else◌, sym, ap, ap₂, ◌∙◌, subst, arith, append_assoc, ne_eqb}
 use Rattle.std.proofs.lemmas.Bool.{cond-true, cond-false, le-ltb, lt-ltb}
 use Rattle.std.proofs.lemmas.Option.{none-some, same_Some}
 use mathlib.Core.Path.{fun_ext}
@@ -133,10 +133,18 @@ module _ (re : Re) (text by : List ℕ) where
       ∙ ap (λ ms. old ++ replaced text by (take 1 ms)) (sym matches)
   found_whole All old new end found = step 0 end old new _ found (whole_from_start old)
 
+  first_is : next_match false re text 0 ≡ find re text 0
+  first_is = next_same re text false 0 (λ m some. omega arith)
+
   pub none_whole : (which : Which) → next_match false re text 0 ≡ None → replaced text by (matches_of which re text) ≡ text
   unfolding replaced_by
   none_whole First none = ap (λ ms. replaced text by (take 1 ms)) (sym (matches_after_bytes re text) ∙ matches_after_none re text false 0 none)
   none_whole All none = ap (λ ms. replaced text by ms) (sym (matches_after_bytes re text) ∙ matches_after_none re text false 0 none)
+
+  -- the first of all matches is found where the pattern matches somewhere
+  pub found_first : (old new : List ℕ) (r : Option ℕ) → Answers r (next_match false re text 0) (Puts old new 0) → is_some r ≡ is_some (find re text 0)
+  found_first old new None found = sym (ap is_some (sym first_is ∙ found))
+  found_first old new (Some end) found = sym (ap is_some (sym first_is ∙ found.1))
 
 -- captures are the groups of their match
 module _ (text : List ℕ) (m : Match) (found : Captures) (is : IsCapturesOf text m found) where

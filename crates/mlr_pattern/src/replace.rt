@@ -67,6 +67,7 @@ pub fn replaced_if_found(
 ) -> Result<Option<Bytes>, NoMemory>
     ensures text { IfOk result (λ made. unwrap_or made text.now
         ≡ replaced text.now by.now (matches_of which (matcher_pattern matcher.old) text.now)) }
+    ensures found { IfOk result (λ made. is_some made ≡ is_some (find (matcher_pattern matcher.old) text.now 0)) }
     ensures same { matcher_pattern matcher.new ≡ matcher_pattern matcher.old }
 {
     let mut out = Bytes::new(alloc);
@@ -86,6 +87,7 @@ fn append_if_found(
         ++ replaced text.now by.now (matches_of which (matcher_pattern matcher.old) text.now)) }
     ensures none { IfOk result (λ found. found ≡ false → (out.new ≡ out.old)
         × (replaced text.now by.now (matches_of which (matcher_pattern matcher.old) text.now) ≡ text.now)) }
+    ensures matched { IfOk result (λ found. found ≡ is_some (find (matcher_pattern matcher.old) text.now 0)) }
     ensures same { matcher_pattern matcher.new ≡ matcher_pattern matcher.old }
 {
     let Some(end) = append_next(matcher, text, by, 0, out)? else {

@@ -6,3 +6,4 @@ mod Children
 mod Unflattening
 mod NamedPaths
 mod RoundTrip
+pub mod Crosses

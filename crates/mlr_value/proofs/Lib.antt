@@ -5,3 +5,4 @@ pub mod Columns
 pub mod Depth
 mod Fronts
 mod Overlaps
+pub mod Crosses

@@ -1,7 +1,8 @@
-ghost use Rattle.std.specs.Prelude.{◌≡◌, ◌++◌, IfOk, IfSome, OnOk};
+ghost use Rattle.std.specs.Prelude.{◌≡◌, ◌++◌, is_some, IfOk, IfSome, OnOk};
 ghost use Rattle.mlr_spec.specs.Tree.{is_collection};
+ghost use Rattle.mlr_spec.specs.Tree as tree;
 ghost use Rattle.mlr_value.specs.Value.{int_text, tree_of};
-ghost use Rattle.text_forms.specs.Shown.{shown};
+ghost use Rattle.text_forms.specs.Shown.{holds_text, shown};
 
 use mlr_json::append_json_value;
 use mlr_spec::{JsonStyle, NoMemory};
@@ -41,10 +42,12 @@ fn append_printed(value: &Value, out: &mut Bytes) -> Result<(), NoMemory>
     }
 }
 
-/// The text of a value that holds it, so that nothing need be printed.
+/// The text of a value that holds it, so that nothing need be printed. A value that holds none is absent, a boolean, an
+/// error, a map, an array, or an int that arithmetic made.
 #[inline(always)]
 pub fn held_text(value: &Value) -> Option<&[u8]>
-    ensures { IfSome result (λ text. text.now ≡ shown (tree_of value.now)) }
+    ensures text { IfSome result (λ text. text.now ≡ shown (tree_of value.now)) }
+    ensures held { is_some result ≡ holds_text (tree_of value.now) }
 {
     match value {
         Value::Empty => Some(b""),
@@ -57,7 +60,8 @@ pub fn held_text(value: &Value) -> Option<&[u8]>
 /// How an int was spelled, unless it is printed in decimal.
 #[inline(always)]
 fn held_spelling(int: &IntValue) -> Option<&[u8]>
-    ensures { IfSome result (λ text. text.now ≡ int_text int.now) }
+    ensures text { IfSome result (λ text. text.now ≡ int_text int.now) }
+    ensures held { is_some result ≡ holds_text (tree.int int.now.n int.now.spelling) }
 {
     if int.spelling.is_empty() {
         None

@@ -5,5 +5,5 @@ mod Places
 mod Tests
 mod Labels
 mod Spaceless
-mod Ascending
+pub mod Ascending
 mod Deep

@@ -1,11 +1,13 @@
 -- Which fields of a record stay, and in which order.
-use Rattle.std.specs.Prelude.{ℕ, Bool, true, false, not, ◌&&◌, if◌then◌else◌, List, [], ◌∷◌, ◌++◌, map, Option, Some, None}
+use Rattle.std.specs.Prelude.{ℕ, Bool, true, false, not, ◌&&◌, if◌then◌else◌, List, [], ◌∷◌, ◌++◌, map, Option}
 use Rattle.std.specs.List.{filter, filter_map}
 use Rattle.std.specs.Option.{option_map, unwrap_or}
 use Rattle.std.specs.Str.{bytes_eq}
-use Rattle.mlr_spec.specs.Tree.{Tree, empty, string}
+use Rattle.mlr_spec.specs.Tree.{Tree, empty}
 use Rattle.mlr_spec.specs.Pairs.{value_at, keys_of}
+use Rattle.mlr_spec.specs.JsonGrammar.{text_value}
 use Rattle.mlr_event.specs.Reading.{is_among}
+use Rattle.verbs_base.specs.Changing.{is_taken}
 
 -- the named fields, in the record's order
 abbrev pub kept : List (List ℕ) → List (List ℕ × Tree) → List (List ℕ × Tree)
@@ -28,14 +30,9 @@ named pairs name = option_map (λ value. (name, value)) (value_at name pairs)
 abbrev pub picked : List (List ℕ) → List (List ℕ × Tree) → List (List ℕ × Tree)
 picked names pairs = filter_map (named pairs) (once names)
 
--- a text that isn't inferred: a string, or empty if it has no bytes
-abbrev pub plain_text : List ℕ → Tree
-plain_text [] = empty
-plain_text (b ∷ text) = string (b ∷ text)
-
--- a field for each name, in the order of the names; one that is missing has the text
+-- a field for each name, in the order of the names; one that is missing has the text, which isn't inferred
 abbrev pub templated : List (List ℕ) → List ℕ → List (List ℕ × Tree) → List (List ℕ × Tree)
-templated names text pairs = map (λ name. (name, unwrap_or (value_at name pairs) (plain_text text))) (once names)
+templated names text pairs = map (λ name. (name, unwrap_or (value_at name pairs) (text_value text))) (once names)
 
 -- the pairs with one more, unless its name is there
 abbrev pub put_once : List ℕ → Tree → List (List ℕ × Tree) → List (List ℕ × Tree)
@@ -45,15 +42,10 @@ abbrev pub is_empty : Tree → Bool
 is_empty empty = true
 is_empty _ = false
 
--- whether a field is one of the named, or of all where there are no names
-abbrev pub is_chosen : Option (List (List ℕ)) → List ℕ → Bool
-is_chosen None name = true
-is_chosen (Some names) name = is_among names name
-
--- a chosen field that is empty
+-- a field that is taken and empty
 abbrev pub is_sparse : Option (List (List ℕ)) → List ℕ × Tree → Bool
-is_sparse names pair = is_empty pair.1 && is_chosen names pair.0
+is_sparse names pair = is_empty pair.1 && is_taken names pair.0
 
--- the fields without the empty ones among the chosen
+-- the fields without the empty ones among those that are taken
 abbrev pub sparse : Option (List (List ℕ)) → List (List ℕ × Tree) → List (List ℕ × Tree)
 sparse names pairs = filter (λ pair. not (is_sparse names pair)) pairs

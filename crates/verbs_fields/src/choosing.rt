@@ -1,10 +1,11 @@
 ghost use Rattle.std.specs.Prelude.{◌≡◌, ℕ, false, List, [], IfOk, OnOk};
 ghost use Rattle.std.specs.Option.{option_map, unwrap_or};
 ghost use Rattle.std.specs.Str.{bytes_eq};
+ghost use Rattle.mlr_spec.specs.JsonGrammar.{text_value};
 ghost use Rattle.mlr_spec.specs.Pairs.{value_at};
 ghost use Rattle.mlr_value.specs.Value.{tree_of};
 ghost use Rattle.mlr_record.specs.Fields.{pair_of, pairs_of};
-ghost use Rattle.verbs_fields.specs.Choosing.{dropped, is_empty, is_sparse, kept, picked, plain_text, put_once, sparse, templated};
+ghost use Rattle.verbs_fields.specs.Choosing.{dropped, is_empty, is_sparse, kept, picked, put_once, sparse, templated};
 
 use crate::taking::{take_field, take_named};
 use mlr_event::Names;
@@ -13,6 +14,7 @@ use mlr_record::{Field, Record};
 use mlr_spec::NoMemory;
 use mlr_value::{Bytes, Value};
 use std::alloc::Global;
+use verbs_base::{is_taken, string_of};
 
 /// The named fields, in the record's order, as `cut -f` gives them. It takes no memory.
 pub fn keep_named(names: &Names, from: Record) -> Record
@@ -82,7 +84,7 @@ fn put_named(
     fields: &mut Vec<Field>,
     into: &mut Record,
 ) -> Result<(), NoMemory>
-    ensures into { OnOk result (into.new ≡ put_once name.now (unwrap_or (value_at name.now (pairs_of fields.old.items)) (plain_text text.now)) into.old) }
+    ensures into { OnOk result (into.new ≡ put_once name.now (unwrap_or (value_at name.now (pairs_of fields.old.items)) (text_value text.now)) into.old) }
     ensures others { OnOk result ((other : List ℕ) → bytes_eq name.now other ≡ false → value_at other (pairs_of fields.new.items) ≡ value_at other (pairs_of fields.old.items)) }
 {
     if into.has(name) {
@@ -90,19 +92,9 @@ fn put_named(
     }
     let value = match take_field(fields, name) {
         Some(field) => field.value,
-        None => plain_text(alloc, text)?,
+        None => string_of(Bytes::copy_of(alloc, text)?),
     };
     into.push(name, value)
-}
-
-/// The text as a value that isn't inferred.
-fn plain_text(alloc: Global, text: &[u8]) -> Result<Value, NoMemory>
-    ensures { IfOk result (λ value. tree_of value ≡ plain_text text.now) }
-{
-    if text.is_empty() {
-        return Ok(Value::Empty);
-    }
-    Ok(Value::Str(Bytes::copy_of(alloc, text)?))
 }
 
 /// The fields without the empty ones, or without those among the named, as `sparsify` gives them. It takes no memory.
@@ -115,11 +107,11 @@ pub fn sparsify(names: Option<&Names>, from: Record) -> Record
     Record::of_fields(alloc, fields)
 }
 
-/// Whether a field is chosen and empty.
+/// Whether a field is taken and empty.
 fn is_sparse(names: Option<&Names>, field: &Field) -> bool
     ensures { result ≡ is_sparse (option_map (λ names. names.now) names.entry) (pair_of field.now) }
 {
-    is_empty(&field.value) && names.is_none_or(|names| names.has(field.name.as_slice()))
+    is_empty(&field.value) && is_taken(names, field.name.as_slice())
 }
 
 /// Whether a value is a text of no bytes.

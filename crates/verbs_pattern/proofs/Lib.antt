@@ -1,6 +1,6 @@
 pub mod Crosses
-mod Changing
 mod Commas
 mod Kept
 mod Walks
 mod Renaming
+mod Renamed

@@ -23,7 +23,7 @@ same_name : (a : List ℕ) → bytes_eq a a ≡ true
 same_name a = (bytes_eq-Decides a a).1 refl
 
 -- a key that isn't there takes nothing out
-removed-absent : (key : List ℕ) (pairs : List Pair) → list_any (bytes_eq key) (keys_of pairs) ≡ false → remove_at key pairs ≡ pairs
+pub removed-absent : (key : List ℕ) (pairs : List Pair) → list_any (bytes_eq key) (keys_of pairs) ≡ false → remove_at key pairs ≡ pairs
 removed-absent key [] absent = refl
 removed-absent key (p ∷ pairs) absent =
     let parts = or_parts (bytes_eq key p.0) (list_any (bytes_eq key) (keys_of pairs)) absent in

@@ -2,4 +2,5 @@ pub mod Changing
 pub mod Matching
 pub mod Grepping
 pub mod Renaming
+pub mod Renamed
 pub mod RenamingSteps

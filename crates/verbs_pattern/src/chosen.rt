@@ -1,29 +1,16 @@
-ghost use Rattle.std.specs.Prelude.{◌≡◌, ◌≤◌, false, length, take};
-ghost use Rattle.std.specs.List.{list_any};
-ghost use Rattle.verbs_pattern.specs.Changing.{is_chosen};
+ghost use Rattle.std.specs.Prelude.{◌≡◌};
+ghost use Rattle.std.specs.Option.{option_map};
+ghost use Rattle.verbs_pattern.specs.Changing.{names_of};
 
 use crate::SubFields;
-use mlr_record::Record;
+use mlr_event::Names;
 
-/// Whether the field of this name is changed.
-pub(crate) fn is_chosen(chosen: &SubFields, name: &[u8]) -> bool
-    ensures { result ≡ is_chosen chosen.now name.now }
+/// The names of the fields that are changed, and none for all fields.
+pub(crate) fn names_of(fields: &SubFields) -> Option<&Names>
+    ensures { option_map (λ names. names.now) result ≡ names_of fields.now }
 {
-    match chosen {
-        SubFields::All => true,
-        SubFields::Named(names) => names.has(name),
+    match fields {
+        SubFields::All => None,
+        SubFields::Named(names) => Some(names),
     }
-}
-
-/// The place of the first field that is changed, or the length of the record where none is.
-pub(crate) fn first_chosen(chosen: &SubFields, fields: &Record) -> usize
-    ensures within { result ≤ length fields.now }
-    ensures none_before { list_any (λ pair. is_chosen chosen.now pair.0) (take result fields.now) ≡ false }
-{
-    for place in 0..fields.len() {
-        if is_chosen(chosen, fields.entry(place).0) {
-            return place;
-        }
-    }
-    fields.len()
 }

@@ -2,8 +2,9 @@ ghost use Rattle.std.specs.Prelude.{◌≡◌, ◌++◌, ◌∷◌, [], is_some,
 ghost use Rattle.std.specs.Arc.{arc_value};
 ghost use Rattle.regex.specs.Bytes.{regex_pattern};
 ghost use Rattle.mlr_value.specs.Value.{tree_of};
+ghost use Rattle.text_forms.specs.Dkvp.{pair_text};
 ghost use Rattle.verbs_pattern.specs.Matching.{has_match};
-ghost use Rattle.verbs_pattern.specs.Grepping.{pair_text, dkvp_text, passes_grep};
+ghost use Rattle.verbs_pattern.specs.Grepping.{record_text, passes_grep};
 
 use mlr_pattern::{Pattern, matches};
 use mlr_record::Record;
@@ -35,7 +36,7 @@ impl Grep {
 }
 
 fn text_matches(alloc: Global, pattern: &Pattern, fields: &Record) -> Result<bool, NoMemory>
-    ensures { IfOk result (λ found. found ≡ has_match (regex_pattern pattern.now) (dkvp_text fields.now)) }
+    ensures { IfOk result (λ found. found ≡ has_match (regex_pattern pattern.now) (record_text fields.now)) }
 {
     let mut text = Bytes::new(alloc);
     append_dkvp(fields, &mut text)?;
@@ -44,7 +45,7 @@ fn text_matches(alloc: Global, pattern: &Pattern, fields: &Record) -> Result<boo
 
 /// Puts the text of a record behind `out`.
 pub(crate) fn append_dkvp(fields: &Record, out: &mut Bytes) -> Result<(), NoMemory>
-    ensures { OnOk result (out.new ≡ out.old ++ dkvp_text fields.now) }
+    ensures { OnOk result (out.new ≡ out.old ++ record_text fields.now) }
 {
     for place in 0..fields.len() {
         append_comma(place > 0, out)?;
@@ -62,7 +63,7 @@ fn append_comma(any: bool, out: &mut Bytes) -> Result<(), NoMemory>
 }
 
 fn append_pair(name: &[u8], value: &Value, out: &mut Bytes) -> Result<(), NoMemory>
-    ensures { OnOk result (out.new ≡ out.old ++ pair_text (name.now, tree_of value.now)) }
+    ensures { OnOk result (out.new ≡ out.old ++ pair_text (61 ∷ []) (name.now, tree_of value.now)) }
 {
     out.append(name)?;
     out.push(b'=')?;

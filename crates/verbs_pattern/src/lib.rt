@@ -4,6 +4,7 @@
 
 mod chosen;
 mod grep;
+mod laws;
 mod matching;
 mod rename_patterns;
 mod ssub;
@@ -13,6 +14,7 @@ mod sub_fields;
 mod tests;
 
 pub use grep::Grep;
+pub use laws::renamed_law;
 pub use matching::{all_names_match, any_name_matches, keep_matching};
 pub use rename_patterns::RenamePatterns;
 pub use ssub::Ssub;

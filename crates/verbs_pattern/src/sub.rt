@@ -1,18 +1,19 @@
-ghost use Rattle.std.specs.Prelude.{◌≡◌, ◌<◌, ◌≤◌, false, length, take, IfOk, OnOk};
+ghost use Rattle.std.specs.Prelude.{◌≡◌, IfOk};
 ghost use Rattle.std.specs.Arc.{arc_value};
-ghost use Rattle.std.specs.List.{list_any};
-ghost use Rattle.regex.specs.Bytes.{regex_pattern, matcher_pattern};
+ghost use Rattle.regex.specs.Bytes.{regex_pattern};
 ghost use Rattle.mlr_pattern.specs.Values.{sub_of};
-ghost use Rattle.verbs_pattern.specs.Changing.{is_chosen, changed_fields, changed_field, IsChangedAt};
+ghost use Rattle.verbs_pattern.specs.Changing.{changed_fields};
 
 use crate::SubFields;
-use crate::chosen::{first_chosen, is_chosen};
+use crate::chosen::names_of;
+use mlr_event::Names;
 use mlr_pattern::{Matcher, Pattern, Which, sub_value};
 use mlr_record::Record;
 use mlr_spec::NoMemory;
 use mlr_value::{Bytes, Value};
 use std::alloc::Global;
 use std::sync::Arc;
+use verbs_base::{Change, change_from, first_taken, is_taken};
 
 /// `sub`: in the values of fields the first match of a pattern is replaced. In `by`, `\0` to `\9` stand for the match and
 /// its groups.
@@ -26,20 +27,12 @@ pub struct Sub {
 impl Sub {
     /// The record with these values changed in place. It takes memory for one matcher, where the record has such a field,
     /// and for texts that change.
-    pub fn take(&self, alloc: Global, mut fields: Record) -> Result<Record, NoMemory>
+    pub fn take(&self, alloc: Global, fields: Record) -> Result<Record, NoMemory>
         ensures { IfOk result (λ made. made ≡ changed_fields self.now.fields
             (sub_of Which.First (regex_pattern (arc_value self.now.pattern)) self.now.by) fields) }
     {
         let by = self.by.as_slice();
-        sub_fields(
-            alloc,
-            &self.fields,
-            &self.pattern,
-            by,
-            Which::First,
-            &mut fields,
-        )?;
-        Ok(fields)
+        sub_fields(alloc, &self.fields, &self.pattern, by, Which::First, fields)
     }
 }
 
@@ -54,83 +47,65 @@ pub struct Gsub {
 impl Gsub {
     /// The record with these values changed in place. It takes memory for one matcher, where the record has such a field,
     /// and for texts that change.
-    pub fn take(&self, alloc: Global, mut fields: Record) -> Result<Record, NoMemory>
+    pub fn take(&self, alloc: Global, fields: Record) -> Result<Record, NoMemory>
         ensures { IfOk result (λ made. made ≡ changed_fields self.now.fields
             (sub_of Which.All (regex_pattern (arc_value self.now.pattern)) self.now.by) fields) }
     {
         let by = self.by.as_slice();
-        sub_fields(
-            alloc,
-            &self.fields,
-            &self.pattern,
-            by,
-            Which::All,
-            &mut fields,
-        )?;
-        Ok(fields)
+        sub_fields(alloc, &self.fields, &self.pattern, by, Which::All, fields)
     }
 }
 
+/// The record with the values of these fields changed. It makes one matcher, and only where the record has such a field.
 fn sub_fields(
     alloc: Global,
-    chosen: &SubFields,
+    fields: &SubFields,
     pattern: &Pattern,
     by: &[u8],
     which: Which,
-    fields: &mut Record,
-) -> Result<(), NoMemory>
-    ensures { OnOk result (fields.new
-        ≡ changed_fields chosen.now (sub_of which (regex_pattern pattern.now) by.now) fields.old) }
+    from: Record,
+) -> Result<Record, NoMemory>
+    ensures { IfOk result (λ made. made ≡ changed_fields fields.now (sub_of which (regex_pattern pattern.now) by.now) from) }
 {
-    let first = first_chosen(chosen, fields);
-    if first == fields.len() {
-        return Ok(());
+    let names = names_of(fields);
+    let first = first_taken(names, &from);
+    if first == from.len() {
+        return Ok(from);
     }
-    let mut matcher = pattern.matcher(alloc)?;
-    sub_from(alloc, chosen, &mut matcher, by, which, first, fields)
+    let matcher = pattern.matcher(alloc)?;
+    let change = Substitution {
+        names,
+        matcher,
+        by,
+        which,
+    };
+    change_from(change, alloc, first, from)
 }
 
-/// Changes the fields from this place on, before which none is chosen.
-fn sub_from(
-    alloc: Global,
-    chosen: &SubFields,
-    matcher: &mut Matcher<'_>,
-    by: &[u8],
+/// `sub` or `gsub` at work on the values of one record.
+#[derive(Drop)]
+struct Substitution<'s> {
+    names: Option<&'s Names>,
+    matcher: Matcher<'s>,
+    by: &'s [u8],
     which: Which,
-    first: usize,
-    fields: &mut Record,
-) -> Result<(), NoMemory>
-    requires within { first ≤ length fields.old }
-    requires none_before { list_any (λ pair. is_chosen chosen.now pair.0) (take first fields.old) ≡ false }
-    ensures { OnOk result (fields.new
-        ≡ changed_fields chosen.now (sub_of which (matcher_pattern matcher.old) by.now) fields.old) }
-{
-    for place in first..fields.len() {
-        sub_at(alloc, chosen, matcher, by, which, place, fields)?;
-    }
-    Ok(())
 }
 
-/// Changes the field at this place, if it is chosen.
-fn sub_at(
-    alloc: Global,
-    chosen: &SubFields,
-    matcher: &mut Matcher<'_>,
-    by: &[u8],
-    which: Which,
-    place: usize,
-    fields: &mut Record,
-) -> Result<(), NoMemory>
-    requires { place < length fields.old }
-    ensures changed { OnOk result (IsChangedAt
-        (changed_field chosen.now (sub_of which (matcher_pattern matcher.old) by.now)) place fields.old fields.new) }
-    ensures same { matcher_pattern matcher.new ≡ matcher_pattern matcher.old }
-{
-    if !is_chosen(chosen, fields.entry(place).0) {
-        return Ok(());
+impl Change for Substitution<'_> {
+    ghost use Rattle.std.specs.Option.{option_map};
+    ghost use Rattle.regex.specs.Bytes.{matcher_pattern};
+    ghost use Rattle.mlr_pattern.specs.Values.{sub_of};
+    ghost use Rattle.verbs_base.specs.Changing.{is_taken};
+
+    ghost takes = { λ verb name. is_taken (option_map (λ names. names.now) verb.names) name };
+
+    ghost image = { λ verb value. sub_of verb.which (matcher_pattern verb.matcher) verb.by.now value };
+
+    fn takes(&self, name: &[u8]) -> bool {
+        is_taken(self.names, name)
     }
-    let value = fields.replace(place, Value::Absent);
-    let made = sub_value(alloc, matcher, value, by, which)?;
-    fields.replace(place, made);
-    Ok(())
+
+    fn image(&mut self, alloc: Global, value: Value) -> Result<Value, NoMemory> {
+        sub_value(alloc, &mut self.matcher, value, self.by, self.which)
+    }
 }

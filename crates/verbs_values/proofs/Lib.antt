@@ -1,4 +1,3 @@
-mod Changing
 mod Decoded
 mod Putting
 mod Flattening

@@ -3,7 +3,7 @@ use Rattle.std.specs.Prelude.{ℕ, List}
 use Rattle.mlr_spec.specs.Tree.{Tree}
 use Rattle.mlr_event.specs.Reading.{is_among}
 use Rattle.mlr_time.specs.Times.{sec2gmt, sec2gmtdate}
-use Rattle.verbs_values.specs.Changing.{changed}
+use Rattle.verbs_base.specs.Changing.{changed}
 
 abbrev pub sec2gmt_fields : List (List ℕ) → List (List ℕ × Tree) → List (List ℕ × Tree)
 sec2gmt_fields names pairs = changed (is_among names) sec2gmt pairs

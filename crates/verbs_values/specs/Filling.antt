@@ -4,7 +4,7 @@ use Rattle.mlr_spec.specs.Infer.{tree_of_data}
 use Rattle.mlr_spec.specs.JsonGrammar.{text_value}
 use Rattle.mlr_spec.specs.Tree.{Tree, empty}
 use Rattle.mlr_json.specs.Readable.{plain}
-use Rattle.verbs_values.specs.Changing.{changed}
+use Rattle.verbs_base.specs.Changing.{changed}
 
 -- an empty value becomes the text: as a string, or as what the text is inferred to be
 abbrev pub filled : List ℕ → Bool → Tree → Tree

@@ -4,7 +4,7 @@ use Rattle.std.specs.List.{flat_map}
 use Rattle.mlr_spec.specs.Flatten.{leaves_of}
 use Rattle.mlr_spec.specs.Pairs.{put_each}
 use Rattle.mlr_spec.specs.Tree.{Tree, is_collection}
-use Rattle.verbs_values.specs.Changing.{is_taken}
+use Rattle.verbs_base.specs.Changing.{is_taken}
 
 -- the fields that a field becomes: its leaves if it is taken, else itself
 abbrev pub flattened_field : List ℕ → (List ℕ → Bool) → List ℕ × Tree → List (List ℕ × Tree)

@@ -7,7 +7,7 @@ use Rattle.mlr_spec.specs.JsonTokens.{tokens_of}
 use Rattle.mlr_spec.specs.Tree.{Tree, string, int, fraction, wide, error, text_of}
 use Rattle.mlr_json.specs.Machine.{Outcome, read, syntax, deep, outcome_of}
 use Rattle.mlr_json.specs.Readable.{plain}
-use Rattle.verbs_values.specs.Changing.{is_taken, changed}
+use Rattle.verbs_base.specs.Changing.{is_taken, changed}
 
 -- the JSON text of a value, on one line
 abbrev pub encoded : Tree → Tree

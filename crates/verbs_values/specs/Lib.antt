@@ -1,4 +1,3 @@
-pub mod Changing
 pub mod Filling
 pub mod Dates
 pub mod Json

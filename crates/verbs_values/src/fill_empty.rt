@@ -2,12 +2,11 @@ ghost use Rattle.std.specs.Prelude.{◌≡◌, true, IfOk};
 ghost use Rattle.verbs_values.specs.Filling.{filled, fill_empty};
 ghost use Rattle.mlr_value.specs.Value.{tree_of};
 
-use crate::change::{Change, change_record};
-use crate::string::string_of;
 use mlr_record::Record;
 use mlr_spec::{InferOpts, NoMemory};
 use mlr_value::{Bytes, Value, from_data};
 use std::alloc::Global;
+use verbs_base::{Change, change_record, string_of};
 
 /// `fill-empty`: gives each empty value a text.
 #[derive(Drop)]
@@ -27,19 +26,19 @@ impl FillEmpty {
     }
 }
 
-impl Change for FillEmpty {
+impl Change for &FillEmpty {
     ghost use Rattle.std.specs.Prelude.{true};
     ghost use Rattle.verbs_values.specs.Filling.{filled};
 
     ghost takes = { λ verb name. true };
 
-    ghost image = { λ verb value. filled verb.text verb.as_string value };
+    ghost image = { λ verb value. filled verb.now.text verb.now.as_string value };
 
     fn takes(&self, _: &[u8]) -> bool {
         true
     }
 
-    fn image(&self, alloc: Global, value: Value) -> Result<Value, NoMemory> {
+    fn image(&mut self, alloc: Global, value: Value) -> Result<Value, NoMemory> {
         match value {
             Value::Empty if self.as_string => {
                 Ok(string_of(Bytes::copy_of(alloc, self.text.as_slice())?))

@@ -2,8 +2,6 @@ ghost use Rattle.std.specs.Prelude.{◌≡◌, IfOk};
 ghost use Rattle.mlr_value.specs.Value.{tree_of};
 ghost use Rattle.verbs_values.specs.Json.{encoded, decoded, is_parsed, parsed, json_parse, json_stringify};
 
-use crate::change::{Change, change_record, is_taken};
-use crate::string::string_of;
 use mlr_event::Names;
 use mlr_json::{JsonRead, json_text, read_json_value};
 use mlr_record::Record;
@@ -11,6 +9,7 @@ use mlr_spec::{JsonStyle, NoMemory};
 use mlr_value::{Value, text_of};
 use std::alloc::Global;
 use text_forms::held_text;
+use verbs_base::{Change, change_record, is_taken, string_of};
 
 /// The JSON text of a value on one line, as a string.
 pub fn json_encode(alloc: Global, value: &Value) -> Result<Value, NoMemory>
@@ -70,19 +69,19 @@ impl JsonParse {
     }
 }
 
-impl Change for JsonParse {
-    ghost use Rattle.verbs_values.specs.Changing.{is_taken};
+impl Change for &JsonParse {
+    ghost use Rattle.verbs_base.specs.Changing.{is_taken};
     ghost use Rattle.verbs_values.specs.Json.{parsed};
 
-    ghost takes = { λ verb name. is_taken verb.names name };
+    ghost takes = { λ verb name. is_taken verb.now.names name };
 
     ghost image = { λ verb value. parsed value };
 
     fn takes(&self, name: &[u8]) -> bool {
-        is_taken(&self.names, name)
+        is_taken(self.names.as_ref(), name)
     }
 
-    fn image(&self, alloc: Global, value: Value) -> Result<Value, NoMemory> {
+    fn image(&mut self, alloc: Global, value: Value) -> Result<Value, NoMemory> {
         parse(alloc, value)
     }
 }
@@ -103,19 +102,19 @@ impl JsonStringify {
     }
 }
 
-impl Change for JsonStringify {
-    ghost use Rattle.verbs_values.specs.Changing.{is_taken};
+impl Change for &JsonStringify {
+    ghost use Rattle.verbs_base.specs.Changing.{is_taken};
     ghost use Rattle.verbs_values.specs.Json.{encoded};
 
-    ghost takes = { λ verb name. is_taken verb.names name };
+    ghost takes = { λ verb name. is_taken verb.now.names name };
 
     ghost image = { λ verb value. encoded value };
 
     fn takes(&self, name: &[u8]) -> bool {
-        is_taken(&self.names, name)
+        is_taken(self.names.as_ref(), name)
     }
 
-    fn image(&self, alloc: Global, value: Value) -> Result<Value, NoMemory> {
+    fn image(&mut self, alloc: Global, value: Value) -> Result<Value, NoMemory> {
         json_encode(alloc, &value)
     }
 }

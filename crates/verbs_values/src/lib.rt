@@ -2,13 +2,11 @@
 //! `flatten` and `unflatten`; and values as JSON texts and back.
 #![tactic(auto)]
 
-mod change;
 mod fill_empty;
 mod flatten;
 mod json;
 mod laws;
 mod sec2gmt;
-mod string;
 #[cfg(test)]
 mod tests;
 mod unflatten;

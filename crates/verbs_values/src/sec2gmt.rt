@@ -1,13 +1,13 @@
 ghost use Rattle.std.specs.Prelude.{◌≡◌, IfOk};
 ghost use Rattle.verbs_values.specs.Dates.{sec2gmt_fields, sec2gmtdate_fields};
 
-use crate::change::{Change, change_record};
 use mlr_event::Names;
 use mlr_record::Record;
 use mlr_spec::NoMemory;
 use mlr_time::{sec2gmt, sec2gmtdate};
 use mlr_value::Value;
 use std::alloc::Global;
+use verbs_base::{Change, change_record};
 
 /// `sec2gmt`: turns the seconds of the named fields into dates with times of day.
 #[derive(Drop)]
@@ -24,11 +24,11 @@ impl Sec2Gmt {
     }
 }
 
-impl Change for Sec2Gmt {
+impl Change for &Sec2Gmt {
     ghost use Rattle.mlr_event.specs.Reading.{is_among};
     ghost use Rattle.mlr_time.specs.Times.{sec2gmt};
 
-    ghost takes = { λ verb name. is_among verb.names name };
+    ghost takes = { λ verb name. is_among verb.now.names name };
 
     ghost image = { λ verb value. sec2gmt value };
 
@@ -36,7 +36,7 @@ impl Change for Sec2Gmt {
         self.names.has(name)
     }
 
-    fn image(&self, alloc: Global, value: Value) -> Result<Value, NoMemory> {
+    fn image(&mut self, alloc: Global, value: Value) -> Result<Value, NoMemory> {
         sec2gmt(alloc, value)
     }
 }
@@ -56,11 +56,11 @@ impl Sec2GmtDate {
     }
 }
 
-impl Change for Sec2GmtDate {
+impl Change for &Sec2GmtDate {
     ghost use Rattle.mlr_event.specs.Reading.{is_among};
     ghost use Rattle.mlr_time.specs.Times.{sec2gmtdate};
 
-    ghost takes = { λ verb name. is_among verb.names name };
+    ghost takes = { λ verb name. is_among verb.now.names name };
 
     ghost image = { λ verb value. sec2gmtdate value };
 
@@ -68,7 +68,7 @@ impl Change for Sec2GmtDate {
         self.names.has(name)
     }
 
-    fn image(&self, alloc: Global, value: Value) -> Result<Value, NoMemory> {
+    fn image(&mut self, alloc: Global, value: Value) -> Result<Value, NoMemory> {
         sec2gmtdate(alloc, value)
     }
 }

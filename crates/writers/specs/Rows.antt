@@ -11,7 +11,7 @@ use Rattle.writers.specs.declared.form.RowStyle.TheVariants as row
 use Rattle.text_forms.specs.Shown.{shown}
 use Rattle.writers.specs.Cells.{part_text, texts}
 use Rattle.writers.specs.Csv.{csv_escaped, csv_field, csv_line}
-use Rattle.writers.specs.Dkvp.{dkvp_field}
+use Rattle.text_forms.specs.Dkvp.{pair_text}
 use Rattle.writers.specs.Headed.{headed, heading}
 use Rattle.writers.specs.Markdown.{bar_escaped, bar_cell, markdown_line, markdown_header}
 use Rattle.writers.specs.Run.{Run}
@@ -56,7 +56,7 @@ row_text style opts run r = headed (is_headerless style opts) run r (header_in s
 
 -- a field among the others of its record
 abbrev pub field_text : FieldForm → WriteOpts → List ℕ × Tree → List ℕ
-field_text form.Pair opts field = dkvp_field opts field
+field_text form.Pair opts field = pair_text opts.ops field
 field_text form.Value opts field = shown field.1
 field_text (form.Json style) opts field = json_field style 1 field
 field_text (form.Row style part) opts field = field_in style opts (part_text part field)

@@ -1,5 +1,5 @@
 -- Which records and texts a writer stands for.
-use Rattle.std.specs.Prelude.{◌≡◌, ℕ, List, ◌++◌}
+use Rattle.std.specs.Prelude.{◌≡◌, List}
 use Rattle.mlr_event.specs.declared.event.Body.{Body}
 use Rattle.writers.specs.declared.options.WriteOpts.{WriteOpts}
 use Rattle.writers.specs.declared.state.State.{State}

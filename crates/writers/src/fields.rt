@@ -3,7 +3,7 @@ ghost use Rattle.mlr_spec.specs.Json.{joined};
 ghost use Rattle.mlr_value.specs.Value.{tree_of};
 ghost use Rattle.text_forms.specs.Shown.{shown};
 ghost use Rattle.writers.specs.Cells.{part_text};
-ghost use Rattle.writers.specs.Dkvp.{dkvp_field};
+ghost use Rattle.text_forms.specs.Dkvp.{pair_text};
 ghost use Rattle.writers.specs.Joined.{separated};
 ghost use Rattle.writers.specs.Rows.{field_in, field_text, line_text};
 
@@ -95,7 +95,7 @@ fn append_form(
 }
 
 fn append_pair(opts: &WriteOpts, key: &[u8], value: &Value, out: &mut Bytes) -> Result<(), NoMemory>
-    ensures { OnOk result (out.new ≡ out.old ++ dkvp_field opts.now (key.now, tree_of value.now)) }
+    ensures { OnOk result (out.new ≡ out.old ++ pair_text opts.now.ops (key.now, tree_of value.now)) }
 {
     out.append(key)?;
     append_mark(opts.ops.as_slice(), out)?;

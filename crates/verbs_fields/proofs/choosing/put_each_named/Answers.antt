@@ -4,13 +4,13 @@ use Rattle.mlr_spec.specs.Pairs.{keys_of, value_at}
 use Rattle.mlr_event.specs.Reading.{is_among}
 use Rattle.mlr_event.proofs.Naming.{at-place}
 use Rattle.mlr_record.specs.Fields.{pairs_of}
-use Rattle.verbs_fields.specs.Choosing.{plain_text}
+use Rattle.mlr_spec.specs.JsonGrammar.{text_value}
 use Rattle.verbs_fields.proofs.Once.{fresh, fresh-none, field_of, put_once-more, put_once-apart}
 use Rattle.verbs_fields.proofs.choosing.put_each_named.Goals as goal
 
 pub loop-name-init : goal.loop-name-init
 loop-name-init c =
-    let value_of = λ (name : List ℕ). unwrap_or (value_at name (pairs_of c.args.fields.now.items)) (plain_text c.args.text.now) in
+    let value_of = λ (name : List ℕ). unwrap_or (value_at name (pairs_of c.args.fields.now.items)) (text_value c.args.text.now) in
     record {
       into = ap (λ x. x ++ map (field_of value_of) (fresh (keys_of x) c.args.names.now)) c.requires ∙ ap (map (field_of value_of)) (fresh-none c.args.names.now);
       left = λ name absent. refl;
@@ -18,7 +18,7 @@ loop-name-init c =
 
 pub loop-name-preserved : goal.loop-name-preserved
 loop-name-preserved c =
-    let text = plain_text c.args.text.now in
+    let text = text_value c.args.text.now in
     let value_of = λ (name : List ℕ). unwrap_or (value_at name (pairs_of c.args.fields.now.items)) text in
     let names = c.args.names.now in
     let i = c.loop-name.name-index in

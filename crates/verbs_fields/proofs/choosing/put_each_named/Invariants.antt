@@ -3,13 +3,14 @@ use Rattle.std.specs.Option.{unwrap_or}
 use Rattle.mlr_spec.specs.Pairs.{keys_of, value_at}
 use Rattle.mlr_event.specs.Reading.{is_among}
 use Rattle.mlr_record.specs.Fields.{pairs_of}
-use Rattle.verbs_fields.specs.Choosing.{plain_text, templated}
+use Rattle.mlr_spec.specs.JsonGrammar.{text_value}
+use Rattle.verbs_fields.specs.Choosing.{templated}
 use Rattle.verbs_fields.proofs.Once.{fresh, field_of}
 use Rattle.verbs_fields.proofs.choosing.put_each_named.Given as goal
 
 -- with the fields of the names that are left it is whole, and the values of these names are still there
 abbrev pub invariant-loop-name : goal.invariant-loop-name
 invariant-loop-name l = record {
-  into : l.into ++ map (field_of (λ name. unwrap_or (value_at name (pairs_of l.fn.fields.items)) (plain_text l.text))) (fresh (keys_of l.into) (drop l.name-index l.names)) ≡ templated l.names l.text (pairs_of l.fn.fields.items);
+  into : l.into ++ map (field_of (λ name. unwrap_or (value_at name (pairs_of l.fn.fields.items)) (text_value l.text))) (fresh (keys_of l.into) (drop l.name-index l.names)) ≡ templated l.names l.text (pairs_of l.fn.fields.items);
   left : (name : List ℕ) → is_among (keys_of l.into) name ≡ false → value_at name (pairs_of l.fields.items) ≡ value_at name (pairs_of l.fn.fields.items);
 }

@@ -1,0 +1,90 @@
+-- One field after another is changed, if it is taken.
+use Rattle.std.proofs.Common.{◌≡◌, ℕ, zero, suc, ◌+◌, ◌<◌, Bool, true, false, cond, List, [], ◌∷◌, ◌++◌, map, length, take, drop, set, get_or, Some, None, slice_get, refl, ap, ap₂, sym, ◌∙◌, arith, add-one}
+use Rattle.std.specs.List.{list_any}
+use Rattle.std.proofs.lemmas.Bool.{or_from, or_parts}
+use Rattle.std.proofs.lemmas.List.{set-get_or, get_or-set_same}
+use Rattle.mlr_spec.specs.Tree.{Tree}
+use Rattle.verbs_base.specs.Changing.{changed_field, changed}
+
+module _ {V : Type 0} where
+  pub get_or-at : (xs : List V) (i : ℕ) (x d : V) → slice_get xs i ≡ Some x → get_or xs i d ≡ x
+  get_or-at [] i x d at = absurd (let e : None ≡ Some x = at in cc)
+  get_or-at (y ∷ xs) zero x d at = let same : y ≡ x = cc in same
+  get_or-at (y ∷ xs) (suc i) x d at = get_or-at xs i x d at
+
+  set-twice : (xs : List V) (i : ℕ) (x y : V) → set (set xs i x) i y ≡ set xs i y
+  set-twice [] i x y = refl
+  set-twice (z ∷ xs) zero x y = refl
+  set-twice (z ∷ xs) (suc i) x y = ap (λ more. z ∷ more) (set-twice xs i x y)
+
+  -- an element changed in its place is one more that is done
+  done-more : (f : V → V) (xs : List V) (i : ℕ) (d : V) → i < length xs
+      → take (suc i) (set xs i (f (get_or xs i d))) ++ map f (drop (suc i) (set xs i (f (get_or xs i d)))) ≡ take i xs ++ map f (drop i xs)
+  done-more f [] i d below = absurd (omega arith)
+  done-more f (x ∷ xs) zero d below = refl
+  done-more f (x ∷ xs) (suc i) d below = ap (λ more. x ∷ more) (done-more f xs i d (omega arith))
+
+module _ (takes : List ℕ → Bool) (change : Tree → Tree) (pairs : List (List ℕ × Tree)) (i : ℕ) (name : List ℕ) (value : Tree) (at : slice_get pairs i ≡ Some (name, value)) where
+  -- a field that isn't taken stays
+  pub field-stays : takes name ≡ false → (d : List ℕ × Tree) → pairs ≡ set pairs i (changed_field takes change (get_or pairs i d))
+  field-stays not_taken d =
+      sym (ap (λ p. set pairs i (changed_field takes change p)) (get_or-at pairs i (name, value) d at)
+      ∙ ap (λ t. set pairs i (name, cond t (change value) value)) not_taken
+      ∙ ap (set pairs i) (sym (get_or-at pairs i (name, value) d at)) ∙ set-get_or pairs i d)
+
+  -- a field that is taken is emptied, and then has its value changed
+  pub field-changed : i < length pairs → takes name ≡ true → (d : List ℕ × Tree) (gone : Tree) (mid after : List (List ℕ × Tree)) (had made : Tree)
+      → mid ≡ set pairs i ((get_or pairs i d).0, gone) → had ≡ (get_or pairs i d).1 → made ≡ change had → after ≡ set mid i ((get_or mid i d).0, made)
+      → after ≡ set pairs i (changed_field takes change (get_or pairs i d))
+  field-changed below taken d gone mid after had made emptied is_had is_made put =
+      let here = get_or-at pairs i (name, value) d at in
+      let named : (get_or mid i d).0 ≡ name = ap (λ xs. (get_or xs i d).0) emptied ∙ ap (λ p. p.0) (get_or-set_same pairs i ((get_or pairs i d).0, gone) d below) ∙ ap (λ p. p.0) here in
+      let valued : made ≡ change value = is_made ∙ ap change (is_had ∙ ap (λ p. p.1) here) in
+      put ∙ ap (λ n. set mid i (n, made)) named ∙ ap (λ v. set mid i (name, v)) valued
+      ∙ ap (λ xs. set xs i (name, change value)) emptied ∙ set-twice pairs i ((get_or pairs i d).0, gone) (name, change value)
+      ∙ ap (λ t. set pairs i (name, cond t (change value) value)) (sym taken)
+      ∙ ap (λ p. set pairs i (changed_field takes change p)) (sym here)
+
+-- one more field, changed before those that are left
+pub changed-more : (takes : List ℕ → Bool) (change : Tree → Tree) (before after : List (List ℕ × Tree)) (i : ℕ) (d : List ℕ × Tree) → i < length before
+    → after ≡ set before i (changed_field takes change (get_or before i d))
+    → take (i + 1) after ++ changed takes change (drop (i + 1) after) ≡ take i before ++ changed takes change (drop i before)
+changed-more takes change before after i d below put =
+    ap (λ xs. take (i + 1) xs ++ changed takes change (drop (i + 1) xs)) put
+    ∙ ap (λ n. take n (set before i (changed_field takes change (get_or before i d))) ++ changed takes change (drop n (set before i (changed_field takes change (get_or before i d))))) (add-one i)
+    ∙ done-more (changed_field takes change) before i d below
+
+-- nothing is changed before the first field that is taken
+pub none-before : (takes : List ℕ → Bool) (change : Tree → Tree) (pairs : List (List ℕ × Tree)) (first : ℕ) → list_any (λ pair. takes pair.0) (take first pairs) ≡ false
+    → take first pairs ++ changed takes change (drop first pairs) ≡ changed takes change pairs
+none-before takes change pairs zero none = refl
+none-before takes change [] (suc first) none = refl
+none-before takes change (pair ∷ pairs) (suc first) none =
+    let parts = or_parts (takes pair.0) (list_any (λ pair. takes pair.0) (take first pairs)) none in
+    ap₂ (λ value more. (pair.0, value) ∷ more) (ap (λ t. cond t (change pair.1) pair.1) (sym parts.0)) (none-before takes change pairs first parts.1)
+
+-- nothing is changed where none is taken
+pub none-at-all : (takes : List ℕ → Bool) (change : Tree → Tree) (pairs : List (List ℕ × Tree)) (first : ℕ) → first ≡ length pairs
+    → list_any (λ pair. takes pair.0) (take first pairs) ≡ false → pairs ≡ changed takes change pairs
+none-at-all takes change pairs first all none =
+    sym (ap (λ n. take n pairs ++ changed takes change (drop n pairs)) all ∙ whole pairs) ∙ none-before takes change pairs first none
+  where
+    whole : (pairs : List (List ℕ × Tree)) → take (length pairs) pairs ++ changed takes change (drop (length pairs) pairs) ≡ pairs
+    whole [] = refl
+    whole (pair ∷ pairs) = ap (λ more. pair ∷ more) (whole pairs)
+
+-- one more field that isn't taken
+none-further : (takes : List ℕ → Bool) (pairs : List (List ℕ × Tree)) (i : ℕ) (pair : List ℕ × Tree) → slice_get pairs i ≡ Some pair → takes pair.0 ≡ false
+    → list_any (λ pair. takes pair.0) (take i pairs) ≡ false → list_any (λ pair. takes pair.0) (take (suc i) pairs) ≡ false
+none-further takes [] i pair at not_taken none = refl
+none-further takes (p ∷ pairs) zero pair at not_taken none =
+    let same : p ≡ pair = cc in
+    or_from (takes p.0) _ (ap (λ (p : List ℕ × Tree). takes p.0) same ∙ not_taken) refl
+none-further takes (p ∷ pairs) (suc i) pair at not_taken none =
+    let parts = or_parts (takes p.0) _ none in
+    or_from (takes p.0) _ parts.0 (none-further takes pairs i pair at not_taken parts.1)
+
+pub none-more : (takes : List ℕ → Bool) (pairs : List (List ℕ × Tree)) (i : ℕ) (pair : List ℕ × Tree) → slice_get pairs i ≡ Some pair → takes pair.0 ≡ false
+    → list_any (λ pair. takes pair.0) (take i pairs) ≡ false → list_any (λ pair. takes pair.0) (take (i + 1) pairs) ≡ false
+none-more takes pairs i pair at not_taken none =
+    ap (λ n. list_any (λ pair. takes pair.0) (take n pairs)) (add-one i) ∙ none-further takes pairs i pair at not_taken none
