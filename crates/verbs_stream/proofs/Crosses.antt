@@ -9,6 +9,7 @@ use Rattle.verbs_fields.proofs.naming.Renaming.TheSendSync as renaming
 use Rattle.verbs_fields.proofs.spaces.Unspace.TheSendSync as unspace
 use Rattle.verbs_pattern.proofs.Crosses.{crosses_patterned}
 use Rattle.verbs_pattern.proofs.ssub.Ssub.TheSendSync as ssub
+use Rattle.verbs_state.proofs.Crosses.{crosses_options, crosses_state}
 use Rattle.verbs_values.proofs.fill_empty.FillEmpty.TheSendSync as fill_empty
 use Rattle.verbs_values.proofs.flatten.Flatten.TheSendSync as flatten
 use Rattle.verbs_values.proofs.json.JsonParse.TheSendSync as json_parse
@@ -16,6 +17,8 @@ use Rattle.verbs_values.proofs.json.JsonStringify.TheSendSync as json_stringify
 use Rattle.verbs_values.proofs.sec2gmt.Sec2Gmt.TheSendSync as sec2gmt
 use Rattle.verbs_values.proofs.sec2gmt.Sec2GmtDate.TheSendSync as sec2gmtdate
 use Rattle.verbs_values.proofs.unflatten.Unflatten.TheSendSync as unflatten
+use Rattle.verbs_stream.specs.contracts.each.Each
+use Rattle.verbs_stream.specs.contracts.kind.Kind
 use Rattle.verbs_stream.specs.contracts.spec.Cut
 use Rattle.verbs_stream.specs.contracts.spec.CutFields
 use Rattle.verbs_stream.specs.contracts.spec.HavingFields
@@ -26,7 +29,6 @@ use Rattle.verbs_stream.specs.contracts.spec.Repeat
 use Rattle.verbs_stream.specs.contracts.spec.Sparsify
 use Rattle.verbs_stream.specs.contracts.spec.Spec
 use Rattle.verbs_stream.specs.contracts.spec.Template
-use Rattle.verbs_stream.specs.contracts.verb.Each
 use Rattle.verbs_stream.specs.contracts.verb.StreamVerb
 
 -- options, each by itself
@@ -80,6 +82,7 @@ ruleset of_options = (
   sec2gmt.the_field_send,
   sec2gmtdate.the_field_send,
   unflatten.the_field_send,
+  crosses_options,
 )
 
 Spec-send : IsSend Spec.the_field.row
@@ -88,8 +91,11 @@ Spec-send = search (of_options, crosses, sendable) depth 60 fits 20000
 Each-send : IsSend Each.the_field.row
 Each-send = search (Spec-send, crosses, sendable) depth 60 fits 20000
 
+Kind-send : IsSend Kind.the_field.row
+Kind-send = search (Each-send, crosses_state, crosses, sendable) depth 60 fits 20000
+
 pub StreamVerb-field-send : IsSend StreamVerb.the_field.row
-StreamVerb-field-send = search (Each-send, crosses, sendable) depth 60 fits 20000
+StreamVerb-field-send = search (Kind-send, crosses, sendable) depth 60 fits 20000
 
 pub StreamVerb-send : IsSend StreamVerb.the_row
 StreamVerb-send = search (StreamVerb-field-send, crosses, sendable) depth 60 fits 20000

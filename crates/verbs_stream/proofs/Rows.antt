@@ -2,7 +2,7 @@
 use Rattle.std.proofs.Common.{◌≡◌, ℕ, zero, suc, ◌∷◌, replicate, refl, ap}
 use Rattle.mlr_event.specs.declared.event.Ctx.{Ctx}
 use Rattle.mlr_event.specs.declared.event.Event.TheVariants as event
-use Rattle.verbs_stream.specs.Streaming.{Fields, rows}
+use Rattle.verbs_state.specs.Streaming.{Fields, rows}
 
 pub rows-replicate : (ctx : Ctx) (n : ℕ) (fields : Fields) → rows ctx (replicate n fields) ≡ replicate n (event.Rec fields ctx)
 rows-replicate ctx zero fields = refl

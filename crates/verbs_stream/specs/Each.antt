@@ -1,4 +1,4 @@
--- What the verbs that keep no state give for a record.
+-- What each verb gives for a record: those that keep no state by the record alone, and the others by the records before.
 use Rattle.std.specs.Prelude.{◌≡◌, ◌<◌, ℕ, ℤ, pos, negsuc, Bool, true, false, ◌&&◌, if◌then◌else◌, List, [], ◌∷◌, map, length, Option, Some, None, replicate}
 use Rattle.std.specs.Arc.{arc_value}
 use Rattle.regex.specs.Bytes.{regex_pattern}
@@ -32,7 +32,11 @@ use Rattle.verbs_stream.specs.declared.spec.Rename.{Rename}
 use Rattle.verbs_stream.specs.declared.spec.Rename.TheVariants as rename
 use Rattle.verbs_stream.specs.declared.spec.Repeat.{Repeat}
 use Rattle.verbs_stream.specs.declared.spec.Repeat.TheVariants as repeat
-use Rattle.verbs_stream.specs.Streaming.{Fields, Streaming, each}
+use Rattle.verbs_state.specs.Counting.{IsSoundDecimate, cat, decimate, head}
+use Rattle.verbs_state.specs.FillingDown.{fill_down}
+use Rattle.verbs_state.specs.Gaps.{IsSoundGap, gap_of}
+use Rattle.verbs_state.specs.Regularizing.{regularize}
+use Rattle.verbs_state.specs.Streaming.{Fields, Streaming, each}
 
 -- `cut`: the fields of these names, in their own order or that of the names, or the others; or those whose names match
 abbrev pub cut_of : CutFields → Bool → Bool → Fields → Fields
@@ -70,10 +74,9 @@ times (repeat.Field name) fields = elim (value_at name fields) [ Some value ↦ 
 abbrev pub if_passes : Bool → Fields → List Fields
 if_passes passes fields = if passes then fields ∷ [] else []
 
--- what a verb gives for a record
+-- what a verb that keeps no state gives for a record
 abbrev pub each_of : Spec → Fields → List Fields
 each_of verb.Altkv fields = alternated fields ∷ []
-each_of verb.Cat fields = fields ∷ []
 each_of (verb.Cut options) fields = cut_of options.fields options.ordered options.complement fields ∷ []
 each_of (verb.FillEmpty options) fields = fill_empty options.text options.as_string fields ∷ []
 each_of (verb.Flatten options) fields = flatten options.separator options.names fields ∷ []
@@ -96,18 +99,28 @@ each_of (verb.Sub options) fields = changed_fields options.fields (sub_of which.
 each_of (verb.Template options) fields = templated options.names options.fill fields ∷ []
 each_of (verb.Unflatten options) fields = unflatten options.separator options.names fields ∷ []
 each_of (verb.Unspace options) fields = unspaced options fields ∷ []
+each_of _ fields = []
 
 abbrev pub is_repeat : Spec → Bool
 is_repeat (verb.Repeat options) = true
 is_repeat _ = false
 
--- the options are such as words may give: no two names of `label` are equal, and no separator is empty
+-- the options are such as words may give: no two names of `label` are equal, no separator is empty, and no count of
+-- records is 0
 abbrev pub IsSound : Spec → Type 0
 IsSound (verb.Label options) = are_distinct options.names ≡ true
 IsSound (verb.Flatten options) = 0 < length options.separator
 IsSound (verb.Unflatten options) = 0 < length options.separator
+IsSound (verb.Decimate options) = IsSoundDecimate options
+IsSound (verb.Gap options) = IsSoundGap options
 IsSound _ = Unit {0}
 
 -- the verb, by the records before
 abbrev pub streaming_of : Spec → Streaming
+streaming_of (verb.Cat options) = cat options
+streaming_of (verb.Decimate options) = decimate options
+streaming_of (verb.FillDown options) = fill_down options
+streaming_of (verb.Gap options) = gap_of options
+streaming_of (verb.Head options) = head options
+streaming_of verb.Regularize = regularize
 streaming_of spec = each (each_of spec)

@@ -1,4 +1,3 @@
-pub mod Streaming
-pub mod Laws
+pub mod Kinds
 pub mod Trying
 pub mod Each

@@ -1,7 +1,9 @@
--- A verb that may be given more, as tests ask it.
-use Rattle.std.specs.Prelude.{◌≡◌, false}
-use Rattle.verbs_stream.specs.declared.verb.StreamVerb.{StreamVerb}
-use Rattle.verbs_stream.specs.Each.{IsSound}
+-- A verb that may be given more, as tests give it.
+use Rattle.std.specs.Prelude.{◌≡◌, true, List}
+use Rattle.mlr_event.specs.declared.event.Event.{Event}
+use Rattle.mlr_event.specs.Verb.{is_open}
 
-abbrev pub CanStep : StreamVerb → Type 0
-CanStep verb = (verb.broken ≡ false) × IsSound verb.verb.spec
+pub record CanStep {S : Type 0} (stands : S → List Event → Type 0) (verb : S) : Type 0 where
+  pub given : List Event
+  pub open_is : is_open given ≡ true
+  pub at : stands verb given

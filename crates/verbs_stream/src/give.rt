@@ -2,7 +2,7 @@ ghost use Rattle.std.specs.Prelude.{◌≡◌, ◌++◌, false, IfOk, MatchOptio
 ghost use Rattle.std.specs.Option.{option_to_list};
 ghost use Rattle.verbs_stream.specs.declared.spec.Spec.TheVariants as verb;
 ghost use Rattle.verbs_stream.specs.Each.{IsSound, each_of, is_repeat};
-ghost use Rattle.verbs_stream.specs.Streaming.{rows};
+ghost use Rattle.verbs_state.specs.Streaming.{rows};
 
 use crate::options::{cut_fields, has, passing, rename_fields, reorder_fields};
 use crate::repeat::{push_times, times};
@@ -50,7 +50,8 @@ fn push_made(made: Option<Record>, ctx: Ctx, out: &mut Events) -> Result<(), NoM
     }
 }
 
-/// The record that a verb makes of a record, or none. `repeat` gives more than one, and isn't asked.
+/// The record that a verb makes of a record, or none. `repeat` gives more than one, and isn't asked; nor are the verbs
+/// that keep state.
 fn made(spec: &Spec, alloc: Global, fields: Record) -> Result<Option<Record>, NoMemory>
     requires sound { IsSound spec.now }
     requires other { is_repeat spec.now ≡ false }
@@ -58,7 +59,6 @@ fn made(spec: &Spec, alloc: Global, fields: Record) -> Result<Option<Record>, No
 {
     match spec {
         Spec::Altkv => Ok(Some(altkv(alloc, fields)?)),
-        Spec::Cat => Ok(Some(fields)),
         Spec::Cut(cut) => Ok(Some(cut_fields(cut, alloc, fields)?)),
         Spec::FillEmpty(verb) => Ok(Some(verb.take(alloc, fields)?)),
         Spec::Flatten(verb) => Ok(Some(verb.take(alloc, fields)?)),
@@ -69,6 +69,12 @@ fn made(spec: &Spec, alloc: Global, fields: Record) -> Result<Option<Record>, No
         Spec::JsonStringify(verb) => Ok(Some(verb.take(alloc, fields)?)),
         Spec::Label(verb) => Ok(Some(label(&verb.names, fields)?)),
         Spec::Nothing | Spec::Repeat(_) => Ok(None),
+        Spec::Cat(_)
+        | Spec::Decimate(_)
+        | Spec::FillDown(_)
+        | Spec::Gap(_)
+        | Spec::Head(_)
+        | Spec::Regularize => Ok(None),
         Spec::Rename(rename) => Ok(Some(rename_fields(rename, alloc, fields)?)),
         Spec::Reorder(reorder) => Ok(Some(reorder_fields(reorder, fields)?)),
         Spec::Sec2Gmt(verb) => Ok(Some(verb.take(alloc, fields)?)),

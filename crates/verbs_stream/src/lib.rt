@@ -2,13 +2,16 @@
 //! which verb, with its options, and `StreamVerb` is the verb in a chain.
 #![tactic(auto)]
 
+mod each;
 #[cfg(test)]
 mod fields_tests;
 mod give;
+mod kind;
 mod options;
 mod repeat;
 mod spec;
-mod streaming;
+#[cfg(test)]
+mod state_tests;
 #[cfg(test)]
 mod thread_tests;
 #[cfg(test)]
@@ -24,3 +27,4 @@ pub use spec::{
     Spec, Template,
 };
 pub use verb::StreamVerb;
+pub use verbs_state::{Cat, Decimate, FillDown, Gap, Head};

@@ -4,6 +4,7 @@ use mlr_value::Bytes;
 use std::sync::Arc;
 use verbs_fields::{Renaming, Unspace};
 use verbs_pattern::{Grep, Gsub, RenamePatterns, Ssub, Sub};
+use verbs_state::{Cat, Decimate, FillDown, Gap, Head};
 use verbs_values::{FillEmpty, Flatten, JsonParse, JsonStringify, Sec2Gmt, Sec2GmtDate, Unflatten};
 
 /// Which verb, with its options as its words give them.
@@ -11,20 +12,28 @@ use verbs_values::{FillEmpty, Flatten, JsonParse, JsonStringify, Sec2Gmt, Sec2Gm
 pub enum Spec {
     /// Values in turn are keys and values.
     Altkv,
-    /// Passes records.
-    Cat,
+    /// Passes records, with their numbers if asked.
+    Cat(Cat),
     /// Keeps fields, or drops them.
     Cut(Cut),
+    /// Passes one of each so many records.
+    Decimate(Decimate),
+    /// Fills fields with the last values that stood there.
+    FillDown(FillDown),
     /// Fills empty values.
     FillEmpty(FillEmpty),
     /// Makes a field of each leaf of a map or an array.
     Flatten(Flatten),
+    /// Puts records without fields between others.
+    Gap(Gap),
     /// Passes the records whose text matches.
     Grep(Grep),
     /// Replaces all matches in values.
     Gsub(Gsub),
     /// Passes the records with such fields.
     HavingFields(HavingFields),
+    /// Passes the first records.
+    Head(Head),
     /// Reads values as JSON.
     JsonParse(JsonParse),
     /// Writes values as JSON.
@@ -33,6 +42,8 @@ pub enum Spec {
     Label(Label),
     /// Drops all records.
     Nothing,
+    /// Gives records with the same keys one order of fields.
+    Regularize,
     /// Renames fields.
     Rename(Rename),
     /// Puts fields first, or last.

@@ -1,5 +1,5 @@
 //! What tests do with a verb: records of texts go in, and what comes out is shown as texts.
-ghost use Rattle.std.specs.Prelude.{◌≡◌, OnOk};
+ghost use Rattle.std.specs.Prelude.{[], OnOk};
 ghost use Rattle.verbs_stream.specs.Each.{IsSound};
 ghost use Rattle.verbs_stream.specs.Trying.{CanStep};
 
@@ -55,32 +55,32 @@ pub(crate) fn shown(alloc: Global, out: &Events) -> Result<Bytes, NoMemory> {
 }
 
 /// Gives a verb a record with its number.
-fn step_record(
-    verb: &mut StreamVerb,
-    record: Record,
+fn step_record<S: Step + Drop>(
+    verb: &mut S,
+    fields: Record,
     nr: u64,
     out: &mut Events,
 ) -> Result<(), NoMemory>
-    requires { CanStep verb.old }
-    ensures { OnOk result (CanStep verb.new) }
+    requires { CanStep S.stands verb.old }
+    ensures { OnOk result (CanStep S.stands verb.new) }
 {
     let at = Ctx {
         nr,
         fnr: nr,
         filenum: 1,
     };
-    verb.step(Event::Rec(record, at), out)
+    verb.step(Event::Rec(fields, at), out)
 }
 
 /// Gives a verb a record for each line.
-fn step_lines(
+fn step_lines<S: Step + Drop>(
     alloc: Global,
-    verb: &mut StreamVerb,
+    verb: &mut S,
     lines: &str,
     out: &mut Events,
 ) -> Result<(), NoMemory>
-    requires { CanStep verb.old }
-    ensures { OnOk result (CanStep verb.new) }
+    requires { CanStep S.stands verb.old }
+    ensures { OnOk result (CanStep S.stands verb.new) }
 {
     for (nr, line) in lines.split('\n').enumerate() {
         step_record(verb, record_of(alloc, line)?, nr as u64, out)?;
@@ -88,11 +88,12 @@ fn step_lines(
     Ok(())
 }
 
-/// What the verb of these options makes of records, a line for each, and of the end.
-pub(crate) fn tried(alloc: Global, spec: Spec, lines: &str) -> Result<Bytes, NoMemory>
-    requires { IsSound spec }
+/// What a verb makes of records, a line for each, and of the end. It is generic, as the frame of a function that holds a
+/// `StreamVerb` is too large a value for the prover.
+fn events_of<S: Step + Drop>(alloc: Global, verb: S, lines: &str) -> Result<Events, NoMemory>
+    requires { S.stands verb [] }
 {
-    let mut verb = StreamVerb::new(alloc, spec)?;
+    let mut verb = verb;
     let mut out = Events::new(alloc);
     step_lines(alloc, &mut verb, lines, &mut out)?;
     let at = Ctx {
@@ -101,7 +102,26 @@ pub(crate) fn tried(alloc: Global, spec: Spec, lines: &str) -> Result<Bytes, NoM
         filenum: 1,
     };
     verb.step(Event::End(at), &mut out)?;
-    shown(alloc, &out)
+    Ok(out)
+}
+
+/// Whether a verb is closed behind these lines.
+fn closes_behind<S: Step + Drop>(alloc: Global, verb: S, lines: &str) -> Result<bool, NoMemory>
+    requires { S.stands verb [] }
+{
+    let mut verb = verb;
+    let mut out = Events::new(alloc);
+    step_lines(alloc, &mut verb, lines, &mut out)?;
+    Ok(verb.closed())
+}
+
+/// What the verb of these options makes of records, a line for each, and of the end, as text.
+pub(crate) fn tried(alloc: Global, spec: Spec, lines: &str) -> Result<Bytes, NoMemory>
+    requires { IsSound spec }
+{
+    let verb = StreamVerb::new(alloc, spec)?;
+    let events = events_of(alloc, verb, lines)?;
+    shown(alloc, &events)
 }
 
 /// The names of a text such as `a,b`.
@@ -129,4 +149,12 @@ pub(crate) fn makes(alloc: Global, spec: Spec, lines: &str, want: &str) -> Resul
     let mut whole = Bytes::copy_of(alloc, want.as_bytes())?;
     whole.append(b"end\n")?;
     Ok(made == whole)
+}
+
+/// Whether the verb of these options is closed behind these lines.
+pub(crate) fn shut_behind(alloc: Global, spec: Spec, lines: &str) -> Result<bool, NoMemory>
+    requires { IsSound spec }
+{
+    let verb = StreamVerb::new(alloc, spec)?;
+    closes_behind(alloc, verb, lines)
 }

@@ -6,8 +6,8 @@ use mlr_value::Bytes;
 #[test]
 fn records_pass_or_go(rt: HostRuntime) -> Result<(), NoMemory> {
     let alloc = rt.alloc();
-    let passed = tried(alloc, Spec::Cat, "a=1,b=2\nb=3")?;
-    assert_eq!(rt; passed.as_slice(), b"a=1,b=2\nb=3\nend\n".as_slice());
+    let passed = tried(alloc, Spec::Altkv, "a=1,b=2\nb=3")?;
+    assert_eq!(rt; passed.as_slice(), b"1=2\n1=3\nend\n".as_slice());
     let dropped = tried(alloc, Spec::Nothing, "a=1,b=2\nb=3")?;
     assert_eq!(rt; dropped.as_slice(), b"end\n".as_slice());
     Ok(())

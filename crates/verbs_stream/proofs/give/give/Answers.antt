@@ -2,7 +2,7 @@ use Rattle.std.proofs.Common.{◌++◌, ap, replicate, sym, ◌∙◌}
 use Rattle.std.proofs.lemmas.Result.{on_ok_weaker}
 use Rattle.mlr_event.specs.declared.event.Event.TheVariants as event
 use Rattle.verbs_stream.specs.Each.{each_of, times}
-use Rattle.verbs_stream.specs.Streaming.{rows}
+use Rattle.verbs_state.specs.Streaming.{rows}
 use Rattle.verbs_stream.proofs.Rows.{rows-replicate}
 use Rattle.verbs_stream.proofs.give.give.Goals as goal
 

@@ -1,5 +1,5 @@
-use Rattle.std.proofs.Common.{[]}
+use Rattle.verbs_state.specs.Streaming.{records_in}
 use Rattle.verbs_stream.proofs.verb.StreamVerbStep.closed.Goals as goal
 
 pub returns : goal.returns
-returns c given stands = c.is_shut.ensures [] stands.1
+returns c given stands = c.is_shut.ensures (records_in given) stands.1

@@ -1,14 +1,14 @@
 use Rattle.std.proofs.Common.{refl}
 use Rattle.mlr_event.specs.Verb.{gives}
 use Rattle.mlr_event.proofs.Making.{made-next}
-use Rattle.verbs_stream.specs.Each.{streaming_of}
-use Rattle.verbs_stream.specs.Laws.{verb-quiet}
-use Rattle.verbs_stream.specs.Streaming.{verb_of}
+use Rattle.verbs_state.specs.Laws.{verb-quiet}
+use Rattle.verbs_state.specs.Streaming.{verb_of}
+use Rattle.verbs_stream.specs.Kinds.{meaning_of}
 use Rattle.verbs_stream.proofs.verb.StreamVerbStep.step.Goals as goal
 
 pub returns-clause-adds : goal.returns-clause-adds
 returns-clause-adds c given stands open_is =
-    let streaming = streaming_of c.args.self.now.verb.spec in (
+    let streaming = meaning_of c.args.self.now.verb in (
       gives (verb_of streaming) given c.args.event,
       made-next (verb_of streaming) (verb-quiet streaming) refl given c.args.event open_is,
       c.in_default.ensures.gives given stands.1,

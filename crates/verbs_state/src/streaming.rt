@@ -1,7 +1,7 @@
 ghost use Rattle.std.specs.Prelude.{◌≡◌, ◌++◌, ◌∷◌, [], List, OnOk};
 ghost use Rattle.mlr_event.specs.declared.event.Event.{Event as SpecEvent};
 ghost use Rattle.mlr_event.specs.Verb.{gives};
-ghost use Rattle.verbs_stream.specs.Streaming.{Fields, StaysShut, Streaming, records_in, rows, verb_of};
+ghost use Rattle.verbs_state.specs.Streaming.{Fields, StaysShut, Streaming, records_in, rows, verb_of};
 
 use mlr_event::{Ctx, Event, Events};
 use mlr_record::Record;

@@ -1,11 +1,17 @@
 -- Verbs that give records for each record, by the records before it, and nothing at the end.
-use Rattle.std.specs.Prelude.{◌≡◌, ℕ, Bool, true, false, List, [], ◌∷◌, ◌++◌, map}
+use Rattle.std.specs.Prelude.{◌≡◌, ℕ, Bool, true, false, List, [], ◌∷◌, ◌++◌, map, Option, Some, None}
 use Rattle.std.specs.List.{flat_map}
+use Rattle.std.specs.Option.{unwrap_or}
 use Rattle.mlr_spec.specs.Tree.{Tree}
 use Rattle.mlr_event.specs.declared.event.Ctx.{Ctx}
 use Rattle.mlr_event.specs.declared.event.Event.{Event}
 use Rattle.mlr_event.specs.declared.event.Event.TheVariants as event
 use Rattle.mlr_event.specs.Verb.{Verb}
+
+-- the last of a list, if it has one
+abbrev pub last : {A : Type 0} → List A → Option A
+last [] = None
+last (x ∷ xs) = Some (unwrap_or (last xs) x)
 
 -- a record
 abbrev pub Fields : Type 0

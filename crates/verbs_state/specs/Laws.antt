@@ -3,8 +3,9 @@ use Rattle.std.proofs.Common.{◌≡◌, Bool, true, false, List, [], ◌∷◌,
 use Rattle.std.specs.List.{list_all}
 use Rattle.std.proofs.lemmas.Grind.{flat_map-append}
 use Rattle.mlr_event.specs.declared.event.Ctx.{Ctx}
-use Rattle.mlr_event.specs.Verb.{IsQuiet, StaysClosed, is_record}
-use Rattle.verbs_stream.specs.Streaming.{Fields, StaysShut, Streaming, each, record_in, records_in, rows, verb_of}
+use Rattle.mlr_event.specs.Parts.{records-part}
+use Rattle.mlr_event.specs.Verb.{IsQuiet, KeepsOrder, StaysClosed, is_record}
+use Rattle.verbs_state.specs.Streaming.{Fields, StaysShut, Streaming, each, record_in, records_in, rows, verb_of}
 
 -- such a verb gives records alone, and once it is closed nothing
 pub rows-records : (ctx : Ctx) (records : List Fields) → list_all is_record (rows ctx records) ≡ true
@@ -18,14 +19,22 @@ verb-quiet streaming none = record {
   late = λ before ctx. refl;
 }
 
+pub verb-orderly : (streaming : Streaming) → KeepsOrder (verb_of streaming)
+verb-orderly streaming = record {
+  first = refl;
+  now = λ before fields ctx. records-part (rows ctx (streaming.gives (records_in before) fields)) (rows-records ctx (streaming.gives (records_in before) fields));
+  late = λ before ctx. refl;
+}
+
 pub verb-closes : (streaming : Streaming) → StaysShut streaming → StaysClosed (verb_of streaming)
 verb-closes streaming shuts before behind is = (
   λ fields ctx. ap (rows ctx) (ap (λ b. streaming.gives b fields) (flat_map-append record_in before behind) ∙ shuts (records_in before) (records_in behind) fields is),
   λ ctx. refl,
 )
 
-pub each-shuts : (gives : Fields → List Fields) → StaysShut (each gives)
-each-shuts gives before behind fields is = absurd (let e : false ≡ true = is in cc)
+-- a verb that never closes
+pub never-shuts : (gives : List Fields → Fields → List Fields) → StaysShut (record { gives = gives; closed = λ before. false })
+never-shuts gives before behind fields is = absurd (let e : false ≡ true = is in cc)
 
-pub never-both : (b : Bool) → b ≡ false → b ≡ true → ⊥
-never-both b left right = let e : false ≡ true = sym left ∙ right in cc
+pub each-shuts : (gives : Fields → List Fields) → StaysShut (each gives)
+each-shuts gives = never-shuts (λ before. gives)

@@ -1,0 +1,177 @@
+ghost use Rattle.std.specs.Prelude.{◌≡◌, ◌++◌, ◌∷◌, [], false, true, length, if◌then◌else◌, is_ok, IfOk, OnOk, Some, None, slice_get};
+ghost use Rattle.std.specs.Option.{option_map};
+ghost use Rattle.mlr_spec.specs.Pairs.{are_distinct};
+ghost use Rattle.mlr_value.specs.Value.{tree_of};
+ghost use Rattle.mlr_event.specs.Reading.{is_among};
+ghost use Rattle.text_forms.specs.Shown.{shown};
+ghost use Rattle.mlr_groups.specs.Grouping.{group_of, texts_of};
+ghost use Rattle.mlr_groups.specs.Keys.{entered, escaped, key_of};
+
+use indexmap::IndexSet;
+use memchr::memchr;
+use mlr_event::Names;
+use mlr_record::Record;
+use mlr_spec::NoMemory;
+use mlr_value::{Bytes, Value};
+use std::alloc::Global;
+use std::marker::Model;
+use text_forms::{held_text, shown};
+
+/// Puts the key of the texts of the named fields behind `key`, with the empty text for a field that is missing. Two
+/// records have one key where all these texts are equal. It takes memory where `key` lacks the room, and for a moment
+/// where a value's text is printed and has more than 16 bytes.
+pub fn append_texts(
+    alloc: Global,
+    names: &Names,
+    fields: &Record,
+    key: &mut Bytes,
+) -> Result<(), NoMemory>
+    ensures { OnOk result (key.new ≡ key.old ++ key_of (texts_of names.now fields.now)) }
+{
+    for name in names.as_slice() {
+        match fields.get(name.as_slice()) {
+            Some(value) => append_value(alloc, value, key)?,
+            None => key.append(END)?,
+        }
+    }
+    Ok(())
+}
+
+/// Puts the key of a record's group behind `key`, and says whether the record is in one: where it lacks a named field,
+/// what was put is no key.
+pub(crate) fn append_group(
+    alloc: Global,
+    names: &Names,
+    fields: &Record,
+    key: &mut Bytes,
+) -> Result<bool, NoMemory>
+    ensures { IfOk result (λ has. option_map (λ texts. key.old ++ key_of texts) (group_of names.now fields.now) ≡ (if has then Some key.new else None)) }
+{
+    for name in names.as_slice() {
+        let Some(value) = fields.get(name.as_slice()) else {
+            return Ok(false);
+        };
+        append_value(alloc, value, key)?;
+    }
+    Ok(true)
+}
+
+/// What ends each text in a key. No text has it, since in texts a byte 0 has a 1 behind it.
+const END: &[u8] = &[0, 0];
+
+/// Puts the text of a value and its end behind `key`.
+#[inline(always)]
+fn append_value(alloc: Global, value: &Value, key: &mut Bytes) -> Result<(), NoMemory>
+    ensures { OnOk result (key.new ≡ key.old ++ escaped (shown (tree_of value.now)) ++ 0 ∷ 0 ∷ []) }
+{
+    match held_text(value) {
+        Some(text) => append_text(text, key),
+        None => append_printed(alloc, value, key),
+    }
+}
+
+/// Puts the text of a value that doesn't hold it, and its end, behind `key`.
+#[inline(never)]
+fn append_printed(alloc: Global, value: &Value, key: &mut Bytes) -> Result<(), NoMemory>
+    ensures { OnOk result (key.new ≡ key.old ++ escaped (shown (tree_of value.now)) ++ 0 ∷ 0 ∷ []) }
+{
+    let text = shown(alloc, value)?;
+    append_text(text.as_slice(), key)
+}
+
+/// Puts a text and its end behind `key`: one text after another makes the key of them all. It takes memory where `key`
+/// lacks the room.
+#[inline(always)]
+pub fn append_text(text: &[u8], key: &mut Bytes) -> Result<(), NoMemory>
+    ensures { OnOk result (key.new ≡ key.old ++ escaped text.now ++ 0 ∷ 0 ∷ []) }
+{
+    append_escaped(text, key)?;
+    key.append(END)
+}
+
+/// Puts a text behind `key`, in which each byte 0 has a 1 behind it.
+#[inline(always)]
+fn append_escaped(text: &[u8], key: &mut Bytes) -> Result<(), NoMemory>
+    ensures { OnOk result (key.new ≡ key.old ++ escaped text.now) }
+{
+    match memchr(0, text) {
+        None => key.append(text),
+        Some(_) => append_each(text, key),
+    }
+}
+
+/// Puts a text with a byte 0 behind `key`, one byte after another.
+#[inline(never)]
+fn append_each(text: &[u8], key: &mut Bytes) -> Result<(), NoMemory>
+    ensures { OnOk result (key.new ≡ key.old ++ escaped text.now) }
+{
+    for byte in text {
+        key.push(*byte)?;
+        if *byte == 0 {
+            key.push(1)?;
+        }
+    }
+    Ok(())
+}
+
+/// Keys, no two of them equal, in the order in which they came first. A search goes by a hash of the key.
+#[derive(Drop)]
+pub struct KeyTable {
+    alloc: Global,
+    keys: IndexSet<Vec<u8>>,
+}
+
+impl Model for KeyTable {
+    ghost use Rattle.std.specs.Prelude.{List, ℕ};
+    ghost use Rattle.mlr_value.specs.Collections.{texts_in};
+
+    ghost Value = { List (List ℕ) };
+
+    ghost view = { λ table. texts_in table.keys.keys };
+}
+
+impl KeyTable {
+    /// A table without keys. It takes no memory.
+    pub fn new(alloc: Global) -> Self
+        ensures { result ≡ [] }
+    {
+        KeyTable {
+            alloc,
+            keys: IndexSet::new(alloc),
+        }
+    }
+
+    /// How many keys there are.
+    pub fn len(&self) -> usize
+        ensures length { result ≡ length self.now }
+        ensures distinct { are_distinct self.now ≡ true }
+    {
+        self.keys.len()
+    }
+
+    /// The place of this key, which counts from 0; a key that isn't there is put last. It takes memory for a new key
+    /// alone.
+    pub fn enter(&mut self, key: &[u8]) -> Result<usize, NoMemory>
+        ensures entered { self.new ≡ (if is_ok result then entered self.old key.now else self.old) }
+        ensures place { IfOk result (λ place. slice_get self.new place ≡ Some key.now) }
+    {
+        match self.keys.get_index_of(key) {
+            Some(place) => Ok(place),
+            None => self.push(key),
+        }
+    }
+
+    /// Puts a key last that isn't there, and answers its place.
+    #[cold]
+    #[inline(never)]
+    fn push(&mut self, key: &[u8]) -> Result<usize, NoMemory>
+        requires { is_among self.old key.now ≡ false }
+        ensures pushed { self.new ≡ (if is_ok result then self.old ++ key.now ∷ [] else self.old) }
+        ensures place { IfOk result (λ place. slice_get self.new place ≡ Some key.now) }
+    {
+        let place = self.keys.len();
+        let key = Vec::from_slice(self.alloc, key)?;
+        self.keys.insert(key)?;
+        Ok(place)
+    }
+}

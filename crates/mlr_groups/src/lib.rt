@@ -1,0 +1,19 @@
+//! Records in groups, by the texts of some of their fields: which group a record is in, and how many of its group came
+//! before it.
+#![tactic(auto)]
+
+mod groups;
+#[cfg(test)]
+mod groups_tests;
+mod keys;
+#[cfg(test)]
+mod keys_tests;
+#[cfg(test)]
+mod samples;
+mod tallies;
+#[cfg(test)]
+mod tallies_tests;
+
+pub use groups::Groups;
+pub use keys::{KeyTable, append_text, append_texts};
+pub use tallies::{Tallies, next_count};

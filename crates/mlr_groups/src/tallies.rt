@@ -1,0 +1,59 @@
+ghost use Rattle.std.specs.Prelude.{◌≡◌, ◌++◌, ◌∷◌, ◌+◌, [], ℕ, List, IfOk, OnOk};
+ghost use Rattle.mlr_groups.specs.Grouping.{Fields};
+ghost use Rattle.mlr_groups.specs.Standing.{TalliesOf};
+ghost use Rattle.mlr_groups.specs.Tallying.{capped, tally};
+
+use crate::groups::Groups;
+use mlr_event::Names;
+use mlr_record::Record;
+use mlr_spec::NoMemory;
+use std::alloc::Global;
+
+/// How many records so far are in each group.
+#[derive(Drop)]
+pub struct Tallies {
+    groups: Groups,
+    counts: Vec<u64>,
+}
+
+impl Tallies {
+    /// No records yet. It takes no memory.
+    pub fn new(alloc: Global, names: Names) -> Self
+        ensures { TalliesOf names [] result }
+    {
+        Tallies {
+            groups: Groups::new(alloc, names),
+            counts: Vec::new(alloc),
+        }
+    }
+
+    /// Counts a record, and answers how many of its group came before it. A record that lacks a named field is in no
+    /// group. It takes memory for a new group, and where the key of one is longer than those before.
+    pub fn count(&mut self, fields: &Record) -> Result<Option<u64>, NoMemory>
+        ensures stands { OnOk result ((names : List (List ℕ)) (before : List Fields) → TalliesOf names before self.old → TalliesOf names (before ++ fields.now ∷ []) self.new) }
+        ensures count { IfOk result (λ count. (names : List (List ℕ)) (before : List Fields) → TalliesOf names before self.old → count ≡ tally names before fields.now) }
+    {
+        let Some(place) = self.groups.enter(fields)? else {
+            return Ok(None);
+        };
+        if place < self.counts.len() {
+            let count = self.counts[place];
+            self.counts[place] = next_count(count);
+            Ok(Some(count))
+        } else {
+            self.counts.push(1)?;
+            Ok(Some(0))
+        }
+    }
+}
+
+/// The greatest count, at which counting stops: what a signed integer can hold.
+const MOST: u64 = (1 << 63) - 1;
+
+/// The count with one more record. It stops at 2^63 - 1.
+pub fn next_count(count: u64) -> u64
+    ensures next { result ≡ capped (count + 1) }
+    ensures counted { (n : ℕ) → count ≡ capped n → result ≡ capped (n + 1) }
+{
+    if count < MOST { count + 1 } else { MOST }
+}

@@ -1,0 +1,6 @@
+use Rattle.verbs_seq.specs.Trying.{CanFill}
+use Rattle.verbs_seq.proofs.tests.nine.Given as goal
+
+-- it may be asked for more
+abbrev pub invariant-loop : goal.invariant-loop
+invariant-loop l = CanFill l.source

@@ -1,0 +1,3 @@
+pub mod Seq
+pub mod Standing
+pub mod Trying

@@ -1,0 +1,59 @@
+ghost use Rattle.std.specs.Prelude.{◌≡◌, ◌≢◌, ◌↔◌, ◌/◌, pos, ◌-ℤ◌, unsigned_abs, IfOk, IsTrue};
+ghost use Rattle.verbs_seq.specs.Seq.{IsSoundSeq, begins};
+
+use mlr_spec::NoMemory;
+use mlr_value::Bytes;
+use std::alloc::Global;
+
+/// How many records there may be.
+const MOST_RECORDS: u64 = 1 << 61;
+
+/// The options of `seqgen`: the name of the field, and the numbers from `start` on in steps, up to `stop` or, where the
+/// step is below 0, down to it.
+#[derive(Drop)]
+pub struct SeqSpec {
+    pub field: Bytes,
+    pub start: i64,
+    pub stop: i64,
+    pub step: i64,
+}
+
+impl SeqSpec {
+    /// Whether a source may count so: the step isn't 0, and there are at most 2^61 records.
+    pub fn is_sound(&self) -> bool
+        ensures { IsTrue result ↔ IsSoundSeq self.now }
+    {
+        self.step != 0 && (!self.begins() || self.steps() < MOST_RECORDS)
+    }
+
+    /// A copy. It takes memory for a name with more than 16 bytes.
+    pub fn copy(&self, alloc: Global) -> Result<Self, NoMemory>
+        ensures { IfOk result (λ copy. copy ≡ self.now) }
+    {
+        Ok(SeqSpec {
+            field: Bytes::copy_of(alloc, self.field.as_slice())?,
+            start: self.start,
+            stop: self.stop,
+            step: self.step,
+        })
+    }
+
+    /// Whether the start isn't beyond the stop.
+    pub(crate) fn begins(&self) -> bool
+        ensures { result ≡ begins self.now.start self.now.stop self.now.step }
+    {
+        if self.step > 0 {
+            self.start <= self.stop
+        } else {
+            self.stop <= self.start
+        }
+    }
+
+    /// How many whole steps lie between the start and the stop.
+    pub(crate) fn steps(&self) -> u64
+        requires { self.now.step ≢ pos 0 }
+        ensures { result ≡ unsigned_abs (self.now.stop -ℤ self.now.start) / unsigned_abs self.now.step }
+    {
+        self.stop.abs_diff(self.start) / self.step.unsigned_abs()
+    }
+}

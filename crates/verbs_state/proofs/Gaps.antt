@@ -1,0 +1,26 @@
+-- Gaps where the keys of the grouping texts differ.
+use Rattle.std.proofs.Common.{◌≡◌, ℕ, ◌<◌, not, List, [], ◌∷◌, ◌++◌, Option, Some, None, ap, ap₂, sym, subst, ◌∙◌, arith}
+use Rattle.std.specs.Option.{unwrap_or}
+use Rattle.std.specs.Str.{bytes_eq}
+use Rattle.mlr_groups.specs.Grouping.{texts_of}
+use Rattle.mlr_groups.specs.Keys.{key_of}
+use Rattle.mlr_groups.proofs.KeyTexts.{key-eq}
+use Rattle.verbs_state.specs.declared.options.Gap.TheVariants as gap
+use Rattle.verbs_state.specs.Gaps.{IsLastKey, StandsBehind, is_apart}
+use Rattle.verbs_state.specs.Streaming.{Fields, last}
+use Rattle.verbs_state.proofs.Lasts.{last-push}
+
+-- a key of the last record's texts, if there is one
+abbrev IsKeyOf : List (List ℕ) → List ℕ → Option Fields → Type 0
+IsKeyOf names key end = elim end [ Some earlier ↦ key ≡ key_of (texts_of names earlier) | None ↦ Unit {0} ]
+
+module _ (names : List (List ℕ)) (fields : Fields) (key : List ℕ) (is : key ≡ key_of (texts_of names fields)) where
+  pub last_key-push : (before : List Fields) → IsLastKey (gap.Groups names) key (before ++ fields ∷ [])
+  last_key-push before = subst (IsKeyOf names key) (sym (last-push before fields)) is
+
+  -- behind a record there is a gap where the key changes
+  pub apart-changed : (before : List Fields) (count : ℕ) (old : List ℕ) → StandsBehind (gap.Groups names) count old before → 0 < count
+      → not (bytes_eq old key) ≡ is_apart (gap.Groups names) before fields
+  apart-changed [] count old stands some = absurd (omega (arith, stands.1))
+  apart-changed (first ∷ before) count old stands some =
+      ap not (ap₂ bytes_eq stands.2 is ∙ key-eq (texts_of names (unwrap_or (last before) first)) (texts_of names fields))

@@ -1,0 +1,6 @@
+mod Lasts
+mod FillingDown
+mod Gaps
+mod Names
+mod Regularizing
+pub mod Crosses

@@ -1,0 +1,7 @@
+use Rattle.std.proofs.Common.{◌≡◌, ◌++◌, drop, map}
+use Rattle.mlr_groups.specs.Keys.{key_of}
+use Rattle.verbs_state.proofs.regularize.append_names.Given as goal
+
+-- the key so far and that of the names that are left
+abbrev pub invariant-loop-name : goal.invariant-loop-name
+invariant-loop-name l = l.key ++ key_of (map (λ name. name.now) (drop l.name-index l.names)) ≡ l.fn.key ++ key_of (map (λ name. name.now) l.names)

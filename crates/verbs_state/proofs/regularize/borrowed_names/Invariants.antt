@@ -1,0 +1,7 @@
+use Rattle.std.proofs.Common.{◌≡◌, ◌++◌, drop, map}
+use Rattle.mlr_spec.specs.Pairs.{keys_of}
+use Rattle.verbs_state.proofs.regularize.borrowed_names.Given as goal
+
+-- the names so far and those of the fields that are left
+abbrev pub invariant-loop-place : goal.invariant-loop-place
+invariant-loop-place l = map (λ name. name.now) l.names.items ++ keys_of (drop l.place l.fields) ≡ keys_of l.fields

@@ -1,0 +1,44 @@
+-- `fill-down`: fields take the last values that stood there.
+use Rattle.std.specs.Prelude.{◌≡◌, ℕ, Bool, false, not, ◌&&◌, if◌then◌else◌, List, [], ◌∷◌, map, Option, Some, None}
+use Rattle.std.specs.List.{filter_map, fold}
+use Rattle.std.specs.Option.{option_map}
+use Rattle.mlr_spec.specs.Tree.{Tree}
+use Rattle.mlr_spec.specs.Pairs.{put_at, value_at}
+use Rattle.mlr_value.specs.Value.{tree_of}
+use Rattle.mlr_value.specs.declared.value.Value.{Value}
+use Rattle.verbs_fields.specs.Choosing.{is_empty}
+use Rattle.verbs_state.specs.declared.options.FillDown.{FillDown}
+use Rattle.verbs_state.specs.Streaming.{Fields, Streaming, last}
+
+-- the value under a name that a later record may take: with `-a` none that is empty, since an empty field is filled
+-- itself, and what it is filled with stands in an earlier record
+abbrev pub standing : Bool → List ℕ → Fields → Option Tree
+standing blank name fields = elim (value_at name fields) [
+  | Some value ↦ (if blank && is_empty value then None else Some value)
+  | None ↦ None
+]
+
+-- the last value that stood there
+abbrev pub last_standing : Bool → List ℕ → List Fields → Option Tree
+last_standing blank name before = last (filter_map (standing blank name) before)
+
+-- whether the field is to be filled: it is absent, or with `-a` present and empty
+abbrev pub is_wanting : Bool → List ℕ → Fields → Bool
+is_wanting blank name fields = elim (value_at name fields) [ Some value ↦ blank && is_empty value | None ↦ not blank ]
+
+-- one field filled, in its place or last
+abbrev pub filled : Bool → List Fields → Fields → List ℕ → Fields
+filled blank before fields name = elim (last_standing blank name before) [
+  | Some value ↦ (if is_wanting blank name fields then put_at name value fields else fields)
+  | None ↦ fields
+]
+
+abbrev pub fill_down_gives : FillDown → List Fields → Fields → List Fields
+fill_down_gives options before fields = fold (filled options.blank before) fields options.names ∷ []
+
+abbrev pub fill_down : FillDown → Streaming
+fill_down options = record { gives = fill_down_gives options; closed = λ before. false }
+
+-- what is kept: for each name the last value that stood there
+abbrev pub KeepsLast : FillDown → List (Option Value) → List Fields → Type 0
+KeepsLast options kept before = map (option_map tree_of) kept ≡ map (λ name. last_standing options.blank name before) options.names

@@ -1,0 +1,157 @@
+ghost use Rattle.std.specs.Prelude.{◌≡◌, ◌++◌, ◌∷◌, [], List, None, Some, true, IfOk, OnOk, length, map, replicate, vec_len};
+ghost use Rattle.std.specs.List.{fold};
+ghost use Rattle.std.specs.Option.{option_map, option_or};
+ghost use Rattle.mlr_value.specs.Value.{tree_of};
+ghost use Rattle.verbs_state.specs.FillingDown.{KeepsLast, fill_down, filled, is_wanting, last_standing, standing};
+ghost use Rattle.verbs_state.specs.Streaming.{Fields};
+
+use crate::options::FillDown;
+use crate::streaming::Stream;
+use mlr_event::{Ctx, Event, Events};
+use mlr_record::Record;
+use mlr_spec::NoMemory;
+use mlr_value::Value;
+use std::alloc::Global;
+use std::mem::replace;
+
+/// `fill-down`: it keeps for each name the last value that stood there.
+#[derive(Drop)]
+pub struct FillDownVerb {
+    alloc: Global,
+    options: FillDown,
+    kept: Vec<Option<Value>>,
+}
+
+impl FillDownVerb {
+    /// The verb of these options, which was given nothing. It takes the room of a value for each name.
+    pub fn new(alloc: Global, options: FillDown) -> Result<Self, NoMemory>
+        ensures meaning { IfOk result (λ made. ⟦<FillDownVerb as Stream>⟧.meaning made ≡ fill_down options) }
+        ensures stands { IfOk result (λ made. ⟦<FillDownVerb as Stream>⟧.stands made []) }
+    {
+        let kept = no_values(alloc, options.names.len())?;
+        Ok(FillDownVerb {
+            alloc,
+            options,
+            kept,
+        })
+    }
+}
+
+impl Stream for FillDownVerb {
+    ghost use Rattle.verbs_state.specs.FillingDown.{KeepsLast, fill_down};
+    ghost use Rattle.verbs_state.specs.Laws.{never-shuts};
+
+    ghost meaning = { λ s. fill_down s.options };
+
+    ghost stands = { λ s before. KeepsLast s.options s.kept.items before };
+
+    ghost shuts = { λ s. never-shuts (fill_down s.options).gives };
+
+    fn take(&mut self, fields: Record, ctx: Ctx, out: &mut Events) -> Result<(), NoMemory> {
+        let mut fields = fields;
+        fill_each(self.alloc, &self.options, &mut self.kept, &mut fields)?;
+        out.push(Event::Rec(fields, ctx))
+    }
+
+    fn is_shut(&self) -> bool {
+        false
+    }
+}
+
+/// So many places without a value.
+fn no_values(alloc: Global, count: usize) -> Result<Vec<Option<Value>>, NoMemory>
+    ensures { IfOk result (λ made. made.items ≡ replicate count None) }
+{
+    let mut values = Vec::with_capacity(alloc, count)?;
+    for _ in 0..count {
+        values.push(None)?;
+    }
+    Ok(values)
+}
+
+/// Fills the named fields in turn, and keeps the values that stand in the record as it came.
+fn fill_each(
+    alloc: Global,
+    options: &FillDown,
+    kept: &mut [Option<Value>],
+    fields: &mut Record,
+) -> Result<(), NoMemory>
+    requires { length kept.old ≡ length options.now.names }
+    ensures fields { OnOk result ((before : List Fields) → KeepsLast options.now kept.old before → fields.new ≡ fold (filled options.now.blank before) fields.old options.now.names) }
+    ensures kept { OnOk result ((before : List Fields) → KeepsLast options.now kept.old before → KeepsLast options.now kept.new (before ++ fields.old ∷ [])) }
+    ensures length { length kept.new ≡ length kept.old }
+{
+    for (place, name) in options.names.as_slice().iter().enumerate() {
+        fill(
+            alloc,
+            options.blank,
+            name.as_slice(),
+            &mut kept[place],
+            fields,
+        )?;
+    }
+    Ok(())
+}
+
+/// Fills the field of this name with the value that is kept, if it wants one; else keeps the value that stands there. A
+/// name may repeat: what an earlier one was filled with is what is kept of it.
+fn fill(
+    alloc: Global,
+    blank: bool,
+    name: &[u8],
+    kept: &mut Option<Value>,
+    fields: &mut Record,
+) -> Result<(), NoMemory>
+    ensures fields { OnOk result ((before : List Fields) → option_map tree_of kept.old ≡ last_standing blank name.now before → fields.new ≡ filled blank before fields.old name.now) }
+    ensures kept { OnOk result (option_map tree_of kept.new ≡ option_or (standing blank name.now fields.old) (option_map tree_of kept.old)) }
+{
+    if !keep(alloc, blank, name, fields, kept)? {
+        return Ok(());
+    }
+    match kept {
+        Some(value) => fields.put(name, value.copy(alloc)?),
+        None => Ok(()),
+    }
+}
+
+/// Keeps the value that stands under this name, and says whether one is wanted in its place.
+fn keep(
+    alloc: Global,
+    blank: bool,
+    name: &[u8],
+    fields: &Record,
+    kept: &mut Option<Value>,
+) -> Result<bool, NoMemory>
+    ensures wants { IfOk result (λ wants. wants ≡ is_wanting blank name.now fields.now) }
+    ensures kept { OnOk result (option_map tree_of kept.new ≡ option_or (standing blank name.now fields.now) (option_map tree_of kept.old)) }
+    ensures wanting { IfOk result (λ wants. wants ≡ true → kept.new ≡ kept.old) }
+{
+    match fields.get(name) {
+        None => Ok(!blank),
+        Some(Value::Empty) if blank => Ok(true),
+        Some(value) => {
+            keep_copy(alloc, value, kept)?;
+            Ok(false)
+        }
+    }
+}
+
+/// Keeps a copy of the value, unless that is what is kept.
+fn keep_copy(alloc: Global, value: &Value, kept: &mut Option<Value>) -> Result<(), NoMemory>
+    ensures { OnOk result (option_map tree_of kept.new ≡ Some (tree_of value.now)) }
+{
+    if !holds_text(kept, value) {
+        replace(kept, Some(value.copy(alloc)?));
+    }
+    Ok(())
+}
+
+/// Whether what is kept is a string of the same bytes. Any other value is as soon copied as compared.
+fn holds_text(kept: &Option<Value>, value: &Value) -> bool
+    ensures { result ≡ true → option_map tree_of kept.now ≡ Some (tree_of value.now) }
+{
+    match (kept, value) {
+        (Some(Value::Str(text)), Value::Str(other)) => text == other,
+        _ => false,
+    }
+}

@@ -1,0 +1,195 @@
+ghost use Rattle.std.specs.Prelude.{◌≡◌, ◌<◌, ◌++◌, ◌∷◌, [], true, List, ℕ, Some, IfOk, OnOk, length, map, slice_get, slice_index_or};
+ghost use Rattle.mlr_spec.specs.Pairs.{are_distinct, keys_of};
+ghost use Rattle.mlr_groups.specs.Keys.{key_of};
+ghost use Rattle.verbs_fields.specs.Choosing.{picked};
+ghost use Rattle.verbs_fields.specs.Sorting.{by_name};
+ghost use Rattle.verbs_state.specs.Regularizing.{KeepsFirsts, regular, regularize, sorted_names};
+ghost use Rattle.verbs_state.specs.Streaming.{Fields};
+
+use crate::streaming::Stream;
+use mlr_event::{Ctx, Event, Events, Names};
+use mlr_groups::{KeyTable, append_text};
+use mlr_record::Record;
+use mlr_spec::NoMemory;
+use mlr_value::Bytes;
+use std::alloc::Global;
+use verbs_fields::pick_named;
+
+/// `regularize`: it keeps the sets of keys that came, and of each set the order in which its first record has them.
+#[derive(Drop)]
+pub struct RegularizeVerb {
+    alloc: Global,
+    sets: KeyTable,
+    orders: Vec<Names>,
+    /// The place of the last record's set, which is the next record's in most data.
+    last: usize,
+    key: Bytes,
+}
+
+impl RegularizeVerb {
+    /// The verb that was given nothing. It takes no memory.
+    pub fn new(alloc: Global) -> Self
+        ensures meaning { ⟦<RegularizeVerb as Stream>⟧.meaning result ≡ regularize }
+        ensures stands { ⟦<RegularizeVerb as Stream>⟧.stands result [] }
+    {
+        RegularizeVerb {
+            alloc,
+            sets: KeyTable::new(alloc),
+            orders: Vec::new(alloc),
+            last: 0,
+            key: Bytes::new(alloc),
+        }
+    }
+}
+
+impl Stream for RegularizeVerb {
+    ghost use Rattle.verbs_state.specs.Regularizing.{KeepsFirsts, regularize};
+    ghost use Rattle.verbs_state.specs.Laws.{never-shuts};
+
+    ghost meaning = { λ s. regularize };
+
+    ghost stands = { λ s before. KeepsFirsts s.sets s.orders.items before };
+
+    ghost shuts = { λ s. never-shuts regularize.gives };
+
+    fn take(&mut self, fields: Record, ctx: Ctx, out: &mut Events) -> Result<(), NoMemory> {
+        let (sets, orders, key) = (&mut self.sets, &mut self.orders, &mut self.key);
+        let made = regular(self.alloc, fields, sets, orders, &mut self.last, key)?;
+        out.push(Event::Rec(made, ctx))
+    }
+
+    fn is_shut(&self) -> bool {
+        false
+    }
+}
+
+/// The fields in the order of the first record with their keys. `last` becomes the place of their set.
+fn regular(
+    alloc: Global,
+    fields: Record,
+    sets: &mut KeyTable,
+    orders: &mut Vec<Names>,
+    last: &mut usize,
+    key: &mut Bytes,
+) -> Result<Record, NoMemory>
+    requires { (before : List Fields) × KeepsFirsts sets.old orders.old.items before }
+    ensures made { IfOk result (λ made. (before : List Fields) → KeepsFirsts sets.old orders.old.items before → made ≡ regular before fields) }
+    ensures keeps { OnOk result ((before : List Fields) → KeepsFirsts sets.old orders.old.items before → KeepsFirsts sets.new orders.new.items (before ++ fields ∷ [])) }
+{
+    if has_order(orders, *last, &fields) {
+        return Ok(fields);
+    }
+    let place = enter(alloc, &fields, sets, orders, key)?;
+    *last = place;
+    in_order(&orders[place], fields)
+}
+
+/// Whether there is an order at this place, and the record has its fields in it.
+fn has_order(orders: &[Names], place: usize, fields: &Record) -> bool
+    ensures order { result ≡ true → slice_get orders.now place ≡ Some (keys_of fields.now) }
+    ensures distinct { result ≡ true → are_distinct (keys_of fields.now) ≡ true }
+{
+    match orders.get(place) {
+        Some(order) => are_names(order, fields),
+        None => false,
+    }
+}
+
+/// Whether these are the names of a record's fields, in their order.
+fn are_names(names: &Names, fields: &Record) -> bool
+    ensures names { result ≡ true → names.now ≡ keys_of fields.now }
+    ensures distinct { are_distinct (keys_of fields.now) ≡ true }
+{
+    if names.len() != fields.len() {
+        return false;
+    }
+    for (place, name) in names.as_slice().iter().enumerate() {
+        if name.as_slice() != fields.entry(place).0 {
+            return false;
+        }
+    }
+    true
+}
+
+/// The fields in the order of the names. It takes memory only where that isn't their order.
+fn in_order(names: &Names, fields: Record) -> Result<Record, NoMemory>
+    ensures { IfOk result (λ made. made ≡ picked names.now fields) }
+{
+    if are_names(names, &fields) {
+        return Ok(fields);
+    }
+    pick_named(names, fields)
+}
+
+/// The place of the record's set of keys, which is put last with the record's order if it is a new one.
+fn enter(
+    alloc: Global,
+    fields: &Record,
+    sets: &mut KeyTable,
+    orders: &mut Vec<Names>,
+    key: &mut Bytes,
+) -> Result<usize, NoMemory>
+    requires { (before : List Fields) × KeepsFirsts sets.old orders.old.items before }
+    ensures place { IfOk result (λ place. place < length orders.new.items) }
+    ensures order { IfOk result (λ place. (before : List Fields) (order : List (List ℕ)) → KeepsFirsts sets.old orders.old.items before → regular before fields.now ≡ picked (slice_index_or orders.new.items place order) fields.now) }
+    ensures keeps { OnOk result ((before : List Fields) → KeepsFirsts sets.old orders.old.items before → KeepsFirsts sets.new orders.new.items (before ++ fields.now ∷ [])) }
+{
+    key.clear();
+    append_sorted(alloc, fields, key)?;
+    let place = sets.enter(key.as_slice())?;
+    if place >= orders.len() {
+        orders.push(names_of(alloc, fields)?)?;
+    }
+    Ok(place)
+}
+
+/// The names of a record's fields.
+fn names_of(alloc: Global, fields: &Record) -> Result<Names, NoMemory>
+    ensures names { IfOk result (λ names. names ≡ keys_of fields.now) }
+    ensures distinct { are_distinct (keys_of fields.now) ≡ true }
+{
+    let mut names = Names::new(alloc);
+    for place in 0..fields.len() {
+        names.push(Bytes::copy_of(alloc, fields.entry(place).0)?)?;
+    }
+    Ok(names)
+}
+
+/// Puts the key of the record's names in byte order behind `key`.
+fn append_sorted(alloc: Global, fields: &Record, key: &mut Bytes) -> Result<(), NoMemory>
+    ensures { OnOk result (key.new ≡ key.old ++ key_of (keys_of (by_name fields.now))) }
+{
+    let mut names = borrowed_names(alloc, fields)?;
+    sort(&mut names);
+    append_names(&names, key)
+}
+
+/// Puts the key of these names behind `key`.
+fn append_names(names: &[&[u8]], key: &mut Bytes) -> Result<(), NoMemory>
+    ensures { OnOk result (key.new ≡ key.old ++ key_of (map (λ name. name.now) names.now)) }
+{
+    for name in names {
+        append_text(name, key)?;
+    }
+    Ok(())
+}
+
+/// The names of a record's fields, where they stand.
+fn borrowed_names(alloc: Global, fields: &Record) -> Result<Vec<&[u8]>, NoMemory>
+    ensures names { IfOk result (λ names. map (λ name. name.now) names.items ≡ keys_of fields.now) }
+    ensures distinct { are_distinct (keys_of fields.now) ≡ true }
+{
+    let mut names = Vec::with_capacity(alloc, fields.len())?;
+    for place in 0..fields.len() {
+        names.push(fields.entry(place).0)?;
+    }
+    Ok(names)
+}
+
+/// Puts names of which no two are equal into byte order.
+fn sort(names: &mut Vec<&[u8]>)
+    requires { are_distinct (map (λ name. name.now) names.old.items) ≡ true }
+    ensures { map (λ name. name.now) names.new.items ≡ sorted_names (map (λ name. name.now) names.old.items) }
+{
+    names.sort_unstable_by(|left, right| left.cmp(right));
+}

@@ -1,0 +1,39 @@
+-- What a streaming verb means, and how far it has come, by what it keeps.
+use Rattle.std.specs.Prelude.{List}
+use Rattle.verbs_state.specs.Counting.{cat, decimate, head}
+use Rattle.verbs_state.specs.CountingStanding.{CatStands, DecimateStands, HeadStands, head-shuts}
+use Rattle.verbs_state.specs.FillingDown.{KeepsLast, fill_down}
+use Rattle.verbs_state.specs.Gaps.{StandsBehind, gap_of}
+use Rattle.verbs_state.specs.Laws.{never-shuts}
+use Rattle.verbs_state.specs.Regularizing.{KeepsFirsts, regularize}
+use Rattle.verbs_state.specs.Streaming.{Fields, StaysShut, Streaming, each}
+use Rattle.verbs_stream.specs.declared.kind.Kind.{Kind}
+use Rattle.verbs_stream.specs.declared.kind.Kind.TheVariants as kind
+use Rattle.verbs_stream.specs.Each.{IsSound, each_of}
+
+abbrev pub meaning_of : Kind → Streaming
+meaning_of (kind.Each verb) = each (each_of verb.spec)
+meaning_of (kind.Cat verb) = cat verb.options
+meaning_of (kind.Decimate verb) = decimate verb.options
+meaning_of (kind.FillDown verb) = fill_down verb.options
+meaning_of (kind.Gap verb) = gap_of verb.options
+meaning_of (kind.Head verb) = head verb.options
+meaning_of (kind.Regularize verb) = regularize
+
+abbrev pub Stands : Kind → List Fields → Type 0
+Stands (kind.Each verb) before = IsSound verb.spec
+Stands (kind.Cat verb) before = CatStands verb before
+Stands (kind.Decimate verb) before = DecimateStands verb before
+Stands (kind.FillDown verb) before = KeepsLast verb.options verb.kept.items before
+Stands (kind.Gap verb) before = StandsBehind verb.options verb.count verb.key before
+Stands (kind.Head verb) before = HeadStands verb before
+Stands (kind.Regularize verb) before = KeepsFirsts verb.sets verb.orders.items before
+
+pub kind-shuts : (k : Kind) → StaysShut (meaning_of k)
+kind-shuts (kind.Each verb) = never-shuts (each (each_of verb.spec)).gives
+kind-shuts (kind.Cat verb) = never-shuts (cat verb.options).gives
+kind-shuts (kind.Decimate verb) = never-shuts (decimate verb.options).gives
+kind-shuts (kind.FillDown verb) = never-shuts (fill_down verb.options).gives
+kind-shuts (kind.Gap verb) = never-shuts (gap_of verb.options).gives
+kind-shuts (kind.Head verb) = head-shuts verb.options
+kind-shuts (kind.Regularize verb) = never-shuts regularize.gives
