@@ -1,0 +1,57 @@
+-- What a chain of verbs makes of a list of events.
+use Rattle.std.specs.Prelude.{◌≡◌, ℕ, Bool, true, false, not, ◌&&◌, ◌||◌, if◌then◌else◌, List, [], ◌∷◌, ◌++◌, map, Option, Some, None, is_some}
+use Rattle.std.specs.List.{find}
+use Rattle.mlr_event.specs.declared.event.Ctx.{Ctx}
+use Rattle.mlr_event.specs.declared.event.Event.{Event}
+use Rattle.mlr_event.specs.declared.event.Event.TheVariants as event
+use Rattle.mlr_event.specs.Verb.{Verb, is_open, made}
+
+-- all fronts of a list, the empty one first and the whole list last
+abbrev pub fronts : {A : Type 0} → List A → List (List A)
+fronts [] = [] ∷ []
+fronts (x ∷ xs) = [] ∷ map (λ front. x ∷ front) (fronts xs)
+
+abbrev pub zero_context : Ctx
+zero_context = record { nr = 0; fnr = 0; filenum = 0 }
+
+-- the context of an event, or another where it has none
+abbrev pub context_or : Ctx → Event → Ctx
+context_or other (event.Rec fields ctx) = ctx
+context_or other (event.Text text) = other
+context_or other (event.Out target piece) = other
+context_or other (event.End ctx) = ctx
+context_or other (event.Fault fault) = other
+
+-- the context of the last event that has one, or the zero context
+abbrev pub last_context : Ctx → List Event → Ctx
+last_context ctx [] = ctx
+last_context ctx (e ∷ events) = last_context (context_or ctx e) events
+
+-- the least front of a list that closes a verb, if one does before the list ends
+abbrev pub closing : Verb → List Event → Option (List Event)
+closing verb events = find (λ front. is_open front && verb.closed front) (fronts events)
+
+-- what a verb is given: at a quiet place, no more than closes it, and then the end
+abbrev pub cut : Bool → Verb → List Event → List Event
+cut false verb events = events
+cut true verb events = elim (closing verb events) [
+  | Some front ↦ front ++ event.End (last_context zero_context front) ∷ []
+  | None ↦ events
+]
+
+-- what verbs make of a list one behind the other; a place is quiet if no verb before it has effects
+abbrev pub chain_from : Bool → List Verb → List Event → List Event
+chain_from quiet [] events = events
+chain_from quiet (verb ∷ verbs) events = chain_from (quiet && not verb.effects) verbs (made verb (cut quiet verb events))
+
+abbrev pub chain : List Verb → List Event → List Event
+chain verbs events = chain_from true verbs events
+
+-- whether some verb at a quiet place is closed
+abbrev pub stopped_from : Bool → List Verb → List Event → Bool
+stopped_from quiet [] events = false
+stopped_from quiet (verb ∷ verbs) events =
+    (quiet && is_some (closing verb events)) || stopped_from (quiet && not verb.effects) verbs (made verb (cut quiet verb events))
+
+abbrev pub stopped : List Verb → List Event → Bool
+stopped verbs events = stopped_from true verbs events

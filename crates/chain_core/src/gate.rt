@@ -1,0 +1,116 @@
+ghost use Rattle.std.specs.Prelude.{◌≡◌, ◌++◌, ◌∷◌, ◌&&◌, [], List, true, not, IfOk, OnOk};
+ghost use Rattle.mlr_event.specs.Adding.{Adds};
+ghost use Rattle.mlr_event.specs.declared.event.Event.{Event as SpecEvent};
+ghost use Rattle.mlr_event.specs.Verb.{is_last, is_list, is_open};
+ghost use Rattle.chain_core.specs.Chain.{context_or};
+ghost use Rattle.chain_core.specs.Standing.{GateStands, IsSameGate, made_at};
+
+use mlr_event::{Ctx, Event, Events, Step};
+use mlr_spec::NoMemory;
+
+/// A verb at its place in a chain. At a quiet place it is given no more than closes it, and then the end.
+#[derive(Drop)]
+pub struct Gate<S> {
+    verb: S,
+    /// No verb before it has effects.
+    quiet: bool,
+    /// The context of the last event that has one.
+    at: Ctx,
+    /// It was closed, and has got its end.
+    shut: bool,
+}
+
+impl<S: Step + Drop> Gate<S> {
+    /// A verb that has begun, at its place. What it gave when it began is `made`, and what the end gives comes behind
+    /// that where the verb is closed from the first.
+    pub fn begun(verb: S, quiet: bool, made: &mut Events) -> Result<Self, NoMemory>
+        requires verb { S.stands verb [] }
+        requires first { made.old ≡ (S.verb verb).first }
+        ensures same { IfOk result (λ gate. (S.verb gate.verb ≡ S.verb verb) × (gate.quiet ≡ quiet)) }
+        ensures stands { IfOk result (λ gate. GateStands S.verb S.stands [] gate) }
+        ensures made { OnOk result (made.new ≡ made_at quiet (S.verb verb) []) }
+    {
+        let at = Ctx {
+            nr: 0,
+            fnr: 0,
+            filenum: 0,
+        };
+        let shut = quiet && verb.closed();
+        let mut verb = verb;
+        if shut {
+            verb.step(Event::End(at), made)?;
+        }
+        Ok(Gate {
+            verb,
+            quiet,
+            at,
+            shut,
+        })
+    }
+
+    /// Whether it was closed. It takes no memory.
+    pub fn is_shut(&self) -> bool
+        ensures { result ≡ self.now.shut }
+    {
+        self.shut
+    }
+
+    /// Takes an event, and puts what the verb makes of it behind `out`.
+    pub fn take(&mut self, event: Event, out: &mut Events) -> Result<(), NoMemory>
+        requires { (given : List SpecEvent) × GateStands S.verb S.stands given self.old × (is_open given ≡ true) }
+        ensures same { OnOk result (IsSameGate S.verb self.new self.old) }
+        ensures stands { OnOk result ((given : List SpecEvent) → GateStands S.verb S.stands given self.old → is_open given ≡ true → GateStands S.verb S.stands (given ++ event ∷ []) self.new) }
+        ensures adds { OnOk result ((given : List SpecEvent) → GateStands S.verb S.stands given self.old → is_open given ≡ true → Adds out.old out.new (made_at self.old.quiet (S.verb self.old.verb) given) (made_at self.old.quiet (S.verb self.old.verb) (given ++ event ∷ []))) }
+    {
+        if self.shut {
+            return Ok(());
+        }
+        let ends = is_last(&event);
+        self.at = context_or(self.at, &event);
+        self.verb.step(event, out)?;
+        if self.is_closed(ends) {
+            self.shut = true;
+            self.verb.step(Event::End(self.at), out)?;
+        }
+        Ok(())
+    }
+
+    /// Takes all events of a list in turn, and leaves none in it.
+    pub fn take_all(&mut self, events: &mut Events, out: &mut Events) -> Result<(), NoMemory>
+        requires { (given : List SpecEvent) × GateStands S.verb S.stands given self.old × (is_list (given ++ events.old) ≡ true) }
+        ensures left { OnOk result (events.new ≡ []) }
+        ensures same { OnOk result (IsSameGate S.verb self.new self.old) }
+        ensures stands { OnOk result ((given : List SpecEvent) → GateStands S.verb S.stands given self.old → is_list (given ++ events.old) ≡ true → GateStands S.verb S.stands (given ++ events.old) self.new) }
+        ensures adds { OnOk result ((given : List SpecEvent) → GateStands S.verb S.stands given self.old → is_list (given ++ events.old) ≡ true → Adds out.old out.new (made_at self.old.quiet (S.verb self.old.verb) given) (made_at self.old.quiet (S.verb self.old.verb) (given ++ events.old))) }
+    {
+        events.reverse();
+        while let Some(event) = events.pop() {
+            self.take(event, out)?;
+        }
+        Ok(())
+    }
+
+    /// Whether the verb was closed just now, at a quiet place and before the list ends.
+    fn is_closed(&self, ends: bool) -> bool
+        ensures { (given : List SpecEvent) → S.stands self.now.verb given → result ≡ (self.now.quiet && (not ends && (S.verb self.now.verb).closed given)) }
+    {
+        self.quiet && !ends && self.verb.closed()
+    }
+}
+
+/// Whether an event is an end or a fault.
+fn is_last(event: &Event) -> bool
+    ensures { result ≡ is_last event.now }
+{
+    matches!(event, Event::End(_) | Event::Fault(_))
+}
+
+/// The context of an event, or another where it has none.
+fn context_or(other: Ctx, event: &Event) -> Ctx
+    ensures { result ≡ context_or other event.now }
+{
+    match event {
+        Event::Rec(_, ctx) | Event::End(ctx) => *ctx,
+        _ => other,
+    }
+}

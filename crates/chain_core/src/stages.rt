@@ -1,0 +1,95 @@
+ghost use Rattle.std.specs.Prelude.{◌≡◌, ◌++◌, ◌∷◌, [], List, true, IfOk, OnOk};
+ghost use Rattle.std.specs.List.{list_any};
+ghost use Rattle.mlr_event.specs.Adding.{Adds};
+ghost use Rattle.mlr_event.specs.declared.event.Event.{Event as SpecEvent};
+ghost use Rattle.mlr_event.specs.Verb.{is_list, is_open};
+ghost use Rattle.chain_core.specs.Chain.{chain, stopped};
+ghost use Rattle.chain_core.specs.Standing.{StandsFor, verbs_in};
+
+use crate::stage::{Stage, begun, pass};
+use mlr_event::{Event, Events, Step};
+use mlr_spec::NoMemory;
+use std::alloc::Global;
+
+/// Verbs one behind the other, of any kind. It stands for the list of events that it was given.
+#[derive(Drop)]
+pub struct Stages<S> {
+    alloc: Global,
+    stages: Vec<Stage<S>>,
+    /// No verb of it has effects.
+    quiet: bool,
+    /// The events at hand.
+    room: Events,
+}
+
+impl<S: Step + Drop> Stages<S> {
+    /// No verbs: each event comes out as it is. It takes no memory.
+    pub fn new(alloc: Global) -> Self
+        ensures verbs { verbs_in S.verb result ≡ [] }
+        ensures stands { StandsFor S.verb S.stands [] result }
+    {
+        Stages {
+            alloc,
+            stages: Vec::new(alloc),
+            quiet: true,
+            room: Events::new(alloc),
+        }
+    }
+
+    /// Puts a verb last that has begun, before the first event. In `made` stands what the verbs before it have made so
+    /// far, and it becomes what all of them make: what the verb gave when it began is `first`.
+    pub fn push(&mut self, verb: S, first: Events, made: &mut Events) -> Result<(), NoMemory>
+        requires chain { StandsFor S.verb S.stands [] self.old }
+        requires verb { S.stands verb [] }
+        requires first { first ≡ (S.verb verb).first }
+        requires made { made.old ≡ chain (verbs_in S.verb self.old) [] }
+        ensures verbs { OnOk result (verbs_in S.verb self.new ≡ verbs_in S.verb self.old ++ S.verb verb ∷ []) }
+        ensures stands { OnOk result (StandsFor S.verb S.stands [] self.new) }
+        ensures made { OnOk result (made.new ≡ chain (verbs_in S.verb self.new) []) }
+    {
+        let effects = verb.has_effects();
+        let stage = begun(self.alloc, verb, self.quiet, first, made)?;
+        self.stages.push(stage)?;
+        self.quiet = self.quiet && !effects;
+        Ok(())
+    }
+
+    /// Takes an event, and puts behind `out` what the verbs make of it. No end and no fault may have come before.
+    pub fn step(&mut self, event: Event, out: &mut Events) -> Result<(), NoMemory>
+        requires { (given : List SpecEvent) × StandsFor S.verb S.stands given self.old × (is_open given ≡ true) }
+        ensures verbs { OnOk result (verbs_in S.verb self.new ≡ verbs_in S.verb self.old) }
+        ensures stands { OnOk result ((given : List SpecEvent) → StandsFor S.verb S.stands given self.old → is_open given ≡ true → StandsFor S.verb S.stands (given ++ event ∷ []) self.new) }
+        ensures adds { OnOk result ((given : List SpecEvent) → StandsFor S.verb S.stands given self.old → is_open given ≡ true → Adds out.old out.new (chain (verbs_in S.verb self.old) given) (chain (verbs_in S.verb self.old) (given ++ event ∷ []))) }
+    {
+        self.room.push(event)?;
+        pass(&mut self.stages, &mut self.room)?;
+        out.append(&mut self.room)?;
+        Ok(())
+    }
+
+    /// Takes all events of a list, and leaves in it what the verbs make of them.
+    pub fn take_all(&mut self, events: &mut Events) -> Result<(), NoMemory>
+        requires { (given : List SpecEvent) × StandsFor S.verb S.stands given self.old × (is_list (given ++ events.old) ≡ true) }
+        ensures verbs { OnOk result (verbs_in S.verb self.new ≡ verbs_in S.verb self.old) }
+        ensures stands { OnOk result ((given : List SpecEvent) → StandsFor S.verb S.stands given self.old → is_list (given ++ events.old) ≡ true → StandsFor S.verb S.stands (given ++ events.old) self.new) }
+        ensures made { OnOk result ((given : List SpecEvent) → StandsFor S.verb S.stands given self.old → is_list (given ++ events.old) ≡ true → chain (verbs_in S.verb self.old) (given ++ events.old) ≡ chain (verbs_in S.verb self.old) given ++ events.new) }
+    {
+        pass(&mut self.stages, events)?;
+        Ok(())
+    }
+
+    /// Whether a verb is closed to which none before it with effects hands on. Then more events give nothing. It takes no
+    /// memory.
+    pub fn stopped(&self) -> bool
+        ensures { (given : List SpecEvent) → StandsFor S.verb S.stands given self.now → result ≡ stopped (verbs_in S.verb self.now) given }
+    {
+        any_shut(&self.stages)
+    }
+}
+
+/// Whether a verb was closed.
+fn any_shut<S: Step + Drop>(stages: &[Stage<S>]) -> bool
+    ensures { result ≡ list_any (λ stage. stage.gate.shut) stages.now }
+{
+    stages.iter().any(|stage| stage.is_shut())
+}
