@@ -1,0 +1,4 @@
+pub mod Growing
+pub mod Putting
+pub mod Passing
+pub mod Writing

@@ -1,0 +1,3 @@
+pub mod Out
+pub mod Standing
+pub mod Putting

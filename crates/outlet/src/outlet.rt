@@ -1,0 +1,179 @@
+ghost use Rattle.std.specs.Prelude.{◌≡◌, ◌≤◌, ◌++◌, ◌∷◌, [], List, true, None, IfOk, OnOk};
+ghost use Rattle.mlr_event.specs.declared.event.Event.{Event as SpecEvent};
+ghost use Rattle.mlr_event.specs.declared.event.Event.TheVariants.{Out};
+ghost use Rattle.mlr_event.specs.declared.names.Target.TheVariants.{Stdout};
+ghost use Rattle.mlr_event.specs.Verb.{is_list};
+ghost use Rattle.mlr_world.specs.Counts.{Counted};
+ghost use Rattle.mlr_world.specs.Outputs.{ChangesAt};
+ghost use Rattle.writers.specs.declared.options.WriteOpts.{WriteOpts as Options};
+ghost use Rattle.writers.specs.Standing.{IsOpen};
+ghost use Rattle.outlet.specs.Out.{event_bodies};
+ghost use Rattle.outlet.specs.Standing.{LetLeaves, StandsFor, Took, has_failed};
+ghost use Rattle.outlet.specs.Putting.{AnswersFor, IsAt, Puts, let_of, over_by};
+
+use mlr_event::{Body, Event, Events, Fault, Piece, Target};
+use mlr_spec::NoMemory;
+use mlr_value::Bytes;
+use mlr_world::{Done, Outputs};
+use std::alloc::Global;
+use writers::{WriteOpts, Writer};
+
+/// What an outlet answers.
+#[derive(Debug, PartialEq, Eq, Drop)]
+pub enum Let {
+    /// All that the events become was written, and more may come.
+    Went,
+    /// The end has come, or this fault, and all was written.
+    Over(Option<Fault>),
+    /// This target can't be written.
+    Failed(Target),
+    /// There was no memory.
+    NoMemory,
+}
+
+/// The end of a chain: it writes what standard output gets of the events that come. It stands for the list of events that
+/// it was given.
+#[derive(Drop)]
+pub struct Outlet {
+    writer: Writer,
+    /// What is to be written next.
+    text: Bytes,
+}
+
+impl Outlet {
+    /// An outlet that was given nothing. It takes memory for options of more than 16 bytes.
+    pub fn new(alloc: Global, opts: &WriteOpts) -> Result<Self, NoMemory>
+        ensures { IfOk result (λ made. StandsFor opts.now [] made) }
+    {
+        Ok(Outlet {
+            writer: Writer::new(alloc, opts)?,
+            text: Bytes::new(alloc),
+        })
+    }
+
+    /// Takes an event, and writes what it becomes. It takes memory for the text.
+    pub fn take<O: Outputs>(&mut self, event: Event, outputs: &mut O) -> Let
+        requires { (opts : Options) × (before : List SpecEvent) × StandsFor opts before self.old }
+        ensures took { (opts : Options) (before : List SpecEvent) → StandsFor opts before self.old → Took result opts before (event ∷ []) (O.held outputs.old) (O.held outputs.new) }
+        ensures stands { (opts : Options) (before : List SpecEvent) → StandsFor opts before self.old → result ≡ Let.Went → StandsFor opts (before ++ event ∷ []) self.new }
+        ensures counts { Counted (has_failed result) (O.faults outputs.old) (O.faults outputs.new) Stdout }
+        ensures shortages { O.shortages outputs.old ≤ O.shortages outputs.new }
+    {
+        match self.put(event) {
+            Ok(over) => self.write(over, outputs),
+            Err(NoMemory) => Let::NoMemory,
+        }
+    }
+
+    /// Takes all events of a list, writes what they become with one call, and leaves the list empty where it answers Went.
+    /// It takes memory for the text.
+    pub fn take_all<O: Outputs>(&mut self, events: &mut Events, outputs: &mut O) -> Let
+        requires { (opts : Options) × (before : List SpecEvent) × StandsFor opts before self.old × (is_list (before ++ events.old) ≡ true) }
+        ensures took { (opts : Options) (before : List SpecEvent) → StandsFor opts before self.old → is_list (before ++ events.old) ≡ true → Took result opts before events.old (O.held outputs.old) (O.held outputs.new) }
+        ensures stands { (opts : Options) (before : List SpecEvent) → StandsFor opts before self.old → is_list (before ++ events.old) ≡ true → result ≡ Let.Went → StandsFor opts (before ++ events.old) self.new }
+        ensures emptied { result ≡ Let.Went → events.new ≡ [] }
+        ensures counts { Counted (has_failed result) (O.faults outputs.old) (O.faults outputs.new) Stdout }
+        ensures shortages { O.shortages outputs.old ≤ O.shortages outputs.new }
+    {
+        match self.put_all(events) {
+            Ok(over) => self.write(over, outputs),
+            Err(NoMemory) => Let::NoMemory,
+        }
+    }
+
+    /// Closes what is open, where a run ends without an end or a fault. It adds no text.
+    pub fn shut<O: Outputs>(&mut self, outputs: &mut O) -> Let
+        ensures answer { result ≡ Let.Over None }
+        ensures same { outputs.new ≡ outputs.old }
+    {
+        let _ = outputs;
+        Let::Over(None)
+    }
+
+    /// Puts what an event becomes into the text. It answers whether the event is the last, with the fault that it is.
+    fn put(&mut self, event: Event) -> Result<Option<Option<Fault>>, NoMemory>
+        requires { (opts : Options) × (before : List SpecEvent) × IsAt opts before self.old }
+        ensures over { IfOk result (λ over. over ≡ over_by event) }
+        ensures puts { IfOk result (λ over. (opts : Options) (before : List SpecEvent) → IsAt opts before self.old → Puts over opts before (event ∷ []) self.old self.new) }
+    {
+        match event {
+            Event::Rec(fields, _) => self.put_body(Body::Rec(fields)),
+            Event::Text(text) => self.put_body(Body::Text(text)),
+            Event::Out(target, piece) => self.put_piece(target, piece),
+            Event::End(_) => {
+                self.writer.end(&mut self.text)?;
+                Ok(Some(None))
+            }
+            Event::Fault(fault) => Ok(Some(Some(fault))),
+        }
+    }
+
+    /// Puts what a piece becomes into the text, if it is for standard output.
+    fn put_piece(&mut self, target: Target, piece: Piece) -> Result<Option<Option<Fault>>, NoMemory>
+        requires { IsOpen self.old.writer }
+        ensures over { IfOk result (λ over. over ≡ None) }
+        ensures puts { OnOk result ((opts : Options) (before : List SpecEvent) → IsAt opts before self.old → Puts None opts before (Out target piece ∷ []) self.old self.new) }
+    {
+        if target.is(&Target::Stdout) {
+            self.put_body(piece.body)
+        } else {
+            Ok(None)
+        }
+    }
+
+    /// Puts what a record or a text becomes into the text. No such event is the last.
+    fn put_body(&mut self, body: Body) -> Result<Option<Option<Fault>>, NoMemory>
+        requires { IsOpen self.old.writer }
+        ensures over { IfOk result (λ over. over ≡ None) }
+        ensures puts { OnOk result ((opts : Options) (before : List SpecEvent) (event : SpecEvent) → IsAt opts before self.old → event_bodies event ≡ body ∷ [] → Puts None opts before (event ∷ []) self.old self.new) }
+    {
+        self.writer.take(body, &mut self.text)?;
+        Ok(None)
+    }
+
+    /// Puts what the events of a list become into the text, and takes them out, up to one that is the last.
+    fn put_all(&mut self, events: &mut Events) -> Result<Option<Option<Fault>>, NoMemory>
+        requires { (opts : Options) × (before : List SpecEvent) × IsAt opts before self.old × (is_list (before ++ events.old) ≡ true) }
+        ensures puts { IfOk result (λ over. (opts : Options) (before : List SpecEvent) → IsAt opts before self.old → is_list (before ++ events.old) ≡ true → Puts over opts before events.old self.old self.new) }
+        ensures emptied { OnOk result (events.new ≡ []) }
+    {
+        events.reverse();
+        while let Some(event) = events.pop() {
+            if let Some(fault) = self.put(event)? {
+                return Ok(Some(fault));
+            }
+        }
+        Ok(None)
+    }
+
+    /// Writes the text, and answers by whether the events are over.
+    fn write<O: Outputs>(&mut self, over: Option<Option<Fault>>, outputs: &mut O) -> Let
+        ensures leaves { ChangesAt Stdout (LetLeaves result self.old.text) (O.held outputs.old) (O.held outputs.new) }
+        ensures answer { AnswersFor over result }
+        ensures went { result ≡ Let.Went → self.new ≡ record self.old { text = [] } }
+        ensures counts { Counted (has_failed result) (O.faults outputs.old) (O.faults outputs.new) Stdout }
+        ensures shortages { O.shortages outputs.old ≤ O.shortages outputs.new }
+    {
+        if self.text.is_empty() {
+            return let_of(over);
+        }
+        match outputs.write(&Target::Stdout, self.text.as_slice()) {
+            Done::Ok => {
+                self.text.clear();
+                let_of(over)
+            }
+            Done::Failed => Let::Failed(Target::Stdout),
+            Done::NoMemory => Let::NoMemory,
+        }
+    }
+}
+
+/// What is answered once all is written.
+fn let_of(over: Option<Option<Fault>>) -> Let
+    ensures { result ≡ let_of over }
+{
+    match over {
+        Some(fault) => Let::Over(fault),
+        None => Let::Went,
+    }
+}

@@ -1,0 +1,12 @@
+pub mod Events
+pub mod Formats
+pub mod Given
+pub mod Growing
+pub mod Results
+pub mod Beginning
+pub mod Taking
+pub mod Reading
+pub mod Opening
+pub mod Stepping
+pub mod Ending
+pub mod Steps

@@ -1,0 +1,15 @@
+use Rattle.std.proofs.Common.{refl, subst, sym}
+use Rattle.read_files.specs.Given.{Behind}
+use Rattle.read_files.proofs.tests.turn_all.Goals as goal
+
+pub loop-preserved : goal.loop-preserved
+loop-preserved g c =
+    let k = c.loop.invariant in
+    let turned = c.in-Went.ensures.turned k.0 k.1 k.2 k.3 k.4 k.5 in (
+      k.0,
+      k.1,
+      k.2,
+      turned.given',
+      turned.stands refl,
+      subst (λ held. Behind k.2 turned.given' held (g.I.Inputs.taken c.turn.new.inputs) (g.I.Inputs.open_name c.turn.new.inputs)) (sym c.in-Went.ensures.contents) turned.behind,
+    )

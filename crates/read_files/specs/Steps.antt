@@ -1,0 +1,72 @@
+-- What the parts of a turn do.
+use Rattle.std.specs.Prelude.{◌≡◌, ℕ, ◌+◌, ◌*◌, ◌<◌, ◌≤◌, ◌^◌, Bool, true, false, List, [], ◌∷◌, ◌++◌, length, reverse, None}
+use Rattle.mlr_event.specs.declared.event.Ctx.{Ctx}
+use Rattle.mlr_event.specs.declared.event.Event.{Event}
+use Rattle.mlr_event.specs.declared.event.Event.TheVariants.{End}
+use Rattle.mlr_event.specs.declared.names.InputName.{InputName}
+use Rattle.mlr_event.specs.declared.options.ReadOpts.{ReadOpts}
+use Rattle.mlr_event.specs.Verb.{is_open}
+use Rattle.mlr_world.specs.Taken.{Take}
+use Rattle.read_files.specs.declared.reader.FileReader.{FileReader}
+use Rattle.read_files.specs.declared.reader.ReadTurn.{ReadTurn}
+use Rattle.read_files.specs.declared.reader.ReadTurn.TheVariants.{Went, Ended, Failed, TooLong, NoMemory}
+use Rattle.read_files.specs.Given.{GoesOn, InOrder, total}
+use Rattle.read_files.specs.Sources.{ctx_from, events_taken, source, zero_context}
+use Rattle.read_files.specs.Standing.{AllRead, StandsFor, TurnSays, can_read}
+
+-- It reads these inputs, each of which this was taken of was read whole, and the next one has this name, which was taken
+-- out of the names.
+pub record StandsNext (opts : ReadOpts) (names : List InputName) (given : List Take) (name : InputName) (reader : FileReader) : Type 0 where
+  pub few : total given < 2 ^ 60
+  pub clear : is_open (events_taken opts given) ≡ true
+  pub usable : can_read opts ≡ true
+  pub opts_are : reader.opts ≡ opts
+  pub taken_is : reader.taken ≡ total given
+  pub front : List InputName
+  pub read : AllRead front given
+  pub at_is : reader.at ≡ ctx_from opts zero_context given
+  pub few_files : reader.at.filenum + 1 + length reader.names.items ≤ 2 ^ 60
+  pub few_records : reader.at.nr ≤ total given + 2 * reader.at.filenum
+  pub names_are : names ≡ front ++ name ∷ reverse reader.names.items
+
+-- the end was put behind all
+abbrev pub PutsEnd : ReadTurn → Ctx → List Event → List Event → Type 0
+PutsEnd Went at out out' = ⊥
+PutsEnd Ended at out out' = out' ≡ out ++ End at ∷ []
+PutsEnd (Failed name) at out out' = ⊥
+PutsEnd TooLong at out out' = ⊥
+PutsEnd NoMemory at out out' = Unit {0}
+
+-- What a read led to, by which what was taken became this: what that gives more was put out, but for want of memory.
+pub record Stepped (turn : ReadTurn) (opts : ReadOpts) (names : List InputName) (given given' : List Take) (reader' : FileReader) (out out' : List Event) : Type 0 where
+  pub order : InOrder names given'
+  pub goes_on : GoesOn given given'
+  pub says : TurnSays turn opts names given given'
+  pub more : List Event
+  pub events : source opts names given' ≡ events_taken opts given ++ more
+  pub puts : (turn ≡ NoMemory → ⊥) → out' ≡ out ++ more
+  pub stands : turn ≡ Went → StandsFor opts names given' reader'
+
+-- an input can't be opened or read
+abbrev pub failed : ReadTurn → Bool
+failed Went = false
+failed Ended = false
+failed (Failed name) = true
+failed TooLong = false
+failed NoMemory = false
+
+-- an input was closed, behind which this is the context, and the end was put if it is the last one
+abbrev pub Closes : ReadTurn → Ctx → FileReader → FileReader → List Event → List Event → Type 0
+Closes Went at reader reader' out out' = (1 ≤ length reader.names.items) × (reader' ≡ (record reader { current = None; at = at })) × (out' ≡ out)
+Closes Ended at reader reader' out out' = (reader.names.items ≡ []) × (out' ≡ out ++ End at ∷ [])
+Closes (Failed name) at reader reader' out out' = ⊥
+Closes TooLong at reader reader' out out' = ⊥
+Closes NoMemory at reader reader' out out' = Unit {0}
+
+-- so many bytes were taken, and the reading goes on if they aren't too many
+abbrev pub WentTo : ReadTurn → ℕ → Type 0
+WentTo Went taken = taken ≡ 2 ^ 60 → ⊥
+WentTo Ended taken = ⊥
+WentTo (Failed name) taken = ⊥
+WentTo TooLong taken = taken ≡ 2 ^ 60
+WentTo NoMemory taken = ⊥

@@ -1,0 +1,6 @@
+pub mod Turning
+pub mod Passes
+pub mod Numbers
+pub mod Origins
+pub mod Turns
+pub mod Running

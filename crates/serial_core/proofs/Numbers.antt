@@ -1,0 +1,22 @@
+-- The numbers of `seqgen`, some behind others.
+use Rattle.std.proofs.Common.{◌≡◌, ℕ, zero, suc, ◌+◌, ◌<◌, ◌≤◌, false, true, List, [], ◌∷◌, ◌++◌, refl, ap, sym, ◌∙◌, arith, nat_lt}
+use Rattle.std.specs.Prelude.{map}
+use Rattle.std.specs.List.{range_with_len}
+use Rattle.std.proofs.lemmas.Bool.{ltb-false}
+use Rattle.std.proofs.lemmas.List.{map-append}
+use Rattle.mlr_event.specs.declared.event.Event.{Event}
+use Rattle.verbs_seq.specs.declared.seq_spec.SeqSpec.{SeqSpec}
+use Rattle.verbs_seq.specs.Seq.{seq_event, seq_events}
+
+range-append : (from n m : ℕ) → range_with_len from n ++ range_with_len (from + n) m ≡ range_with_len from (n + m)
+range-append from zero m = ap (λ k. range_with_len k m) (let e : from + 0 ≡ from = omega arith in e) ∙ ap (range_with_len from) (let e : m ≡ 0 + m = omega arith in e)
+range-append from (suc n) m = ap (λ t. from ∷ t) (ap (λ k. range_with_len (from + 1) n ++ range_with_len k m) (let e : from + suc n ≡ (from + 1) + n = omega arith in e) ∙ range-append (from + 1) n m) ∙ ap (range_with_len from) (let e : suc (n + m) ≡ suc n + m = omega arith in e)
+
+pub events-append : (seq : SeqSpec) (n m : ℕ) → seq_events seq 0 n ++ seq_events seq n m ≡ seq_events seq 0 (n + m)
+events-append seq n m =
+    sym (map-append (seq_event seq) (range_with_len 0 n) (range_with_len n m))
+    ∙ ap (λ k. map (seq_event seq) (range_with_len 0 n ++ range_with_len k m)) (let e : n ≡ 0 + n = omega arith in e)
+    ∙ ap (map (seq_event seq)) (range-append 0 n m)
+
+pub all-counted : (n m : ℕ) → nat_lt n m ≡ false → n ≤ m → n ≡ m
+all-counted n m none within = omega (arith, ltb-false n m none, within)

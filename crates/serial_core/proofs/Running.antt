@@ -1,0 +1,126 @@
+-- A run, from turn to turn.
+use Rattle.std.proofs.Common.{◌≡◌, ℕ, ◌+◌, ◌<◌, ◌≤◌, ◌^◌, Bool, true, false, List, [], ◌∷◌, ◌++◌, Option, Some, None, refl, ap, sym, ◌∙◌, subst, append_assoc, arith}
+use Rattle.mlr_event.specs.declared.event.Event.{Event}
+use Rattle.mlr_event.specs.declared.names.InputName.{InputName}
+use Rattle.mlr_event.specs.declared.names.Target.{Target}
+use Rattle.mlr_event.specs.declared.names.Target.TheVariants.{Stdout}
+use Rattle.mlr_event.specs.Verb.{Verb, is_open}
+use Rattle.mlr_world.specs.Counts.{Counted}
+use Rattle.mlr_world.specs.Inputs.{Contents}
+use Rattle.mlr_world.specs.Outputs.{Held, ChangesAt, with_bytes}
+use Rattle.mlr_world.specs.Taken.{Take}
+use Rattle.mlr_world.proofs.Changes.{ChangesAt-map, ChangesAt-none, ChangesAt-then, with_bytes-none}
+use Rattle.outlet.specs.Out.{out_of}
+use Rattle.outlet.specs.Standing.{PutsFront}
+use Rattle.chain_core.specs.Chain.{chain}
+use Rattle.std.specs.Prelude.{IfSome}
+use Rattle.std.specs.Option.{option_map}
+use Rattle.std.proofs.lemmas.List.{append-nil}
+use Rattle.read_files.specs.Given.{AreFrontsTaken, Behind}
+use Rattle.writers.specs.declared.options.WriteOpts.{WriteOpts}
+use Rattle.serial_core.specs.declared.answer.Ended.{Ended}
+use Rattle.serial_core.specs.declared.answer.Ended.TheVariants as answer
+use Rattle.serial_core.specs.declared.serial.Serial.{Serial}
+use Rattle.serial_core.specs.declared.serial.SerialTurn.TheVariants.{Went, Over}
+use Rattle.serial_core.specs.Command.{Command, given_by, names_of, result, text}
+use Rattle.serial_core.specs.Run.{Run}
+use Rattle.serial_core.specs.Standing.{Begins, InputCause, Leaves, Ran, SerialStands}
+use Rattle.serial_core.proofs.Turns.{leaves-behind, reader-few, reader-order, reader-rest, whole-behind}
+
+-- how far a run has come
+pub record Going {S : Type 0} (verb : S → Verb) (stands : S → List Event → Type 0) (command : Command) (before : Option (List Take)) (contents : Option Contents) (taken : Option (List Take)) (name : Option InputName) (first held : Option Held) (serial : Serial S) : Type 0 where
+  pub given : List Take
+  pub read : List Event
+  pub shown : List Event
+  pub at : SerialStands verb stands command given read shown serial
+  pub behind : Behind before given contents taken name
+  pub leaves : ChangesAt Stdout (λ b n. n ≡ with_bytes (out_of command.write shown) b) first held
+
+-- nothing was taken behind what was taken before
+pub behind-none : (contents : Option Contents) (taken : Option (List Take)) (name : Option InputName) → Behind taken [] contents taken name
+behind-none contents taken name = record { entries = same taken; fronts = none contents taken; open_is = tt }
+  where
+    same : (taken : Option (List Take)) → taken ≡ option_map (λ takes. takes ++ []) taken
+    same None = refl
+    same (Some takes) = ap Some (sym (append-nil takes))
+
+    none : (contents : Option Contents) (taken : Option (List Take)) → IfSome contents (λ told. IfSome taken (λ _. AreFrontsTaken told []))
+    none None taken = tt
+    none (Some told) None = tt
+    none (Some told) (Some takes) = tt
+
+module _ {S : Type 0} (verb : S → Verb) (stands : S → List Event → Type 0) (command : Command) (before : Option (List Take)) (contents : Option Contents) where
+  pub going-first : (taken : Option (List Take)) (name : Option InputName) (held : Option Held) (serial : Serial S) → Begins verb stands command serial → Behind before [] contents taken name
+      → Going verb stands command before contents taken name held held serial
+  going-first taken name held serial begins behind = record {
+    given = [];
+    read = [];
+    shown = [];
+    at = begins;
+    behind = behind;
+    leaves = ChangesAt-none Stdout (λ b n. n ≡ with_bytes (out_of command.write []) b) with_bytes-none held;
+  }
+
+  module _ (taken : Option (List Take)) (name : Option InputName) (first held : Option Held) (serial : Serial S) (now : Going verb stands command before contents taken name first held serial)
+      (after : Serial S) (taken' : Option (List Take)) (name' : Option InputName) (held' : Option Held) where
+    pub going-on : Ran Went verb stands command before now.given now.read now.shown after contents taken' name' held held' → Going verb stands command before contents taken' name' first held' after
+    going-on ran = record {
+      given = ran.given';
+      read = now.read ++ ran.outcome.put;
+      shown = chain command.verbs (now.read ++ ran.outcome.put);
+      at = ran.outcome.stand;
+      behind = ran.took.behind;
+      leaves =
+          ChangesAt-then Stdout (λ b n. n ≡ with_bytes (out_of command.write now.shown) b) (λ b n. n ≡ with_bytes ran.outcome.more b)
+          (λ b n. n ≡ with_bytes (out_of command.write (chain command.verbs (now.read ++ ran.outcome.put))) b)
+          (λ a b c one two. whole-behind (out_of command.write now.shown) ran.outcome.more a b c one two ∙ ap (λ t. with_bytes t a) (sym ran.outcome.text))
+          first held held' now.leaves ran.outcome.leaves;
+    }
+
+    pub came-over : (ended : Ended) → Ran (Over ended) verb stands command before now.given now.read now.shown after contents taken' name' held held' → Run ended command contents before taken' name' first held'
+    came-over ended ran = record {
+      given = ran.given';
+      order = ran.took.order;
+      behind = ran.took.behind;
+      few = ran.took.few;
+      says = ran.outcome.says;
+      leaves =
+          ChangesAt-then Stdout (λ b n. n ≡ with_bytes (out_of command.write now.shown) b) (Leaves ended ran.outcome.more) (Leaves ended (text command ran.given'))
+          (λ a b c one two. subst (λ t. Leaves ended t a c) (sym ran.outcome.text) (leaves-behind ended command ran.given' ran.outcome.says (out_of command.write now.shown) ran.outcome.more a b c one two))
+          first held held' now.leaves ran.outcome.leaves;
+    }
+
+  pub out-of-turns : (grows : (events behind : List Event) → (more : List Event) × (chain command.verbs (events ++ behind) ≡ chain command.verbs events ++ more))
+      (writes : (events behind : List Event) → is_open events ≡ true → (more : List ℕ) × (out_of command.write (events ++ behind) ≡ out_of command.write events ++ more))
+      → (taken : Option (List Take)) (name : Option InputName) (first held : Option Held) (serial : Serial S) (now : Going verb stands command before contents taken name first held serial)
+      → Run answer.NoMemory command contents before taken name first held
+  out-of-turns grows writes taken name first held serial now =
+      let rest = reader-rest command.origin now.given now.read serial.reader now.at.reader in
+      let made = grows now.read rest.0 in
+      let all : result command now.given ≡ now.shown ++ (serial.events ++ made.0) =
+      ap (chain command.verbs) rest.1 ∙ made.1 ∙ ap (λ t. t ++ made.0) now.at.at_hand ∙ append_assoc now.shown serial.events made.0 in
+      let more = writes now.shown (serial.events ++ made.0) now.at.outlet.clear in
+      record {
+        given = now.given;
+        order = reader-order command.origin now.given now.read serial.reader now.at.reader;
+        behind = now.behind;
+        few = omega (arith, reader-few command.origin now.given now.read serial.reader now.at.reader);
+        says = tt;
+        leaves =
+            ChangesAt-map Stdout (λ b n. n ≡ with_bytes (out_of command.write now.shown) b) (PutsFront (text command now.given))
+            (λ b n is. (out_of command.write now.shown, (more.0, ap (out_of command.write) all ∙ more.1), is)) first held now.leaves;
+      }
+
+-- counts behind calls that changed none
+pub cause-from : (ended : Ended) (f0 f1 f2 : InputName → ℕ) → ((name : InputName) → f1 name ≡ f0 name) → InputCause ended f1 f2 → InputCause ended f0 f2
+cause-from answer.Done f0 f1 f2 same cause = λ name. omega (arith, same name, cause name)
+cause-from (answer.Refused refusal) f0 f1 f2 same cause = λ name. cause name ∙ same name
+cause-from (answer.Data fault) f0 f1 f2 same cause = λ name. omega (arith, same name, cause name)
+cause-from (answer.Read name) f0 f1 f2 same cause = (λ other. omega (arith, same other, cause.0 other), omega (arith, same name, cause.1))
+cause-from (answer.Written target) f0 f1 f2 same cause = λ name. omega (arith, same name, cause name)
+cause-from answer.TooLong f0 f1 f2 same cause = λ name. cause name ∙ same name
+cause-from answer.NoMemory f0 f1 f2 same cause = λ name. omega (arith, same name, cause name)
+
+pub counted-from : (failed : Bool) (f0 f1 f2 : Target → ℕ) → ((target : Target) → f1 target ≡ f0 target) → Counted failed f1 f2 Stdout → Counted failed f0 f2 Stdout
+counted-from true f0 f1 f2 same counted = (λ other. omega (arith, same other, counted.0 other), omega (arith, same Stdout, counted.1))
+counted-from false f0 f1 f2 same counted = λ other. counted other ∙ same other

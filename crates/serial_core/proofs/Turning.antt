@@ -1,0 +1,168 @@
+-- What a read and a pass come to together.
+use Rattle.std.proofs.Common.{◌≡◌, ℕ, ◌<◌, ◌≤◌, ◌^◌, Bool, true, false, not, ◌||◌, ◌&&◌, List, [], ◌∷◌, ◌++◌, Option, Some, None, refl, ap, sym, ◌∙◌, subst, append_assoc, inl, inr, arith}
+use Rattle.std.specs.List.{list_any}
+use Rattle.std.proofs.lemmas.Bool.{and_parts, cases_Bool, not-true, true≢false}
+use Rattle.std.proofs.lemmas.List.{append-nil}
+use Rattle.std.proofs.lemmas.List.Folds.{list_any-append}
+use Rattle.mlr_event.specs.declared.event.Event.{Event}
+use Rattle.mlr_event.specs.declared.event.Event.TheVariants as event
+use Rattle.mlr_event.specs.declared.fault.Fault.{Fault}
+use Rattle.mlr_event.specs.declared.names.InputName.{InputName}
+use Rattle.mlr_event.specs.declared.names.Target.{Target}
+use Rattle.mlr_event.specs.declared.names.Target.TheVariants.{Stdout}
+use Rattle.mlr_world.specs.Counts.{Counted}
+use Rattle.mlr_event.specs.Verb.{Verb, is_end, is_last, is_list, is_open}
+use Rattle.mlr_event.proofs.Ordered.{open-before}
+use Rattle.mlr_world.specs.Outputs.{Held, ChangesAt, with_bytes}
+use Rattle.mlr_world.proofs.Changes.{ChangesAt-map}
+use Rattle.writers.specs.declared.options.WriteOpts.{WriteOpts}
+use Rattle.outlet.specs.Out.{fault_in, out_of}
+use Rattle.outlet.specs.Standing.{PutsFront}
+use Rattle.chain_core.specs.Chain.{chain}
+use Rattle.read_files.specs.declared.reader.ReadTurn.{ReadTurn}
+use Rattle.read_files.specs.declared.reader.ReadTurn.TheVariants as turn
+use Rattle.read_files.specs.Standing.{TurnCause}
+use Rattle.serial_core.specs.declared.answer.Ended.{Ended}
+use Rattle.serial_core.specs.declared.answer.Ended.TheVariants as answer
+use Rattle.mlr_world.specs.Taken.{Take}
+use Rattle.serial_core.specs.Command.{Command, result}
+use Rattle.serial_core.specs.Standing.{InputCause, Leaves, Says, TurnCounts, WriteLeaves, WriteSays, behind, turn_failed}
+
+-- counts never fall
+pub turn-rises : (read : ReadTurn) (f0 f1 : InputName → ℕ) → TurnCause read f0 f1 → (name : InputName) → f0 name ≤ f1 name
+turn-rises turn.Went f0 f1 cause name = omega (arith, cause name)
+turn-rises turn.Ended f0 f1 cause name = omega (arith, cause name)
+turn-rises (turn.Failed failed) f0 f1 cause name = cause.0 name
+turn-rises turn.TooLong f0 f1 cause name = omega (arith, cause name)
+turn-rises turn.NoMemory f0 f1 cause name = omega (arith, cause name)
+
+pub behind-cause : (read : ReadTurn) (f0 f1 : InputName → ℕ) → TurnCause read f0 f1 → TurnCounts (behind read) f0 f1
+behind-cause turn.Went f0 f1 cause = cause
+behind-cause turn.Ended f0 f1 cause = turn-rises turn.Ended f0 f1 cause
+behind-cause (turn.Failed name) f0 f1 cause = cause
+behind-cause turn.TooLong f0 f1 cause = cause
+behind-cause turn.NoMemory f0 f1 cause = turn-rises turn.NoMemory f0 f1 cause
+
+pub behind-counts : (read : ReadTurn) (f0 f1 : Target → ℕ) → Counted false f0 f1 Stdout → Counted (turn_failed (behind read)) f0 f1 Stdout
+behind-counts turn.Went f0 f1 same = same
+behind-counts turn.Ended f0 f1 same = same
+behind-counts (turn.Failed name) f0 f1 same = same
+behind-counts turn.TooLong f0 f1 same = same
+behind-counts turn.NoMemory f0 f1 same = same
+
+-- an answer of a write says nothing of the inputs
+pub written-cause : (ended : Ended) (events : List Event) (f0 f1 : InputName → ℕ) → WriteSays (Some ended) events → ((name : InputName) → f0 name ≤ f1 name) → InputCause ended f0 f1
+written-cause answer.Done events f0 f1 says rises = rises
+written-cause (answer.Refused refusal) events f0 f1 says rises = absurd says
+written-cause (answer.Data fault) events f0 f1 says rises = rises
+written-cause (answer.Read name) events f0 f1 says rises = absurd says
+written-cause (answer.Written target) events f0 f1 says rises = rises
+written-cause answer.TooLong events f0 f1 says rises = absurd says
+written-cause answer.NoMemory events f0 f1 says rises = rises
+
+-- a front of a list is one
+pub list-front : (xs ys : List Event) → is_list (xs ++ ys) ≡ true → is_list xs ≡ true
+list-front [] ys list = refl
+list-front (x ∷ []) ys list = refl
+list-front (x ∷ y ∷ xs) ys list =
+    let parts = and_parts (not (is_last x)) (is_list ((y ∷ xs) ++ ys)) list in
+    ap (λ b. b && is_list (y ∷ xs)) parts.0 ∙ list-front (y ∷ xs) ys parts.1
+
+-- nothing comes behind a list with an end or a fault
+pub last-alone : (xs ys : List Event) → is_open xs ≡ false → is_list (xs ++ ys) ≡ true → ys ≡ []
+last-alone xs [] closed list = refl
+last-alone xs (y ∷ ys) closed list = absurd (true≢false (sym (open-before xs y ys list) ∙ closed))
+
+end-last : (e : Event) → is_end e ≡ true → is_last e ≡ true
+end-last (event.Rec fields ctx) is = absurd (let f : false ≡ true = is in cc)
+end-last (event.Text text) is = absurd (let f : false ≡ true = is in cc)
+end-last (event.Out target piece) is = absurd (let f : false ≡ true = is in cc)
+end-last (event.End ctx) is = refl
+end-last (event.Fault fault) is = absurd (let f : false ≡ true = is in cc)
+
+or-true : (b : Bool) → (b || true) ≡ true
+or-true true = refl
+or-true false = refl
+
+ends-last : (events : List Event) → list_any is_end events ≡ true → list_any is_last events ≡ true
+ends-last [] is = absurd (let f : false ≡ true = is in cc)
+ends-last (e ∷ events) is = elim (cases_Bool (is_end e)) as (λ _. list_any is_last (e ∷ events) ≡ true) [
+  | inl end ↦ ap (λ b. b || list_any is_last events) (end-last e end)
+  | inr other ↦ ap (λ b. is_last e || b) (ends-last events (sym (ap (λ b. b || list_any is_end events) other) ∙ is)) ∙ or-true (is_last e)
+]
+
+pub end-closes : (events : List Event) → list_any is_end events ≡ true → is_open events ≡ false
+end-closes events is = ap not (ends-last events is)
+
+fault-lasts : (events : List Event) (fault : Fault) → fault_in events ≡ Some fault → list_any is_last events ≡ true
+fault-lasts [] fault is = absurd (let f : None ≡ Some fault = is in cc)
+fault-lasts (event.Rec fields ctx ∷ events) fault is = fault-lasts events fault is
+fault-lasts (event.Text text ∷ events) fault is = fault-lasts events fault is
+fault-lasts (event.Out target piece ∷ events) fault is = fault-lasts events fault is
+fault-lasts (event.End ctx ∷ events) fault is = refl
+fault-lasts (event.Fault found ∷ events) fault is = refl
+
+pub fault-closes : (events : List Event) (fault : Fault) → fault_in events ≡ Some fault → is_open events ≡ false
+fault-closes events fault is = ap not (fault-lasts events fault is)
+
+-- a front of a text is one of a longer text
+pub front-longer : (text more : List ℕ) (before now : Option (List ℕ)) → PutsFront text before now → PutsFront (text ++ more) before now
+front-longer text more before now p = (p.0, (p.1.0 ++ more, ap (λ t. t ++ more) p.1.1 ∙ append_assoc p.0 p.1.0 more), p.2)
+
+-- What a command makes of what was taken, where these events were read of it, and more may be fixed.
+module _ (write : WriteOpts) (verbs : List Verb) (read put rest given : List Event)
+    (given_is : given ≡ (read ++ put) ++ rest)
+    (list : is_list (chain verbs given) ≡ true)
+    (grows : (events behind : List Event) → (more : List Event) × (chain verbs (events ++ behind) ≡ chain verbs events ++ more))
+    (writes : (events behind : List Event) → is_open events ≡ true → (more : List ℕ) × (out_of write (events ++ behind) ≡ out_of write events ++ more)) where
+  later : (more : List Event) × (chain verbs given ≡ chain verbs (read ++ put) ++ more)
+  later = let more = grows (read ++ put) rest in (more.0, ap (chain verbs) given_is ∙ more.1)
+
+  -- all is made where an end or a fault was
+  pub made-whole : is_open (chain verbs (read ++ put)) ≡ false → chain verbs given ≡ chain verbs (read ++ put)
+  made-whole closed =
+      later.1
+      ∙ ap (λ t. chain verbs (read ++ put) ++ t) (last-alone (chain verbs (read ++ put)) later.0 closed (sym (ap is_list later.1) ∙ list))
+      ∙ append-nil (chain verbs (read ++ put))
+
+  text-later : (more : List ℕ) × (out_of write (chain verbs given) ≡ out_of write (chain verbs (read ++ put)) ++ more)
+  text-later = elim (cases_Bool (is_open (chain verbs (read ++ put)))) [
+    | inl opens ↦ let more = writes (chain verbs (read ++ put)) later.0 opens in (more.0, ap (out_of write) later.1 ∙ more.1)
+    | inr closed ↦ ([], ap (out_of write) (made-whole closed) ∙ sym (append-nil (out_of write (chain verbs (read ++ put)))))
+  ]
+
+  -- the text behind one that was written
+  text-behind : (shown more : List ℕ) → out_of write (chain verbs (read ++ put)) ≡ shown ++ more → out_of write (chain verbs given) ≡ shown ++ (more ++ text-later.0)
+  text-behind shown more is = text-later.1 ∙ ap (λ t. t ++ text-later.0) is ∙ append_assoc shown more text-later.0
+
+  -- An answer of a write, by the text that was written.
+  pub record Over (ended : Ended) (command : Command) (takes : List Take) (shown : List ℕ) (held held' : Option Held) : Type 0 where
+    pub says : Says ended command takes
+    pub more : List ℕ
+    pub text : out_of write (chain verbs given) ≡ shown ++ more
+    pub leaves : ChangesAt Stdout (Leaves ended more) held held'
+
+  pub written-over : (ended : Ended) (command : Command) (takes : List Take) → result command takes ≡ chain verbs given → WriteSays (Some ended) (chain verbs (read ++ put))
+      → (shown more : List ℕ) (held held' : Option Held) → out_of write (chain verbs (read ++ put)) ≡ shown ++ more → ChangesAt Stdout (WriteLeaves (Some ended) more) held held'
+      → Over ended command takes shown held held'
+  written-over answer.Done command takes is says shown more held held' text leaves =
+      let whole = made-whole (end-closes (chain verbs (read ++ put)) says) in
+      record { says = ap (list_any is_end) (is ∙ whole) ∙ says; more = more; text = ap (out_of write) whole ∙ text; leaves = leaves }
+  written-over (answer.Refused refusal) command takes is says shown more held held' text leaves = absurd says
+  written-over (answer.Data fault) command takes is says shown more held held' text leaves =
+      let whole = made-whole (fault-closes (chain verbs (read ++ put)) fault says) in
+      record { says = ap fault_in (is ∙ whole) ∙ says; more = more; text = ap (out_of write) whole ∙ text; leaves = leaves }
+  written-over (answer.Read name) command takes is says shown more held held' text leaves = absurd says
+  written-over (answer.Written target) command takes is says shown more held held' text leaves = record {
+    says = says;
+    more = more ++ text-later.0;
+    text = text-behind shown more text;
+    leaves = ChangesAt-map Stdout (PutsFront more) (PutsFront (more ++ text-later.0)) (front-longer more text-later.0) held held' leaves;
+  }
+  written-over answer.TooLong command takes is says shown more held held' text leaves = absurd says
+  written-over answer.NoMemory command takes is says shown more held held' text leaves = record {
+    says = tt;
+    more = more ++ text-later.0;
+    text = text-behind shown more text;
+    leaves = ChangesAt-map Stdout (PutsFront more) (PutsFront (more ++ text-later.0)) (front-longer more text-later.0) held held' leaves;
+  }

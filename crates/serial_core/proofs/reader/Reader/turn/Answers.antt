@@ -1,0 +1,30 @@
+use Rattle.std.proofs.Common.{◌≡◌, List, Option, [], subst}
+use Rattle.mlr_event.specs.declared.event.Event.{Event}
+use Rattle.mlr_world.specs.Inputs.{Contents}
+use Rattle.mlr_world.specs.Taken.{Take}
+use Rattle.read_files.specs.Given.{Behind}
+use Rattle.serial_core.specs.declared.reader.Reader.TheVariants as reader
+use Rattle.serial_core.specs.Command.{Origin, files, numbers}
+use Rattle.serial_core.specs.Reading.{Read, ReaderStands}
+use Rattle.serial_core.proofs.Origins.{files-read, numbers-read, origin-cause}
+use Rattle.serial_core.proofs.reader.Reader.turn.Goals as goal
+
+pub returns-in-Files-clause-read : goal.returns-in-Files-clause-read
+returns-in-Files-clause-read g c (files opts names) before given read stands behind =
+    let at = subst (ReaderStands (files opts names) given read) c.in-Files.is stands in
+    let turned = c.turn.ensures.turned opts names before given at.0 behind in
+    files-read opts names before given read at.1 c.turn.result c.turn.new.self (g.I.Inputs.contents c.args.inputs.now) (g.I.Inputs.taken c.turn.new.inputs) (g.I.Inputs.open_name c.turn.new.inputs) c.args.out.now c.turn.new.out
+        turned (c.source_laws.ensures.list opts names turned.given')
+returns-in-Files-clause-read g c (numbers seq) before given read stands behind = absurd (subst (ReaderStands (numbers seq) given read) c.in-Files.is stands)
+
+pub returns-in-Numbers-clause-read : goal.returns-in-Numbers-clause-read
+returns-in-Numbers-clause-read g c (files opts names) before given read stands behind = absurd (subst (ReaderStands (files opts names) given read) c.in-Numbers.is stands)
+returns-in-Numbers-clause-read g c (numbers seq) before given read stands behind =
+    let at = subst (ReaderStands (numbers seq) given read) c.in-Numbers.is stands in
+    numbers-read seq before given read at.0 at.1 c.in-Numbers.numbers at.2 at.3 at.4 c.next_numbers.new.numbers (g.I.Inputs.contents c.args.inputs.now) (g.I.Inputs.taken c.args.inputs.now) (g.I.Inputs.open_name c.args.inputs.now)
+        behind c.args.out.now c.next_numbers.new.out c.next_numbers.result (c.next_numbers.ensures seq at.0 at.1 at.2)
+
+pub returns-in-Numbers-clause-cause : goal.returns-in-Numbers-clause-cause
+returns-in-Numbers-clause-cause g c =
+    let at = subst (ReaderStands c.requires.0 c.requires.2 c.requires.3) c.in-Numbers.is c.requires.4 in
+    origin-cause c.requires.0 c.requires.2 c.requires.3 c.in-Numbers.numbers at c.next_numbers.result c.next_numbers.new.numbers c.args.out.now c.next_numbers.new.out (g.I.Inputs.faults c.args.inputs.now) c.next_numbers.ensures

@@ -1,0 +1,5 @@
+pub mod Answer
+pub mod Command
+pub mod Reading
+pub mod Run
+pub mod Standing

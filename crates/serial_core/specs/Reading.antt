@@ -1,0 +1,64 @@
+-- How far a reader has come, and what a turn of it does.
+use Rattle.std.specs.Prelude.{◌≡◌, ◌⊎◌, ℕ, ◌+◌, ◌<◌, ◌≤◌, ◌^◌, true, false, List, [], ◌++◌, Option, Some}
+use Rattle.mlr_event.specs.declared.event.Event.{Event}
+use Rattle.mlr_event.specs.declared.names.InputName.{InputName}
+use Rattle.mlr_event.specs.Verb.{is_list, is_open}
+use Rattle.mlr_world.specs.Inputs.{Contents}
+use Rattle.mlr_world.specs.Taken.{Take}
+use Rattle.read_files.specs.declared.reader.ReadTurn.{ReadTurn}
+use Rattle.read_files.specs.declared.reader.ReadTurn.TheVariants.{Went, Ended, Failed, TooLong, NoMemory}
+use Rattle.read_files.specs.Given.{Behind, GoesOn, InOrder, stops_at, total}
+use Rattle.read_files.specs.Sources.{events_taken}
+use Rattle.read_files.specs.Standing as file
+use Rattle.verbs_seq.specs.Seq.{IsSoundSeq, seq_all, seq_events}
+use Rattle.verbs_seq.specs.declared.seq_spec.SeqSpec.{SeqSpec}
+use Rattle.verbs_seq.specs.declared.source.SeqSource.{SeqSource}
+use Rattle.verbs_seq.specs.Standing as seq
+use Rattle.serial_core.specs.declared.reader.Reader.{Reader}
+use Rattle.serial_core.specs.declared.reader.Reader.TheVariants as reader
+use Rattle.serial_core.specs.Command.{Origin, files, numbers, given_by, names_of}
+
+-- it reads this origin, this was taken of its inputs, and these events were put out
+abbrev pub ReaderStands : Origin → List Take → List Event → Reader → Type 0
+ReaderStands (files opts names) given read (reader.Files all) = file.StandsFor opts names given all × (read ≡ events_taken opts given)
+ReaderStands (files opts names) given read (reader.Numbers all) = ⊥
+ReaderStands (numbers spec) given read (reader.Files all) = ⊥
+ReaderStands (numbers spec) given read (reader.Numbers all) =
+    (n : ℕ) × IsSoundSeq spec × seq.StandsAt spec n all × (read ≡ seq_events spec 0 n) × (given ≡ [])
+
+-- what a turn of the numbers says: the next of them came, or all that were left and the end
+pub record Counts (turn : ReadTurn) (spec : SeqSpec) (given : ℕ) (after : SeqSource) (out out' : List Event) : Type 0 where
+  pub some : ℕ
+  pub put : List Event
+  pub puts : (turn ≡ NoMemory → ⊥) → out' ≡ out ++ put
+  pub next : turn ≡ Went → (put ≡ seq_events spec given some) × seq.StandsAt spec (given + some) after
+  pub last : turn ≡ Ended → seq_events spec 0 given ++ put ≡ seq_all spec
+  pub answers : (turn ≡ Went) ⊎ ((turn ≡ Ended) ⊎ (turn ≡ NoMemory))
+
+-- what a turn's answer says of what was taken, and of the events put out: whether they are all, and which
+abbrev pub ReadSays : ReadTurn → Origin → List Take → List Event → List Event → Type 0
+ReadSays Went origin given read rest = (is_open read ≡ true) × (total given < 2 ^ 60)
+ReadSays Ended origin given read rest = (is_open read ≡ false) × (rest ≡ [])
+ReadSays (Failed name) origin given read rest = (is_open read ≡ true) × (rest ≡ []) × (stops_at (names_of origin) given ≡ Some name)
+ReadSays TooLong origin given read rest = (is_open read ≡ true) × (rest ≡ []) × (total given ≡ 2 ^ 60)
+ReadSays NoMemory origin given read rest = Unit {0}
+
+-- More was taken of the inputs of an origin, in one read.
+pub record TookMore (origin : Origin) (before : Option (List Take)) (given given' : List Take) (contents : Option Contents) (taken' : Option (List Take)) (name' : Option InputName) : Type 0 where
+  pub order : InOrder (names_of origin) given'
+  pub goes_on : GoesOn given given'
+  pub behind : Behind before given' contents taken' name'
+  pub one_read : total given' ≤ total given + 65536
+  pub few : total given' ≤ 2 ^ 60
+
+-- What a turn did: more was taken, and but for want of memory the next events were put out.
+pub record Read (turn : ReadTurn) (origin : Origin) (before : Option (List Take)) (given : List Take) (read : List Event) (after : Reader) (contents : Option Contents) (taken' : Option (List Take)) (name' : Option InputName) (out out' : List Event) : Type 0 where
+  pub given' : List Take
+  pub took : TookMore origin before given given' contents taken' name'
+  pub put : List Event
+  pub rest : List Event
+  pub events : given_by origin given' ≡ (read ++ put) ++ rest
+  pub list : is_list (given_by origin given') ≡ true
+  pub puts : (turn ≡ NoMemory → ⊥) → out' ≡ out ++ put
+  pub says : ReadSays turn origin given' (read ++ put) rest
+  pub stands : turn ≡ Went → ReaderStands origin given' (read ++ put) after

@@ -1,0 +1,54 @@
+ghost use Rattle.std.specs.Prelude.{◌≡◌};
+ghost use Rattle.serial_core.specs.Answer.{status_of};
+
+use mlr_event::{Fault, InputName, Target};
+
+/// How a run ended.
+#[derive(Debug, PartialEq, Eq, Drop)]
+pub enum Ended {
+    /// All was read and written.
+    Done,
+    /// The command line isn't accepted. Nothing was read.
+    Refused(Refusal),
+    /// The data has this fault, and all that comes before it was written.
+    Data(Fault),
+    /// This input can't be opened or read.
+    Read(InputName),
+    /// This output can't be written.
+    Written(Target),
+    /// 2^60 bytes of input were taken.
+    TooLong,
+    /// There was no memory.
+    NoMemory,
+}
+
+/// Why a command line isn't accepted: the word, counted from 1 after the program's name, and what is wrong with it.
+#[derive(Clone, Copy, Debug, PartialEq, Eq)]
+pub struct Refusal {
+    pub word: u64,
+    pub why: Why,
+}
+
+/// What is wrong with a word.
+#[derive(Clone, Copy, Debug, PartialEq, Eq)]
+pub enum Why {
+    /// No command that is built goes on with it.
+    NotBuilt,
+}
+
+impl Ended {
+    /// The exit status of the program.
+    pub fn status(&self) -> u8
+        ensures { result ≡ status_of self.now }
+    {
+        match self {
+            Ended::Done => 0,
+            Ended::Refused(_)
+            | Ended::Data(_)
+            | Ended::Read(_)
+            | Ended::Written(_)
+            | Ended::TooLong => 1,
+            Ended::NoMemory => 3,
+        }
+    }
+}

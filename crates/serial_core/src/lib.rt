@@ -1,0 +1,10 @@
+//! A run of a command, one thing after the other: what its reader puts out goes through its verbs to its outlet.
+#![tactic(auto)]
+
+mod answer;
+mod reader;
+mod serial;
+
+pub use answer::{Ended, Refusal, Why};
+pub use reader::Reader;
+pub use serial::{Serial, SerialTurn};

@@ -1,0 +1,59 @@
+ghost use Rattle.std.specs.Prelude.{◌≡◌, ℕ, List, Option};
+ghost use Rattle.mlr_event.specs.declared.event.Event.{Event as SpecEvent};
+ghost use Rattle.mlr_world.specs.Taken.{Take};
+ghost use Rattle.read_files.specs.Given.{Behind};
+ghost use Rattle.read_files.specs.Standing.{TurnCause};
+ghost use Rattle.serial_core.specs.Command.{Origin};
+ghost use Rattle.verbs_seq.specs.Seq.{IsSoundSeq};
+ghost use Rattle.verbs_seq.specs.Standing.{StandsAt};
+ghost use Rattle.verbs_seq.specs.declared.seq_spec.SeqSpec.{SeqSpec};
+ghost use Rattle.serial_core.specs.Reading.{Counts, Read, ReaderStands};
+
+use mlr_event::{Event, Events};
+use mlr_world::Inputs;
+use read_files::{FileReader, ReadTurn, source_laws};
+use verbs_seq::SeqSource;
+
+/// So many numbers come in one turn.
+const NUMBERS_AT_ONCE: u64 = 500;
+
+/// Where the events of a run come from.
+#[derive(Drop)]
+pub enum Reader {
+    /// From inputs, one after another.
+    Files(FileReader),
+    /// From the numbers of `seqgen`.
+    Numbers(SeqSource),
+}
+
+impl Reader {
+    /// Makes one read of at most 65,536 bytes, or takes the next numbers, and puts behind `out` what that fixes.
+    pub fn turn<I: Inputs>(&mut self, inputs: &mut I, out: &mut Events) -> ReadTurn
+        requires { (origin : Origin) × (before : Option (List Take)) × (given : List Take) × (read : List SpecEvent) × ReaderStands origin given read self.old × Behind before given (I.contents inputs.old) (I.taken inputs.old) (I.open_name inputs.old) }
+        ensures read { (origin : Origin) (before : Option (List Take)) (given : List Take) (read : List SpecEvent) → ReaderStands origin given read self.old → Behind before given (I.contents inputs.old) (I.taken inputs.old) (I.open_name inputs.old)
+            → Read result origin before given read self.new (I.contents inputs.old) (I.taken inputs.new) (I.open_name inputs.new) out.old out.new }
+        ensures contents { I.contents inputs.new ≡ I.contents inputs.old }
+        ensures cause { TurnCause result (I.faults inputs.old) (I.faults inputs.new) }
+    {
+        source_laws();
+        match self {
+            Reader::Files(files) => files.turn(inputs, out),
+            Reader::Numbers(numbers) => next_numbers(numbers, out),
+        }
+    }
+}
+
+/// Puts the next numbers behind `out`, and the end behind the last.
+fn next_numbers(numbers: &mut SeqSource, out: &mut Events) -> ReadTurn
+    requires { (seq : SeqSpec) × (given : ℕ) × IsSoundSeq seq × StandsAt seq given numbers.old }
+    ensures { (seq : SeqSpec) (given : ℕ) → IsSoundSeq seq → StandsAt seq given numbers.old → Counts result seq given numbers.new out.old out.new }
+{
+    match numbers.fill(NUMBERS_AT_ONCE, out) {
+        Ok(true) => ReadTurn::Went,
+        Ok(false) => match out.push(Event::End(numbers.ctx())) {
+            Ok(()) => ReadTurn::Ended,
+            Err(_) => ReadTurn::NoMemory,
+        },
+        Err(_) => ReadTurn::NoMemory,
+    }
+}

@@ -1,0 +1,173 @@
+ghost use Rattle.std.specs.Prelude.{◌≡◌, ◌≤◌, ◌++◌, List, [], Option, None, true};
+ghost use Rattle.mlr_event.specs.declared.event.Event.{Event as SpecEvent};
+ghost use Rattle.mlr_event.specs.declared.names.Target.TheVariants.{Stdout};
+ghost use Rattle.mlr_world.specs.Counts.{Counted};
+ghost use Rattle.mlr_world.specs.Taken.{Take};
+ghost use Rattle.read_files.specs.Given.{Behind};
+ghost use Rattle.serial_core.specs.Command.{Command};
+ghost use Rattle.mlr_event.specs.Verb.{is_list};
+ghost use Rattle.writers.specs.declared.options.WriteOpts.{WriteOpts as Options};
+ghost use Rattle.outlet.specs.Standing.{StandsFor};
+ghost use Rattle.chain_core.specs.Chain.{chain};
+ghost use Rattle.chain_core.specs.Standing.{StandsFor as Chained, verbs_in};
+ghost use Rattle.serial_core.specs.Reading.{ReaderStands};
+ghost use Rattle.serial_core.specs.Answer.{has_failed};
+ghost use Rattle.serial_core.specs.Run.{Run};
+ghost use Rattle.serial_core.specs.Standing.{Begins, CanPass, InputCause, Passed, Ran, SerialStands, Settled, TurnCounts, Wrote, behind, turn_failed, write_failed};
+
+use crate::answer::Ended;
+use crate::reader::Reader;
+use chain_core::{Stages, chain_laws};
+use mlr_event::{Events, Step};
+use mlr_world::{Inputs, Outputs};
+use outlet::{Let, Outlet, outlet_laws};
+use read_files::{ReadTurn, source_laws};
+
+/// What a turn of a run answers.
+#[derive(Debug, PartialEq, Eq, Drop)]
+pub enum SerialTurn {
+    /// The run goes on.
+    Went,
+    /// The run is over.
+    Over(Ended),
+}
+
+/// More turns than any run has, since each takes a byte, the end of an input or a number.
+const MOST_TURNS: u64 = u64::MAX;
+
+/// A run that goes from turn to turn. It stands for what was taken of the inputs.
+#[derive(Drop)]
+pub struct Serial<S> {
+    reader: Reader,
+    stages: Stages<S>,
+    outlet: Outlet,
+    /// What the verbs have made, and what of it isn't written.
+    events: Events,
+}
+
+impl<S: Step + Drop> Serial<S> {
+    /// A run that begins: what the verbs have made of nothing is in `made`, and nothing was read or written. It takes no
+    /// memory.
+    pub fn new(reader: Reader, stages: Stages<S>, made: Events, outlet: Outlet) -> Self
+        ensures { (command : Command) → ReaderStands command.origin [] [] reader → verbs_in S.verb stages ≡ command.verbs → Chained S.verb S.stands [] stages → made ≡ chain command.verbs [] → StandsFor command.write [] outlet → Begins S.verb S.stands command result }
+    {
+        Serial {
+            reader,
+            stages,
+            outlet,
+            events: made,
+        }
+    }
+
+    /// Makes at most one read, of at most 65,536 bytes, and writes all text that is fixed then.
+    pub fn turn<I: Inputs, O: Outputs>(&mut self, inputs: &mut I, outputs: &mut O) -> SerialTurn
+        requires { (command : Command) × (before : Option (List Take)) × (given : List Take) × (read : List SpecEvent) × (shown : List SpecEvent) × SerialStands S.verb S.stands command given read shown self.old × Behind before given (I.contents inputs.old) (I.taken inputs.old) (I.open_name inputs.old) }
+        ensures ran { (command : Command) (before : Option (List Take)) (given : List Take) (read shown : List SpecEvent) → SerialStands S.verb S.stands command given read shown self.old → Behind before given (I.contents inputs.old) (I.taken inputs.old) (I.open_name inputs.old)
+            → Ran result S.verb S.stands command before given read shown self.new (I.contents inputs.old) (I.taken inputs.new) (I.open_name inputs.new) (O.held outputs.old) (O.held outputs.new) }
+        ensures contents { I.contents inputs.new ≡ I.contents inputs.old }
+        ensures cause { TurnCounts result (I.faults inputs.old) (I.faults inputs.new) }
+        ensures counts { Counted (turn_failed result) (O.faults outputs.old) (O.faults outputs.new) Stdout }
+        ensures shortages { O.shortages outputs.old ≤ O.shortages outputs.new }
+    {
+        chain_laws();
+        outlet_laws();
+        source_laws();
+        match self.write(outputs) {
+            Some(ended) => SerialTurn::Over(ended),
+            None => self.read(inputs, outputs),
+        }
+    }
+
+    /// Goes on from turn to turn until the run is over.
+    pub fn run<I: Inputs, O: Outputs>(&mut self, inputs: &mut I, outputs: &mut O) -> Ended
+        requires { (command : Command) × Begins S.verb S.stands command self.old }
+        ensures run { (command : Command) → Begins S.verb S.stands command self.old → Run result command (I.contents inputs.old) (I.taken inputs.old) (I.taken inputs.new) (I.open_name inputs.new) (O.held outputs.old) (O.held outputs.new) }
+        ensures contents { I.contents inputs.new ≡ I.contents inputs.old }
+        ensures cause { InputCause result (I.faults inputs.old) (I.faults inputs.new) }
+        ensures counts { Counted (has_failed result) (O.faults outputs.old) (O.faults outputs.new) Stdout }
+        ensures shortages { O.shortages outputs.old ≤ O.shortages outputs.new }
+    {
+        chain_laws();
+        outlet_laws();
+        source_laws();
+        for _ in 0..MOST_TURNS {
+            match self.turn(inputs, outputs) {
+                SerialTurn::Went => {}
+                SerialTurn::Over(ended) => return ended,
+            }
+        }
+        Ended::NoMemory
+    }
+
+    /// Makes a read, and writes all text that is fixed then. Nothing is at hand.
+    fn read<I: Inputs, O: Outputs>(&mut self, inputs: &mut I, outputs: &mut O) -> SerialTurn
+        requires { (command : Command) × (before : Option (List Take)) × (given : List Take) × (read : List SpecEvent) × Settled S.verb S.stands command given read self.old × Behind before given (I.contents inputs.old) (I.taken inputs.old) (I.open_name inputs.old) }
+        ensures ran { (command : Command) (before : Option (List Take)) (given : List Take) (read : List SpecEvent) → Settled S.verb S.stands command given read self.old → Behind before given (I.contents inputs.old) (I.taken inputs.old) (I.open_name inputs.old)
+            → Ran result S.verb S.stands command before given read (chain command.verbs read) self.new (I.contents inputs.old) (I.taken inputs.new) (I.open_name inputs.new) (O.held outputs.old) (O.held outputs.new) }
+        ensures contents { I.contents inputs.new ≡ I.contents inputs.old }
+        ensures cause { TurnCounts result (I.faults inputs.old) (I.faults inputs.new) }
+        ensures counts { Counted (turn_failed result) (O.faults outputs.old) (O.faults outputs.new) Stdout }
+        ensures shortages { O.shortages outputs.old ≤ O.shortages outputs.new }
+    {
+        chain_laws();
+        outlet_laws();
+        let read = self.reader.turn(inputs, &mut self.events);
+        if let ReadTurn::NoMemory = read {
+            return SerialTurn::Over(Ended::NoMemory);
+        }
+        match self.pass(outputs) {
+            Some(ended) => SerialTurn::Over(ended),
+            None => behind(read),
+        }
+    }
+
+    /// Takes what was read through the verbs, writes what they make of it, and says how the run ended, if it did.
+    fn pass<O: Outputs>(&mut self, outputs: &mut O) -> Option<Ended>
+        requires { (opts : Options) × (read : List SpecEvent) × CanPass S.verb S.stands opts read self.old }
+        ensures passed { (opts : Options) (read : List SpecEvent) → CanPass S.verb S.stands opts read self.old
+            → Passed result S.verb S.stands opts (verbs_in S.verb self.old.stages) read self.old.events self.new (O.held outputs.old) (O.held outputs.new) }
+        ensures reader { self.new.reader ≡ self.old.reader }
+        ensures counts { Counted (write_failed result) (O.faults outputs.old) (O.faults outputs.new) Stdout }
+        ensures shortages { O.shortages outputs.old ≤ O.shortages outputs.new }
+    {
+        chain_laws();
+        outlet_laws();
+        match self.stages.take_all(&mut self.events) {
+            Ok(()) => self.write(outputs),
+            Err(_) => Some(Ended::NoMemory),
+        }
+    }
+
+    /// Writes what is at hand, and says how the run ended, if it did.
+    fn write<O: Outputs>(&mut self, outputs: &mut O) -> Option<Ended>
+        requires { (opts : Options) × (shown : List SpecEvent) × StandsFor opts shown self.old.outlet × (is_list (shown ++ self.old.events) ≡ true) }
+        ensures wrote { (opts : Options) (shown : List SpecEvent) → StandsFor opts shown self.old.outlet → is_list (shown ++ self.old.events) ≡ true → Wrote result opts shown self.old.events (O.held outputs.old) (O.held outputs.new) }
+        ensures stands { (opts : Options) (shown : List SpecEvent) → StandsFor opts shown self.old.outlet → is_list (shown ++ self.old.events) ≡ true → result ≡ None → StandsFor opts (shown ++ self.old.events) self.new.outlet }
+        ensures emptied { result ≡ None → self.new.events ≡ [] }
+        ensures reader { self.new.reader ≡ self.old.reader }
+        ensures stages { self.new.stages ≡ self.old.stages }
+        ensures counts { Counted (write_failed result) (O.faults outputs.old) (O.faults outputs.new) Stdout }
+        ensures shortages { O.shortages outputs.old ≤ O.shortages outputs.new }
+    {
+        match self.outlet.take_all(&mut self.events, outputs) {
+            Let::Went => None,
+            Let::Over(None) => Some(Ended::Done),
+            Let::Over(Some(fault)) => Some(Ended::Data(fault)),
+            Let::Failed(target) => Some(Ended::Written(target)),
+            Let::NoMemory => Some(Ended::NoMemory),
+        }
+    }
+}
+
+/// The answer behind a read, where what was written has no end and no fault.
+fn behind(read: ReadTurn) -> SerialTurn
+    ensures { result ≡ behind read }
+{
+    match read {
+        ReadTurn::Went => SerialTurn::Went,
+        ReadTurn::Ended => SerialTurn::Over(Ended::Done),
+        ReadTurn::Failed(name) => SerialTurn::Over(Ended::Read(name)),
+        ReadTurn::TooLong => SerialTurn::Over(Ended::TooLong),
+        ReadTurn::NoMemory => SerialTurn::Over(Ended::NoMemory),
+    }
+}
