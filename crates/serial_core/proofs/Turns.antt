@@ -107,7 +107,7 @@ module _ {S : Type 0} (verb : S → Verb) (stands : S → List Event → Type 0)
       let rest = reader-rest command.origin given read serial.reader at.reader in
       let is : shown ++ serial.events ≡ chain command.verbs (read ++ []) = sym at.at_hand ∙ ap (chain command.verbs) (sym (append-nil read)) in
       let over = written-over command.write command.verbs read [] rest.0 (given_by command.origin given) (rest.1 ∙ ap (λ t. t ++ rest.0) (sym (append-nil read))) (chained (given_by command.origin given) list) grows writes
-          ended command given refl (subst (WriteSays (Some ended)) is wrote.says) (out_of command.write shown) wrote.more held held' (ap (out_of command.write) (sym is) ∙ wrote.text) wrote.leaves in
+      ended command given refl (subst (WriteSays (Some ended)) is wrote.says) (out_of command.write shown) wrote.more held held' (ap (out_of command.write) (sym is) ∙ wrote.text) wrote.leaves in
       record {
         given' = given;
         took = record {

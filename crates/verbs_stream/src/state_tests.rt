@@ -56,13 +56,7 @@ fn records_are_numbered_by_group(rt: HostRuntime) -> Result<(), NoMemory> {
 const SEVEN: &str = "a=x,i=1\na=y,i=2\na=x,i=3\na=x,i=4\na=y,i=5\na=x,i=6\ni=7";
 
 /// Whether `decimate` makes these records of the seven.
-fn decimates(
-    alloc: Global,
-    count: u64,
-    first: bool,
-    by: &str,
-    want: &str,
-) -> Result<bool, NoMemory>
+fn decimates(alloc: Global, count: u64, first: bool, by: &str, want: &str) -> Result<bool, NoMemory>
     requires { 0 < count }
 {
     let spec = Spec::Decimate(Decimate {
@@ -146,7 +140,15 @@ fn absent_fields_are_filled_down(rt: HostRuntime) -> Result<(), NoMemory> {
     let alloc = rt.alloc();
     let want = "b=0\na=1\nb=2,a=1\na=\nb=3,a=\n";
     assert!(rt; fills(alloc, "a", false, "b=0\na=1\nb=2\na=\nb=3", want)?);
-    assert!(rt; fills(alloc, "a,b", false, "a=1,b=2\nc=3", "a=1,b=2\nc=3,a=1,b=2\n")?);
+    assert!(rt;
+        fills(
+            alloc,
+            "a,b",
+            false,
+            "a=1,b=2\nc=3",
+            "a=1,b=2\nc=3,a=1,b=2\n"
+        )?
+    );
     let want = "a=1,b=2\nc=3,b=2,a=1\nb=4,a=1\n";
     assert!(rt; fills(alloc, "b,a", false, "a=1,b=2\nc=3\nb=4", want)?);
     assert!(rt; fills(alloc, "a,a", false, "a=1\nb=2", "a=1\nb=2,a=1\n")?);

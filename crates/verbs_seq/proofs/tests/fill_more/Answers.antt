@@ -7,5 +7,5 @@ pub returns : goal.returns
 returns c =
     let stands = c.requires.stands in
     on_ok_weaker c.fill.result
-        (λ holds. record { seq = stands.seq; given = stands.given + min c.args.max (seq_count stands.seq - stands.given); sound = stands.sound; at = holds stands.seq stands.given stands.at })
-        c.fill.ensures.stands
+    (λ holds. record { seq = stands.seq; given = stands.given + min c.args.max (seq_count stands.seq - stands.given); sound = stands.sound; at = holds stands.seq stands.given stands.at })
+    c.fill.ensures.stands

@@ -14,7 +14,7 @@ returns-in-Files-clause-read g c (files opts names) before given read stands beh
     let at = subst (ReaderStands (files opts names) given read) c.in-Files.is stands in
     let turned = c.turn.ensures.turned opts names before given at.0 behind in
     files-read opts names before given read at.1 c.turn.result c.turn.new.self (g.I.Inputs.contents c.args.inputs.now) (g.I.Inputs.taken c.turn.new.inputs) (g.I.Inputs.open_name c.turn.new.inputs) c.args.out.now c.turn.new.out
-        turned (c.source_laws.ensures.list opts names turned.given')
+    turned (c.source_laws.ensures.list opts names turned.given')
 returns-in-Files-clause-read g c (numbers seq) before given read stands behind = absurd (subst (ReaderStands (numbers seq) given read) c.in-Files.is stands)
 
 pub returns-in-Numbers-clause-read : goal.returns-in-Numbers-clause-read
@@ -22,7 +22,7 @@ returns-in-Numbers-clause-read g c (files opts names) before given read stands b
 returns-in-Numbers-clause-read g c (numbers seq) before given read stands behind =
     let at = subst (ReaderStands (numbers seq) given read) c.in-Numbers.is stands in
     numbers-read seq before given read at.0 at.1 c.in-Numbers.numbers at.2 at.3 at.4 c.next_numbers.new.numbers (g.I.Inputs.contents c.args.inputs.now) (g.I.Inputs.taken c.args.inputs.now) (g.I.Inputs.open_name c.args.inputs.now)
-        behind c.args.out.now c.next_numbers.new.out c.next_numbers.result (c.next_numbers.ensures seq at.0 at.1 at.2)
+    behind c.args.out.now c.next_numbers.new.out c.next_numbers.result (c.next_numbers.ensures seq at.0 at.1 at.2)
 
 pub returns-in-Numbers-clause-cause : goal.returns-in-Numbers-clause-cause
 returns-in-Numbers-clause-cause g c =

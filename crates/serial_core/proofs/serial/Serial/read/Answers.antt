@@ -36,8 +36,8 @@ returns-in-Some g c = record {
   ran = λ command before given read settled behind.
       let r = c.turn-read.ensures.read command.origin before given read settled.all.reader behind in
       let can = can-pass g.S.Step.verb g.S.Step.stands g.met.S.Step.orderly c.chain_laws.ensures.growth c.outlet_laws.ensures command before given read c.args.self.now settled
-          c.turn-read.result c.turn-read.new.self (g.I.Inputs.contents c.args.inputs.now) (g.I.Inputs.taken c.turn-read.new.inputs) (g.I.Inputs.open_name c.turn-read.new.inputs) c.turn-read.new.out r
-          c.in_default.not-NoMemory in
+      c.turn-read.result c.turn-read.new.self (g.I.Inputs.contents c.args.inputs.now) (g.I.Inputs.taken c.turn-read.new.inputs) (g.I.Inputs.open_name c.turn-read.new.inputs) c.turn-read.new.out r
+      c.in_default.not-NoMemory in
       record {
         given' = r.given';
         took = r.took;
@@ -52,11 +52,11 @@ returns-in-Some g c = record {
       let settled = c.requires.4 in
       let r = c.turn-read.ensures.read command.origin c.requires.1 c.requires.2 c.requires.3 settled.all.reader c.requires.5 in
       let can = can-pass g.S.Step.verb g.S.Step.stands g.met.S.Step.orderly c.chain_laws.ensures.growth c.outlet_laws.ensures command c.requires.1 c.requires.2 c.requires.3 c.args.self.now settled
-          c.turn-read.result c.turn-read.new.self (g.I.Inputs.contents c.args.inputs.now) (g.I.Inputs.taken c.turn-read.new.inputs) (g.I.Inputs.open_name c.turn-read.new.inputs) c.turn-read.new.out r
-          c.in_default.not-NoMemory in
+      c.turn-read.result c.turn-read.new.self (g.I.Inputs.contents c.args.inputs.now) (g.I.Inputs.taken c.turn-read.new.inputs) (g.I.Inputs.open_name c.turn-read.new.inputs) c.turn-read.new.out r
+      c.in_default.not-NoMemory in
       let p = c.in-Some.ensures.passed command.write c.requires.3 can in
       written-cause c.in-Some.ended _ (g.I.Inputs.faults c.args.inputs.now) (g.I.Inputs.faults c.turn-read.new.inputs) p.says
-          (turn-rises c.turn-read.result (g.I.Inputs.faults c.args.inputs.now) (g.I.Inputs.faults c.turn-read.new.inputs) c.turn-read.ensures.cause));
+      (turn-rises c.turn-read.result (g.I.Inputs.faults c.args.inputs.now) (g.I.Inputs.faults c.turn-read.new.inputs) c.turn-read.ensures.cause));
   counts = c.in-Some.ensures.counts;
   shortages = c.pass.ensures.shortages;
 }
@@ -66,8 +66,8 @@ returns-in-None g c = record {
   ran = λ command before given read settled at.
       let r = c.turn-read.ensures.read command.origin before given read settled.all.reader at in
       let can = can-pass g.S.Step.verb g.S.Step.stands g.met.S.Step.orderly c.chain_laws.ensures.growth c.outlet_laws.ensures command before given read c.args.self.now settled
-          c.turn-read.result c.turn-read.new.self (g.I.Inputs.contents c.args.inputs.now) (g.I.Inputs.taken c.turn-read.new.inputs) (g.I.Inputs.open_name c.turn-read.new.inputs) c.turn-read.new.out r
-          c.in_default.not-NoMemory in
+      c.turn-read.result c.turn-read.new.self (g.I.Inputs.contents c.args.inputs.now) (g.I.Inputs.taken c.turn-read.new.inputs) (g.I.Inputs.open_name c.turn-read.new.inputs) c.turn-read.new.out r
+      c.in_default.not-NoMemory in
       record {
         given' = r.given';
         took = r.took;

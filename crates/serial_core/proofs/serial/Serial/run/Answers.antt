@@ -14,7 +14,7 @@ loop-init g c = (
   omega arith,
   λ command begins.
       going-first g.S.Step.verb g.S.Step.stands command (g.I.Inputs.taken c.args.inputs.now) (g.I.Inputs.contents c.args.inputs.now) (g.I.Inputs.taken c.args.inputs.now) (g.I.Inputs.open_name c.args.inputs.now) (g.O.Outputs.held c.args.outputs.now) c.args.self.now begins
-          (behind-none (g.I.Inputs.contents c.args.inputs.now) (g.I.Inputs.taken c.args.inputs.now) (g.I.Inputs.open_name c.args.inputs.now)),
+      (behind-none (g.I.Inputs.contents c.args.inputs.now) (g.I.Inputs.taken c.args.inputs.now) (g.I.Inputs.open_name c.args.inputs.now)),
 )
 
 pub turn-requires : goal.turn-requires
@@ -26,10 +26,10 @@ pub returns-in-Over-clause-run : goal.returns-in-Over-clause-run
 returns-in-Over-clause-run g c command begins =
     let now = c.loop.invariant.4 command begins in
     came-over g.S.Step.verb g.S.Step.stands command (g.I.Inputs.taken c.args.inputs.now) (g.I.Inputs.contents c.args.inputs.now) (g.I.Inputs.taken c.loop.inputs) (g.I.Inputs.open_name c.loop.inputs)
-        (g.O.Outputs.held c.args.outputs.now) (g.O.Outputs.held c.loop.outputs) c.loop.self now c.turn.new.self (g.I.Inputs.taken c.turn.new.inputs) (g.I.Inputs.open_name c.turn.new.inputs) (g.O.Outputs.held c.turn.new.outputs) c.in-Over.ended
-        (subst (λ t. Ran (Over c.in-Over.ended) g.S.Step.verb g.S.Step.stands command (g.I.Inputs.taken c.args.inputs.now) now.given now.read now.shown c.turn.new.self t (g.I.Inputs.taken c.turn.new.inputs) (g.I.Inputs.open_name c.turn.new.inputs) (g.O.Outputs.held c.loop.outputs) (g.O.Outputs.held c.turn.new.outputs))
-            c.loop.invariant.0
-            (c.in-Over.ensures.ran command (g.I.Inputs.taken c.args.inputs.now) now.given now.read now.shown now.at (subst (λ t. Behind (g.I.Inputs.taken c.args.inputs.now) now.given t (g.I.Inputs.taken c.loop.inputs) (g.I.Inputs.open_name c.loop.inputs)) (sym c.loop.invariant.0) now.behind)))
+    (g.O.Outputs.held c.args.outputs.now) (g.O.Outputs.held c.loop.outputs) c.loop.self now c.turn.new.self (g.I.Inputs.taken c.turn.new.inputs) (g.I.Inputs.open_name c.turn.new.inputs) (g.O.Outputs.held c.turn.new.outputs) c.in-Over.ended
+    (subst (λ t. Ran (Over c.in-Over.ended) g.S.Step.verb g.S.Step.stands command (g.I.Inputs.taken c.args.inputs.now) now.given now.read now.shown c.turn.new.self t (g.I.Inputs.taken c.turn.new.inputs) (g.I.Inputs.open_name c.turn.new.inputs) (g.O.Outputs.held c.loop.outputs) (g.O.Outputs.held c.turn.new.outputs))
+    c.loop.invariant.0
+    (c.in-Over.ensures.ran command (g.I.Inputs.taken c.args.inputs.now) now.given now.read now.shown now.at (subst (λ t. Behind (g.I.Inputs.taken c.args.inputs.now) now.given t (g.I.Inputs.taken c.loop.inputs) (g.I.Inputs.open_name c.loop.inputs)) (sym c.loop.invariant.0) now.behind)))
 
 pub returns-in-Over-clause-contents : goal.returns-in-Over-clause-contents
 returns-in-Over-clause-contents g c = c.turn.ensures.contents ∙ c.loop.invariant.0
@@ -53,16 +53,16 @@ loop-preserved g c = (
   λ command begins.
       let now = c.loop.invariant.4 command begins in
       going-on g.S.Step.verb g.S.Step.stands command (g.I.Inputs.taken c.args.inputs.now) (g.I.Inputs.contents c.args.inputs.now) (g.I.Inputs.taken c.loop.inputs) (g.I.Inputs.open_name c.loop.inputs)
-          (g.O.Outputs.held c.args.outputs.now) (g.O.Outputs.held c.loop.outputs) c.loop.self now c.turn.new.self (g.I.Inputs.taken c.turn.new.inputs) (g.I.Inputs.open_name c.turn.new.inputs) (g.O.Outputs.held c.turn.new.outputs)
-          (subst (λ t. Ran Went g.S.Step.verb g.S.Step.stands command (g.I.Inputs.taken c.args.inputs.now) now.given now.read now.shown c.turn.new.self t (g.I.Inputs.taken c.turn.new.inputs) (g.I.Inputs.open_name c.turn.new.inputs) (g.O.Outputs.held c.loop.outputs) (g.O.Outputs.held c.turn.new.outputs))
-              c.loop.invariant.0
-              (c.in-Went.ensures.ran command (g.I.Inputs.taken c.args.inputs.now) now.given now.read now.shown now.at (subst (λ t. Behind (g.I.Inputs.taken c.args.inputs.now) now.given t (g.I.Inputs.taken c.loop.inputs) (g.I.Inputs.open_name c.loop.inputs)) (sym c.loop.invariant.0) now.behind))),
+      (g.O.Outputs.held c.args.outputs.now) (g.O.Outputs.held c.loop.outputs) c.loop.self now c.turn.new.self (g.I.Inputs.taken c.turn.new.inputs) (g.I.Inputs.open_name c.turn.new.inputs) (g.O.Outputs.held c.turn.new.outputs)
+      (subst (λ t. Ran Went g.S.Step.verb g.S.Step.stands command (g.I.Inputs.taken c.args.inputs.now) now.given now.read now.shown c.turn.new.self t (g.I.Inputs.taken c.turn.new.inputs) (g.I.Inputs.open_name c.turn.new.inputs) (g.O.Outputs.held c.loop.outputs) (g.O.Outputs.held c.turn.new.outputs))
+      c.loop.invariant.0
+      (c.in-Went.ensures.ran command (g.I.Inputs.taken c.args.inputs.now) now.given now.read now.shown now.at (subst (λ t. Behind (g.I.Inputs.taken c.args.inputs.now) now.given t (g.I.Inputs.taken c.loop.inputs) (g.I.Inputs.open_name c.loop.inputs)) (sym c.loop.invariant.0) now.behind))),
 )
 
 pub returns-clause-run : goal.returns-clause-run
 returns-clause-run g c command begins =
     out-of-turns g.S.Step.verb g.S.Step.stands command (g.I.Inputs.taken c.args.inputs.now) (g.I.Inputs.contents c.args.inputs.now) (c.chain_laws.ensures.growth command.verbs) (c.outlet_laws.ensures command.write)
-        (g.I.Inputs.taken c.loop.inputs) (g.I.Inputs.open_name c.loop.inputs) (g.O.Outputs.held c.args.outputs.now) (g.O.Outputs.held c.loop.outputs) c.loop.self (c.loop.invariant.4 command begins)
+    (g.I.Inputs.taken c.loop.inputs) (g.I.Inputs.open_name c.loop.inputs) (g.O.Outputs.held c.args.outputs.now) (g.O.Outputs.held c.loop.outputs) c.loop.self (c.loop.invariant.4 command begins)
 
 pub returns-clause-contents : goal.returns-clause-contents
 returns-clause-contents g c = c.loop.invariant.0

@@ -14,4 +14,4 @@ invariant-loop g l =
     ((target : Target) → g.O.Outputs.faults l.outputs target ≡ g.O.Outputs.faults l.fn.outputs target) ×
     (g.O.Outputs.shortages l.fn.outputs ≤ g.O.Outputs.shortages l.outputs) ×
     ((command : Command) → Begins g.S.Step.verb g.S.Step.stands command l.fn.self
-        → Going g.S.Step.verb g.S.Step.stands command (g.I.Inputs.taken l.fn.inputs) (g.I.Inputs.contents l.fn.inputs) (g.I.Inputs.taken l.inputs) (g.I.Inputs.open_name l.inputs) (g.O.Outputs.held l.fn.outputs) (g.O.Outputs.held l.outputs) l.self)
+    → Going g.S.Step.verb g.S.Step.stands command (g.I.Inputs.taken l.fn.inputs) (g.I.Inputs.contents l.fn.inputs) (g.I.Inputs.taken l.inputs) (g.I.Inputs.open_name l.inputs) (g.O.Outputs.held l.fn.outputs) (g.O.Outputs.held l.outputs) l.self)
