@@ -4,6 +4,8 @@
 mod choosing;
 #[cfg(test)]
 mod choosing_tests;
+#[cfg(test)]
+mod copies_tests;
 mod having;
 mod naming;
 #[cfg(test)]

@@ -23,6 +23,18 @@ pub struct Renaming {
     pub new: Bytes,
 }
 
+impl Renaming {
+    /// A copy. It takes memory for names of more than 16 bytes.
+    pub fn copy(&self, alloc: Global) -> Result<Self, NoMemory>
+        ensures { IfOk result (λ copy. copy ≡ self.now) }
+    {
+        Ok(Renaming {
+            old: Bytes::copy_of(alloc, self.old.as_slice())?,
+            new: Bytes::copy_of(alloc, self.new.as_slice())?,
+        })
+    }
+}
+
 /// Whether no name repeats, as `label` asks for. It takes no memory.
 pub fn are_distinct(names: &Names) -> bool
     ensures { result ≡ are_distinct names.now }

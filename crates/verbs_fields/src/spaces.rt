@@ -41,6 +41,16 @@ impl Unspace {
         put_unspaced(alloc, self, from.into_fields(), &mut made)?;
         Ok(made)
     }
+
+    /// A copy. It takes memory for a text of more than 16 bytes.
+    pub fn copy(&self, alloc: Global) -> Result<Self, NoMemory>
+        ensures { IfOk result (λ copy. copy ≡ self.now) }
+    {
+        Ok(Unspace {
+            text: Bytes::copy_of(alloc, self.text.as_slice())?,
+            part: self.part,
+        })
+    }
 }
 
 /// Whether a record has a space in what is taken of its fields.

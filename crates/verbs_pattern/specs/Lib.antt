@@ -4,3 +4,4 @@ pub mod Grepping
 pub mod Renaming
 pub mod Renamed
 pub mod RenamingSteps
+pub mod Rules

@@ -1,9 +1,23 @@
-ghost use Rattle.std.specs.Prelude.{◌≡◌};
+ghost use Rattle.std.specs.Prelude.{◌≡◌, IfOk};
 ghost use Rattle.std.specs.Option.{option_map};
 ghost use Rattle.verbs_pattern.specs.Changing.{names_of};
 
 use crate::SubFields;
 use mlr_event::Names;
+use mlr_spec::NoMemory;
+use std::alloc::Global;
+
+impl SubFields {
+    /// A copy. It takes memory for the names.
+    pub fn copy(&self, _: Global) -> Result<Self, NoMemory>
+        ensures { IfOk result (λ copy. copy ≡ self.now) }
+    {
+        Ok(match self {
+            SubFields::All => SubFields::All,
+            SubFields::Named(names) => SubFields::Named(names.copy()?),
+        })
+    }
+}
 
 /// The names of the fields that are changed, and none for all fields.
 pub(crate) fn names_of(fields: &SubFields) -> Option<&Names>

@@ -33,6 +33,19 @@ impl Grep {
         let found = text_matches(alloc, &self.pattern, fields)?;
         Ok(if self.others { !found } else { found })
     }
+
+    /// A copy, which shares the pattern. It takes no memory.
+    pub fn copy(&self, _: Global) -> Result<Self, NoMemory>
+        ensures either_case { IfOk result (λ copy. copy.either_case ≡ self.now.either_case) }
+        ensures others { IfOk result (λ copy. copy.others ≡ self.now.others) }
+        ensures pattern { IfOk result (λ copy. regex_pattern (arc_value copy.pattern) ≡ regex_pattern (arc_value self.now.pattern)) }
+    {
+        Ok(Grep {
+            either_case: self.either_case,
+            others: self.others,
+            pattern: Arc::try_clone(&self.pattern)?,
+        })
+    }
 }
 
 fn text_matches(alloc: Global, pattern: &Pattern, fields: &Record) -> Result<bool, NoMemory>

@@ -3,6 +3,8 @@
 #![tactic(auto)]
 
 mod chosen;
+#[cfg(test)]
+mod copies_tests;
 mod grep;
 mod laws;
 mod matching;

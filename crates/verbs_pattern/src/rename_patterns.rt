@@ -5,6 +5,7 @@ ghost use Rattle.regex.specs.Bytes.{regex_pattern, matcher_pattern};
 ghost use Rattle.mlr_spec.specs.Pairs.{are_distinct, keys_of, remove_at};
 ghost use Rattle.mlr_spec.specs.Tree.{Tree};
 ghost use Rattle.verbs_pattern.specs.Renaming.{renamed_by, renamed_by_each};
+ghost use Rattle.verbs_pattern.specs.Rules.{rules_in};
 ghost use Rattle.verbs_pattern.specs.RenamingSteps.{new_name, GoesOn, IsRenamedAt};
 
 use mlr_pattern::{Matcher, Pattern, Which, replaced_if_found};
@@ -32,6 +33,22 @@ impl RenamePatterns {
     {
         rename_by_each(alloc, self.pairs.as_slice(), self.which, &mut fields)?;
         Ok(fields)
+    }
+
+    /// A copy, which shares the patterns. It takes memory for the list, and for texts of more than 16 bytes.
+    pub fn copy(&self, alloc: Global) -> Result<Self, NoMemory>
+        ensures rules { IfOk result (λ copy. rules_in copy ≡ rules_in self.now) }
+        ensures which { IfOk result (λ copy. copy.which ≡ self.now.which) }
+    {
+        let mut pairs = Vec::with_capacity(alloc, self.pairs.len())?;
+        for (pattern, by) in &self.pairs {
+            let by = Bytes::copy_of(alloc, by.as_slice())?;
+            pairs.push((Arc::try_clone(pattern)?, by))?;
+        }
+        Ok(RenamePatterns {
+            pairs,
+            which: self.which,
+        })
     }
 }
 

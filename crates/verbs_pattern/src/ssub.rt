@@ -26,6 +26,17 @@ impl Ssub {
     {
         change_record(self, alloc, fields)
     }
+
+    /// A copy. It takes memory for the names, and for texts of more than 16 bytes.
+    pub fn copy(&self, alloc: Global) -> Result<Self, NoMemory>
+        ensures { IfOk result (λ copy. copy ≡ self.now) }
+    {
+        Ok(Ssub {
+            fields: self.fields.copy(alloc)?,
+            old: Bytes::copy_of(alloc, self.old.as_slice())?,
+            by: Bytes::copy_of(alloc, self.by.as_slice())?,
+        })
+    }
 }
 
 impl Change for &Ssub {

@@ -34,6 +34,19 @@ impl Sub {
         let by = self.by.as_slice();
         sub_fields(alloc, &self.fields, &self.pattern, by, Which::First, fields)
     }
+
+    /// A copy, which shares the pattern. It takes memory for the names, and for a text of more than 16 bytes.
+    pub fn copy(&self, alloc: Global) -> Result<Self, NoMemory>
+        ensures fields { IfOk result (λ copy. copy.fields ≡ self.now.fields) }
+        ensures pattern { IfOk result (λ copy. regex_pattern (arc_value copy.pattern) ≡ regex_pattern (arc_value self.now.pattern)) }
+        ensures by { IfOk result (λ copy. copy.by ≡ self.now.by) }
+    {
+        Ok(Sub {
+            fields: self.fields.copy(alloc)?,
+            pattern: Arc::try_clone(&self.pattern)?,
+            by: Bytes::copy_of(alloc, self.by.as_slice())?,
+        })
+    }
 }
 
 /// `gsub`: as `Sub`, but all matches are replaced.
@@ -53,6 +66,19 @@ impl Gsub {
     {
         let by = self.by.as_slice();
         sub_fields(alloc, &self.fields, &self.pattern, by, Which::All, fields)
+    }
+
+    /// A copy, which shares the pattern. It takes memory for the names, and for a text of more than 16 bytes.
+    pub fn copy(&self, alloc: Global) -> Result<Self, NoMemory>
+        ensures fields { IfOk result (λ copy. copy.fields ≡ self.now.fields) }
+        ensures pattern { IfOk result (λ copy. regex_pattern (arc_value copy.pattern) ≡ regex_pattern (arc_value self.now.pattern)) }
+        ensures by { IfOk result (λ copy. copy.by ≡ self.now.by) }
+    {
+        Ok(Gsub {
+            fields: self.fields.copy(alloc)?,
+            pattern: Arc::try_clone(&self.pattern)?,
+            by: Bytes::copy_of(alloc, self.by.as_slice())?,
+        })
     }
 }
 

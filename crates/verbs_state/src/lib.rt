@@ -2,6 +2,9 @@
 //! contract of such a verb, and of those that keep none.
 #![tactic(auto)]
 
+mod copies;
+#[cfg(test)]
+mod copies_tests;
 mod counting;
 mod fill_down;
 #[cfg(test)]

@@ -1,3 +1,4 @@
 pub mod Kinds
 pub mod Trying
 pub mod Each
+pub mod Copies

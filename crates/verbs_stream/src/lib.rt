@@ -2,6 +2,7 @@
 //! which verb, with its options, and `StreamVerb` is the verb in a chain.
 #![tactic(auto)]
 
+mod copies;
 mod each;
 #[cfg(test)]
 mod fields_tests;

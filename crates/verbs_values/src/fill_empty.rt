@@ -24,6 +24,16 @@ impl FillEmpty {
     {
         change_record(self, alloc, from)
     }
+
+    /// A copy. It takes memory for a text of more than 16 bytes.
+    pub fn copy(&self, alloc: Global) -> Result<Self, NoMemory>
+        ensures { IfOk result (λ copy. copy ≡ self.now) }
+    {
+        Ok(FillEmpty {
+            text: Bytes::copy_of(alloc, self.text.as_slice())?,
+            as_string: self.as_string,
+        })
+    }
 }
 
 impl Change for &FillEmpty {

@@ -33,6 +33,16 @@ impl Flatten {
             None => flatten_all(self.separator.as_slice(), from),
         }
     }
+
+    /// A copy. It takes memory for the names, and for a separator of more than 16 bytes.
+    pub fn copy(&self, alloc: Global) -> Result<Self, NoMemory>
+        ensures { IfOk result (λ copy. copy ≡ self.now) }
+    {
+        Ok(Flatten {
+            names: self.names.as_ref().map(Names::copy).transpose()?,
+            separator: Bytes::copy_of(alloc, self.separator.as_slice())?,
+        })
+    }
 }
 
 fn flatten_all(separator: &[u8], from: Record) -> Result<Record, NoMemory>

@@ -67,6 +67,15 @@ impl JsonParse {
     {
         change_record(self, alloc, from)
     }
+
+    /// A copy. It takes memory for the names.
+    pub fn copy(&self, _: Global) -> Result<Self, NoMemory>
+        ensures { IfOk result (λ copy. copy ≡ self.now) }
+    {
+        Ok(JsonParse {
+            names: self.names.as_ref().map(Names::copy).transpose()?,
+        })
+    }
 }
 
 impl Change for &JsonParse {
@@ -99,6 +108,15 @@ impl JsonStringify {
         ensures { IfOk result (λ made. made ≡ json_stringify self.now.names from) }
     {
         change_record(self, alloc, from)
+    }
+
+    /// A copy. It takes memory for the names.
+    pub fn copy(&self, _: Global) -> Result<Self, NoMemory>
+        ensures { IfOk result (λ copy. copy ≡ self.now) }
+    {
+        Ok(JsonStringify {
+            names: self.names.as_ref().map(Names::copy).transpose()?,
+        })
     }
 }
 

@@ -22,6 +22,15 @@ impl Sec2Gmt {
     {
         change_record(self, alloc, from)
     }
+
+    /// A copy. It takes memory for the names.
+    pub fn copy(&self, _: Global) -> Result<Self, NoMemory>
+        ensures { IfOk result (λ copy. copy ≡ self.now) }
+    {
+        Ok(Sec2Gmt {
+            names: self.names.copy()?,
+        })
+    }
 }
 
 impl Change for &Sec2Gmt {
@@ -53,6 +62,15 @@ impl Sec2GmtDate {
         ensures { IfOk result (λ made. made ≡ sec2gmtdate_fields self.now.names from) }
     {
         change_record(self, alloc, from)
+    }
+
+    /// A copy. It takes memory for the names.
+    pub fn copy(&self, _: Global) -> Result<Self, NoMemory>
+        ensures { IfOk result (λ copy. copy ≡ self.now) }
+    {
+        Ok(Sec2GmtDate {
+            names: self.names.copy()?,
+        })
     }
 }
 

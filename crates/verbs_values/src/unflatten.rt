@@ -5,6 +5,7 @@ use mlr_event::Names;
 use mlr_record::Record;
 use mlr_spec::NoMemory;
 use mlr_value::Bytes;
+use std::alloc::Global;
 
 /// `unflatten`: puts each value at the path that the name of its field spells.
 #[derive(Drop)]
@@ -28,5 +29,15 @@ impl Unflatten {
             None => record.unflatten(separator)?,
         }
         Ok(record)
+    }
+
+    /// A copy. It takes memory for the names, and for a separator of more than 16 bytes.
+    pub fn copy(&self, alloc: Global) -> Result<Self, NoMemory>
+        ensures { IfOk result (λ copy. copy ≡ self.now) }
+    {
+        Ok(Unflatten {
+            names: self.names.as_ref().map(Names::copy).transpose()?,
+            separator: Bytes::copy_of(alloc, self.separator.as_slice())?,
+        })
     }
 }

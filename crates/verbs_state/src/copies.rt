@@ -1,0 +1,69 @@
+ghost use Rattle.std.specs.Prelude.{◌≡◌, IfOk};
+
+use crate::options::{Cat, Decimate, FillDown, Gap, Head};
+use mlr_event::Names;
+use mlr_spec::NoMemory;
+use mlr_value::Bytes;
+use std::alloc::Global;
+
+impl Cat {
+    /// A copy. It takes memory for a name of more than 16 bytes, and for the names of the groups.
+    pub fn copy(&self, alloc: Global) -> Result<Self, NoMemory>
+        ensures { IfOk result (λ copy. copy ≡ self.now) }
+    {
+        Ok(Cat {
+            number: self.number,
+            name: Bytes::copy_of(alloc, self.name.as_slice())?,
+            groups: self.groups.as_ref().map(Names::copy).transpose()?,
+        })
+    }
+}
+
+impl Decimate {
+    /// A copy. It takes memory for the names of the groups.
+    pub fn copy(&self, _: Global) -> Result<Self, NoMemory>
+        ensures { IfOk result (λ copy. copy ≡ self.now) }
+    {
+        Ok(Decimate {
+            count: self.count,
+            first: self.first,
+            groups: self.groups.as_ref().map(Names::copy).transpose()?,
+        })
+    }
+}
+
+impl FillDown {
+    /// A copy. It takes memory for the names.
+    pub fn copy(&self, _: Global) -> Result<Self, NoMemory>
+        ensures { IfOk result (λ copy. copy ≡ self.now) }
+    {
+        Ok(FillDown {
+            names: self.names.copy()?,
+            blank: self.blank,
+        })
+    }
+}
+
+impl Gap {
+    /// A copy. It takes memory for the names of the groups.
+    pub fn copy(&self, _: Global) -> Result<Self, NoMemory>
+        ensures { IfOk result (λ copy. copy ≡ self.now) }
+    {
+        Ok(match self {
+            Gap::Count(count) => Gap::Count(*count),
+            Gap::Groups(names) => Gap::Groups(names.copy()?),
+        })
+    }
+}
+
+impl Head {
+    /// A copy. It takes memory for the names of the groups.
+    pub fn copy(&self, _: Global) -> Result<Self, NoMemory>
+        ensures { IfOk result (λ copy. copy ≡ self.now) }
+    {
+        Ok(Head {
+            count: self.count,
+            groups: self.groups.as_ref().map(Names::copy).transpose()?,
+        })
+    }
+}
