@@ -88,7 +88,7 @@ pub record StandsFor (opts : ReadOpts) (names : List InputName) (given : List Ta
 abbrev pub TurnSays : ReadTurn → ReadOpts → List InputName → List Take → List Take → Type 0
 TurnSays Went opts names given given' = (is_open (source opts names given') ≡ true) × (total given' < 2 ^ 60) × (total given + ends given < total given' + ends given')
 TurnSays Ended opts names given given' = is_open (source opts names given') ≡ false
-TurnSays (Failed name) opts names given given' = (is_open (source opts names given') ≡ true) × (total given' < 2 ^ 60) × (stops_at names given' ≡ Some name)
+TurnSays (Failed name) opts names given given' = (is_open (source opts names given') ≡ true) × (total given' < 2 ^ 60) × (stops_at names given' ≡ Some name) × (source opts names given' ≡ events_taken opts given)
 TurnSays TooLong opts names given given' = (is_open (source opts names given') ≡ true) × (total given' ≡ 2 ^ 60)
 TurnSays NoMemory opts names given given' = Unit {0}
 
@@ -98,7 +98,7 @@ pub record Turned (turn : ReadTurn) (opts : ReadOpts) (names : List InputName) (
   pub order : InOrder names given'
   pub goes_on : GoesOn given given'
   pub behind : Behind before given' contents taken' name'
-  pub one_read : total given' ≤ total given + 65536
+  pub one_read : total given' < total given + 65536
   pub few : total given' ≤ 2 ^ 60
   pub says : TurnSays turn opts names given given'
   pub more : List Event

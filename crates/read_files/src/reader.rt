@@ -22,8 +22,9 @@ const MANY: usize = 1 << 60;
 /// All inputs together have fewer bytes than this.
 const TOO_LONG: u64 = 1 << 60;
 
-/// One read takes at most so many bytes.
-const ONE_READ: u64 = 65_536;
+/// One read takes at most so many bytes: fifteen pages, which is less than the 65,536 bytes that a run may take beyond what
+/// it needs.
+const ONE_READ: u64 = 61_440;
 
 /// What a turn of a reader answers.
 #[derive(Debug, PartialEq, Eq, Drop)]
@@ -96,7 +97,7 @@ impl FileReader {
         })
     }
 
-    /// Takes one piece of at most 65,536 bytes or the end of an input, and puts behind `out` what that fixes. The next
+    /// Takes one piece of fewer than 65,536 bytes or the end of an input, and puts behind `out` what that fixes. The next
     /// input is opened where none is open.
     pub fn turn<I: Inputs>(&mut self, inputs: &mut I, out: &mut Events) -> ReadTurn
         requires { (opts : Options) × (names : List SpecName) × (before : Option (List Take)) × (given : List Take) × StandsFor opts names given self.old × Behind before given (I.contents inputs.old) (I.taken inputs.old) (I.open_name inputs.old) }

@@ -7,7 +7,7 @@ use Rattle.mlr_world.specs.Inputs.{Contents}
 use Rattle.mlr_world.specs.Taken.{Take}
 use Rattle.read_files.specs.declared.reader.ReadTurn.{ReadTurn}
 use Rattle.read_files.specs.declared.reader.ReadTurn.TheVariants.{Went, Ended, Failed, TooLong, NoMemory}
-use Rattle.read_files.specs.Given.{Behind, GoesOn, InOrder, stops_at, total}
+use Rattle.read_files.specs.Given.{Behind, GoesOn, InOrder, ends, stops_at, total}
 use Rattle.read_files.specs.Sources.{events_taken}
 use Rattle.read_files.specs.Standing as file
 use Rattle.verbs_seq.specs.Seq.{IsSoundSeq, seq_all, seq_events}
@@ -31,13 +31,13 @@ pub record Counts (turn : ReadTurn) (spec : SeqSpec) (given : ℕ) (after : SeqS
   pub some : ℕ
   pub put : List Event
   pub puts : (turn ≡ NoMemory → ⊥) → out' ≡ out ++ put
-  pub next : turn ≡ Went → (put ≡ seq_events spec given some) × seq.StandsAt spec (given + some) after
+  pub next : turn ≡ Went → (put ≡ seq_events spec given some) × (put ≡ [] → ⊥) × seq.StandsAt spec (given + some) after
   pub last : turn ≡ Ended → seq_events spec 0 given ++ put ≡ seq_all spec
   pub answers : (turn ≡ Went) ⊎ ((turn ≡ Ended) ⊎ (turn ≡ NoMemory))
 
 -- what a turn's answer says of what was taken, and of the events put out: whether they are all, and which
 abbrev pub ReadSays : ReadTurn → Origin → List Take → List Event → List Event → Type 0
-ReadSays Went origin given read rest = (is_open read ≡ true) × (total given < 2 ^ 60)
+ReadSays Went origin given read rest = (is_open read ≡ true) × (total given < 2 ^ 60) × ((rest ≡ []) ⊎ (given ≡ []))
 ReadSays Ended origin given read rest = (is_open read ≡ false) × (rest ≡ [])
 ReadSays (Failed name) origin given read rest = (is_open read ≡ true) × (rest ≡ []) × (stops_at (names_of origin) given ≡ Some name)
 ReadSays TooLong origin given read rest = (is_open read ≡ true) × (rest ≡ []) × (total given ≡ 2 ^ 60)
@@ -48,7 +48,7 @@ pub record TookMore (origin : Origin) (before : Option (List Take)) (given given
   pub order : InOrder (names_of origin) given'
   pub goes_on : GoesOn given given'
   pub behind : Behind before given' contents taken' name'
-  pub one_read : total given' ≤ total given + 65536
+  pub one_read : total given' < total given + 65536
   pub few : total given' ≤ 2 ^ 60
 
 -- What a turn did: more was taken, and but for want of memory the next events were put out.
@@ -60,5 +60,8 @@ pub record Read (turn : ReadTurn) (origin : Origin) (before : Option (List Take)
   pub events : given_by origin given' ≡ (read ++ put) ++ rest
   pub list : is_list (given_by origin given') ≡ true
   pub puts : (turn ≡ NoMemory → ⊥) → out' ≡ out ++ put
+  pub fails : ((name : InputName) → turn ≡ Failed name → put ≡ [])
   pub says : ReadSays turn origin given' (read ++ put) rest
   pub stands : turn ≡ Went → ReaderStands origin given' (read ++ put) after
+  pub early : (given' ≡ given) ⊎ (given_by origin given ≡ read)
+  pub moves : turn ≡ Went → (total given + ends given < total given' + ends given') ⊎ (put ≡ [] → ⊥)

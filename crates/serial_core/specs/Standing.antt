@@ -1,5 +1,5 @@
 -- How far a run has come, and what a turn of it does.
-use Rattle.std.specs.Prelude.{◌≡◌, ℕ, ◌<◌, ◌≤◌, ◌^◌, Bool, true, false, List, [], ◌∷◌, ◌++◌, Option, Some, None}
+use Rattle.std.specs.Prelude.{◌≡◌, ◌⊎◌, ℕ, ◌+◌, ◌<◌, ◌≤◌, ◌^◌, Bool, true, false, List, [], ◌∷◌, ◌++◌, Option, Some, None}
 use Rattle.std.specs.List.{list_any}
 use Rattle.mlr_event.specs.declared.event.Event.{Event}
 use Rattle.mlr_event.specs.declared.names.InputName.{InputName}
@@ -17,7 +17,7 @@ use Rattle.chain_core.specs.Chain.{chain}
 use Rattle.chain_core.specs.Standing as chain
 use Rattle.read_files.specs.declared.reader.ReadTurn.{ReadTurn}
 use Rattle.read_files.specs.declared.reader.ReadTurn.TheVariants as turn
-use Rattle.read_files.specs.Given.{stops_at, total}
+use Rattle.read_files.specs.Given.{ends, stops_at, total}
 use Rattle.serial_core.specs.declared.answer.Ended.{Ended}
 use Rattle.serial_core.specs.declared.answer.Ended.TheVariants as answer
 use Rattle.serial_core.specs.declared.serial.Serial.{Serial}
@@ -66,44 +66,51 @@ Leaves (answer.Written target) text before now = outlet.PutsFront text before no
 Leaves answer.TooLong text before now = now ≡ with_bytes text before
 Leaves answer.NoMemory text before now = outlet.PutsFront text before now
 
+-- nothing was taken, or more may be made of what was taken when more is
+abbrev pub MayGoOn : Command → List Take → Type 0
+MayGoOn command given = (given ≡ []) ⊎ (is_open (result command given) ≡ true)
+
 -- A turn after which the run goes on: all text that what was taken fixes was written.
-pub record WentOn {S : Type 0} (verb : S → Verb) (stands : S → List Event → Type 0) (command : Command) (given' : List Take) (read shown : List Event) (after : Serial S) (held held' : Option Held) : Type 0 where
+pub record WentOn {S : Type 0} (verb : S → Verb) (stands : S → List Event → Type 0) (command : Command) (given given' : List Take) (read shown : List Event) (after : Serial S) (held held' : Option Held) : Type 0 where
   pub put : List Event
   pub rest : List Event
   pub events : given_by command.origin given' ≡ (read ++ put) ++ rest
   pub few : total given' < 2 ^ 60
   pub goes : is_open (chain command.verbs (read ++ put)) ≡ true
+  pub may_go_on : MayGoOn command given'
+  pub moves : (total given + ends given < total given' + ends given') ⊎ (put ≡ [] → ⊥)
   pub stand : SerialStands verb stands command given' (read ++ put) (chain command.verbs (read ++ put)) after
   pub more : List ℕ
   pub text : out_of command.write (chain command.verbs (read ++ put)) ≡ out_of command.write shown ++ more
   pub leaves : ChangesAt Stdout (λ before now. now ≡ with_bytes more before) held held'
 
 -- A turn after which it is over, with this answer.
-pub record CameOver (ended : Ended) (command : Command) (given' : List Take) (shown : List Event) (held held' : Option Held) : Type 0 where
+pub record CameOver (ended : Ended) (command : Command) (given given' : List Take) (shown : List Event) (held held' : Option Held) : Type 0 where
   pub says : Says ended command given'
   pub more : List ℕ
   pub text : out_of command.write (result command given') ≡ out_of command.write shown ++ more
   pub leaves : ChangesAt Stdout (Leaves ended more) held held'
+  pub early : (given' ≡ given) ⊎ (is_open (result command given) ≡ true)
 
-abbrev pub Outcome : {S : Type 0} → SerialTurn → (S → Verb) → (S → List Event → Type 0) → Command → List Take → List Event → List Event → Serial S → Option Held → Option Held → Type 0
-Outcome Went verb stands command given' read shown after held held' = WentOn verb stands command given' read shown after held held'
-Outcome (Over ended) verb stands command given' read shown after held held' = CameOver ended command given' shown held held'
+abbrev pub Outcome : {S : Type 0} → SerialTurn → (S → Verb) → (S → List Event → Type 0) → Command → List Take → List Take → List Event → List Event → Serial S → Option Held → Option Held → Type 0
+Outcome Went verb stands command given given' read shown after held held' = WentOn verb stands command given given' read shown after held held'
+Outcome (Over ended) verb stands command given given' read shown after held held' = CameOver ended command given given' shown held held'
 
 -- What a turn did.
 pub record Ran {S : Type 0} (turn : SerialTurn) (verb : S → Verb) (stands : S → List Event → Type 0) (command : Command) (before : Option (List Take)) (given : List Take) (read shown : List Event) (after : Serial S) (contents : Option Contents) (taken' : Option (List Take)) (name' : Option InputName) (held held' : Option Held) : Type 0 where
   pub given' : List Take
   pub took : TookMore command.origin before given given' contents taken' name'
-  pub outcome : Outcome turn verb stands command given' read shown after held held'
+  pub outcome : Outcome turn verb stands command given given' read shown after held held'
 
 -- what an answer says of the counts of the inputs
 abbrev pub InputCause : Ended → (InputName → ℕ) → (InputName → ℕ) → Type 0
-InputCause answer.Done before now = (name : InputName) → before name ≤ now name
+InputCause answer.Done before now = (name : InputName) → now name ≡ before name
 InputCause (answer.Refused refusal) before now = (name : InputName) → now name ≡ before name
-InputCause (answer.Data fault) before now = (name : InputName) → before name ≤ now name
+InputCause (answer.Data fault) before now = (name : InputName) → now name ≡ before name
 InputCause (answer.Read name) before now = ((other : InputName) → before other ≤ now other) × Rose (before name) (now name)
-InputCause (answer.Written target) before now = (name : InputName) → before name ≤ now name
+InputCause (answer.Written target) before now = (name : InputName) → now name ≡ before name
 InputCause answer.TooLong before now = (name : InputName) → now name ≡ before name
-InputCause answer.NoMemory before now = (name : InputName) → before name ≤ now name
+InputCause answer.NoMemory before now = (name : InputName) → now name ≡ before name
 
 abbrev pub turn_failed : SerialTurn → Bool
 turn_failed Went = false

@@ -1,7 +1,8 @@
 ghost use Rattle.std.specs.Prelude.{◌≡◌, ◌≤◌, ◌++◌, List, [], Option, None, true};
 ghost use Rattle.mlr_event.specs.declared.event.Event.{Event as SpecEvent};
+ghost use Rattle.mlr_event.specs.declared.names.InputName.{InputName};
 ghost use Rattle.mlr_event.specs.declared.names.Target.TheVariants.{Stdout};
-ghost use Rattle.mlr_world.specs.Counts.{Counted};
+ghost use Rattle.mlr_world.specs.Counts.{Counted, Rose};
 ghost use Rattle.mlr_world.specs.Taken.{Take};
 ghost use Rattle.read_files.specs.Given.{Behind};
 ghost use Rattle.serial_core.specs.Command.{Command};
@@ -12,7 +13,7 @@ ghost use Rattle.chain_core.specs.Chain.{chain};
 ghost use Rattle.chain_core.specs.Standing.{StandsFor as Chained, verbs_in};
 ghost use Rattle.serial_core.specs.Reading.{ReaderStands};
 ghost use Rattle.serial_core.specs.Answer.{has_failed};
-ghost use Rattle.serial_core.specs.Run.{Run};
+ghost use Rattle.serial_core.specs.Run.{Completes, HoldsAll, Run};
 ghost use Rattle.serial_core.specs.Standing.{Begins, CanPass, InputCause, Passed, Ran, SerialStands, Settled, TurnCounts, Wrote, behind, turn_failed, write_failed};
 
 use crate::answer::Ended;
@@ -86,6 +87,10 @@ impl<S: Step + Drop> Serial<S> {
         ensures cause { InputCause result (I.faults inputs.old) (I.faults inputs.new) }
         ensures counts { Counted (has_failed result) (O.faults outputs.old) (O.faults outputs.new) Stdout }
         ensures shortages { O.shortages outputs.old ≤ O.shortages outputs.new }
+        // Where no call fails, the answer is that of all that the inputs hold.
+        ensures completes { (command : Command) → Begins S.verb S.stands command self.old → (holds : HoldsAll command (I.contents inputs.old) (I.taken inputs.old))
+            → ((name : InputName) → ¬ Rose (I.faults inputs.old name) (I.faults inputs.new name)) → ¬ Rose (O.faults outputs.old Stdout) (O.faults outputs.new Stdout)
+            → Completes result command holds.whole (O.held outputs.old) (O.held outputs.new) }
     {
         chain_laws();
         outlet_laws();
@@ -111,13 +116,13 @@ impl<S: Step + Drop> Serial<S> {
     {
         chain_laws();
         outlet_laws();
-        let read = self.reader.turn(inputs, &mut self.events);
-        if let ReadTurn::NoMemory = read {
-            return SerialTurn::Over(Ended::NoMemory);
-        }
-        match self.pass(outputs) {
-            Some(ended) => SerialTurn::Over(ended),
-            None => behind(read),
+        match self.reader.turn(inputs, &mut self.events) {
+            ReadTurn::Failed(name) => SerialTurn::Over(Ended::Read(name)),
+            ReadTurn::NoMemory => SerialTurn::Over(Ended::NoMemory),
+            read => match self.pass(outputs) {
+                Some(ended) => SerialTurn::Over(ended),
+                None => behind(read),
+            },
         }
     }
 
