@@ -10,3 +10,5 @@ pub mod Opening
 pub mod Stepping
 pub mod Ending
 pub mod Steps
+pub mod Fixed
+pub mod Fronts

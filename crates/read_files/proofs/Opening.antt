@@ -29,7 +29,7 @@ use Rattle.read_files.proofs.Steps.{source-stops, source-whole}
 pub says-opened : (turn : ReadTurn) (opts : ReadOpts) (names : List InputName) (given given' : List Take) (name : InputName) → TurnSays turn opts names (given ++ begun name ∷ []) given' → TurnSays turn opts names given given'
 says-opened Went opts names given given' name says = (says.0, says.1, omega (arith, says.2, total-append given (begun name ∷ []), ends-append given (begun name ∷ [])))
 says-opened Ended opts names given given' name says = says
-says-opened (Failed failed) opts names given given' name says = says
+says-opened (Failed failed) opts names given given' name says = (says.0, says.1, says.2, says.3 ∙ begun-events opts given name)
 says-opened TooLong opts names given given' name says = says
 says-opened NoMemory opts names given given' name says = tt
 

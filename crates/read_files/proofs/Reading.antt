@@ -53,7 +53,7 @@ goes_on-same given = subst (GoesOn given) (append-nil given) (goes_on-more given
 
 -- a read that led to more, as the inputs tell it
 pub turned-of : (turn : ReadTurn) (opts : ReadOpts) (names : List InputName) (before : Option (List Take)) (given given' : List Take) (reader' : FileReader) (contents : Option Contents) (taken' : Option (List Take)) (name' : Option InputName)
-    (out out' : List Event) → Stepped turn opts names given given' reader' out out' → Behind before given' contents taken' name' → total given' ≤ total given + 65536 → total given' ≤ 2 ^ 60
+    (out out' : List Event) → Stepped turn opts names given given' reader' out out' → Behind before given' contents taken' name' → total given' < total given + 65536 → total given' ≤ 2 ^ 60
     → Turned turn opts names before given reader' contents taken' name' out out'
 turned-of turn opts names before given given' reader' contents taken' name' out out' step behind one few = record {
   given' = given';
@@ -83,7 +83,7 @@ module _ (opts : ReadOpts) (names : List InputName) (before : Option (List Take)
     behind = behind;
     one_read = omega arith;
     few = omega (arith, s.few);
-    says = (ap is_open (source-stops opts names given next stops) ∙ s.clear, s.few, stops);
+    says = (ap is_open (source-stops opts names given next stops) ∙ s.clear, s.few, stops, source-stops opts names given next stops);
     more = [];
     events = source-same;
     puts = λ _. sym (append-nil out);
@@ -138,7 +138,7 @@ module _ (opts : ReadOpts) (names : List InputName) (given : List Take) (reader 
   total-ended = omega (arith, ap total (with_last-so ended), total-append s.done (ended take_so ∷ []), total-given)
 
   module _ (taken' : Option (List Take)) (name' : Option InputName) (same : name' ≡ name) (turn : ReadTurn) (reader' : FileReader) (out out' : List Event) where
-    pub turned-piece : {n : ℕ} (max : ℕ) (empty into : List ℕ) → empty ≡ [] → (step : TakesPiece max n contents taken taken' empty into) → max ≤ 65536 → total given + max ≤ 2 ^ 60 → Stepped turn opts names given (with_last (grown into) given) reader' out out'
+    pub turned-piece : {n : ℕ} (max : ℕ) (empty into : List ℕ) → empty ≡ [] → (step : TakesPiece max n contents taken taken' empty into) → max < 65536 → total given + max ≤ 2 ^ 60 → Stepped turn opts names given (with_last (grown into) given) reader' out out'
         → Turned turn opts names before given reader' contents taken' name' out out'
     turned-piece max empty into none step one few stepped =
         let is : into ≡ step.piece = step.appended ∙ ap (λ i. i ++ step.piece) none in
