@@ -4,3 +4,4 @@ pub mod Numbers
 pub mod Origins
 pub mod Turns
 pub mod Running
+pub mod Stopping

@@ -1,10 +1,9 @@
 -- The numbers of `seqgen`, some behind others.
-use Rattle.std.proofs.Common.{◌≡◌, ℕ, zero, suc, ◌+◌, ◌<◌, ◌≤◌, false, true, List, [], ◌∷◌, ◌++◌, refl, ap, sym, ◌∙◌, arith, nat_lt}
+use Rattle.std.proofs.Common.{◌≡◌, ℕ, zero, suc, ◌+◌, ◌≤◌, false, [], ◌∷◌, ◌++◌, length, ap, sym, ◌∙◌, arith, nat_lt}
 use Rattle.std.specs.Prelude.{map}
 use Rattle.std.specs.List.{range_with_len}
 use Rattle.std.proofs.lemmas.Bool.{ltb-false}
 use Rattle.std.proofs.lemmas.List.{map-append}
-use Rattle.mlr_event.specs.declared.event.Event.{Event}
 use Rattle.verbs_seq.specs.declared.seq_spec.SeqSpec.{SeqSpec}
 use Rattle.verbs_seq.specs.Seq.{seq_event, seq_events}
 
@@ -17,6 +16,11 @@ events-append seq n m =
     sym (map-append (seq_event seq) (range_with_len 0 n) (range_with_len n m))
     ∙ ap (λ k. map (seq_event seq) (range_with_len 0 n ++ range_with_len k m)) (let e : n ≡ 0 + n = omega arith in e)
     ∙ ap (map (seq_event seq)) (range-append 0 n m)
+
+-- some numbers are not none
+pub some-put : (seq : SeqSpec) (from n : ℕ) → 1 ≤ n → seq_events seq from n ≡ [] → ⊥
+some-put seq from zero some none = omega (arith, some)
+some-put seq from (suc n) some none = omega (arith, ap length none)
 
 pub all-counted : (n m : ℕ) → nat_lt n m ≡ false → n ≤ m → n ≡ m
 all-counted n m none within = omega (arith, ltb-false n m none, within)

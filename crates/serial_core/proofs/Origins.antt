@@ -1,9 +1,9 @@
 -- A turn of a reader of files, and one of the numbers, as a turn of a reader.
-use Rattle.std.proofs.Common.{◌≡◌, ℕ, zero, suc, ◌+◌, ◌-◌, ◌<◌, ◌≤◌, ◌^◌, Bool, true, false, not, ◌||◌, cond, List, [], ◌∷◌, ◌++◌, Option, Some, None, refl, ap, sym, ◌∙◌, subst, append_assoc, inl, inr, arith}
+use Rattle.std.proofs.Common.{◌≡◌, ℕ, ◌+◌, ◌-◌, ◌≤◌, Bool, true, false, not, ◌||◌, cond, List, [], ◌∷◌, ◌++◌, length, Option, Some, None, refl, ap, sym, ◌∙◌, subst, append_assoc, inl, inr, arith, length-append}
 use Rattle.std.specs.Prelude.{◌⊎◌, map}
 use Rattle.std.specs.List.{list_any, range_with_len}
-use Rattle.std.proofs.lemmas.Bool.{cases_Bool, not-true, true≢false}
-use Rattle.std.proofs.lemmas.List.{append-nil}
+use Rattle.std.proofs.lemmas.Bool.{cases_Bool, true≢false}
+use Rattle.std.proofs.lemmas.List.{append-nil, nil_from_length}
 use Rattle.std.proofs.lemmas.List.Folds.{list_any-append}
 use Rattle.mlr_event.specs.declared.event.Ctx.{Ctx}
 use Rattle.mlr_event.specs.declared.event.Event.{Event}
@@ -17,9 +17,10 @@ use Rattle.mlr_world.specs.Taken.{Take}
 use Rattle.read_files.specs.declared.reader.FileReader.{FileReader}
 use Rattle.read_files.specs.declared.reader.ReadTurn.{ReadTurn}
 use Rattle.read_files.specs.declared.reader.ReadTurn.TheVariants as turn
-use Rattle.read_files.specs.Given.{Behind, GoesOn, InOrder, total}
+use Rattle.read_files.specs.Given.{Behind, GoesOn, InOrder, stops_at, total}
 use Rattle.read_files.specs.Sources.{ctx_from, events_taken, is_whole, source, zero_context}
 use Rattle.read_files.specs.Standing as file
+use Rattle.read_files.proofs.Steps.{source-stops}
 use Rattle.verbs_seq.specs.declared.seq_spec.SeqSpec.{SeqSpec}
 use Rattle.verbs_seq.specs.declared.source.SeqSource.{SeqSource}
 use Rattle.verbs_seq.specs.Seq.{IsSoundSeq, seq_all, seq_context, seq_count, seq_event, seq_events}
@@ -37,20 +38,31 @@ end-open xs ctx = ap not (list_any-append is_last xs (event.End ctx ∷ []) ∙ 
     or-true true = refl
     or-true false = refl
 
-open-source : (opts : ReadOpts) (names : List InputName) (takes : List Take) → is_open (source opts names takes) ≡ true → source opts names takes ≡ events_taken opts takes
+pub open-source : (opts : ReadOpts) (names : List InputName) (takes : List Take) → is_open (source opts names takes) ≡ true → source opts names takes ≡ events_taken opts takes
 open-source opts names takes opens = elim (cases_Bool (is_whole opts names takes)) [
   | inl whole ↦ absurd (true≢false (sym opens ∙ ap (λ b. is_open (events_taken opts takes ++ cond b (event.End (ctx_from opts zero_context takes) ∷ []) [])) whole ∙ end-open (events_taken opts takes) (ctx_from opts zero_context takes)))
   | inr part ↦ ap (λ b. events_taken opts takes ++ cond b (event.End (ctx_from opts zero_context takes) ∷ []) []) part ∙ append-nil (events_taken opts takes)
 ]
 
+-- where a list is no longer, nothing comes behind it
+none-behind : (xs ys : List Event) → xs ++ ys ≡ xs → ys ≡ []
+none-behind xs ys same = nil_from_length ys (omega (arith, ap length same, length-append xs ys))
+
+-- behind the last input nothing more is taken
+abbrev pub SourceAll : Type 0
+SourceAll = (names : List InputName) (given longer : List Take) → InOrder names given → InOrder names longer → GoesOn given longer → stops_at names given ≡ None → longer ≡ given
+
 module _ (opts : ReadOpts) (names : List InputName) (before : Option (List Take)) (given : List Take) (read : List Event) (read_is : read ≡ events_taken opts given)
     (took : ReadTurn) (after : FileReader) (contents : Option Contents) (taken' : Option (List Take)) (name' : Option InputName) (out out' : List Event)
     (t : file.Turned took opts names before given after contents taken' name' out out') where
+  says-of : (turned : ReadTurn) → took ≡ turned → file.TurnSays turned opts names given t.given'
+  says-of turned is = subst (λ turned. file.TurnSays turned opts names given t.given') is t.says
+
   all-is : read ++ t.more ≡ source opts names t.given'
   all-is = sym (t.events ∙ ap (λ xs. xs ++ t.more) (sym read_is))
 
   says-as : (turned : ReadTurn) → file.TurnSays turned opts names given t.given' → ReadSays turned (files opts names) t.given' (read ++ t.more) []
-  says-as turn.Went says = (ap is_open all-is ∙ says.0, says.1)
+  says-as turn.Went says = (ap is_open all-is ∙ says.0, says.1, inl refl)
   says-as turn.Ended says = (ap is_open all-is ∙ says, refl)
   says-as (turn.Failed name) says = (ap is_open all-is ∙ says.0, refl, says.2)
   says-as turn.TooLong says = (ap is_open all-is ∙ says.0, refl, says.1)
@@ -63,8 +75,13 @@ module _ (opts : ReadOpts) (names : List InputName) (before : Option (List Take)
   went-open turn.TooLong is says = says.0
   went-open turn.NoMemory is says = absurd (let f = is in cc)
 
-  pub files-read : is_list (source opts names t.given') ≡ true → Read took (files opts names) before given read (reader.Files after) contents taken' name' out out'
-  files-read list = record {
+  -- where no input is left, no more was taken
+  early-at : (all : SourceAll) → InOrder names given → (at : Option InputName) → stops_at names given ≡ at → (t.given' ≡ given) ⊎ (source opts names given ≡ read)
+  early-at all order None stops = inl (all names given t.given' order t.order t.goes_on stops)
+  early-at all order (Some name) stops = inr (source-stops opts names given name stops ∙ sym read_is)
+
+  pub files-read : (all : SourceAll) → InOrder names given → is_list (source opts names t.given') ≡ true → Read took (files opts names) before given read (reader.Files after) contents taken' name' out out'
+  files-read all order list = record {
     given' = t.given';
     took = record { order = t.order; goes_on = t.goes_on; behind = t.behind; one_read = t.one_read; few = t.few };
     put = t.more;
@@ -72,8 +89,11 @@ module _ (opts : ReadOpts) (names : List InputName) (before : Option (List Take)
     events = sym all-is ∙ sym (append-nil (read ++ t.more));
     list = list;
     puts = t.puts;
+    fails = λ name failed. none-behind (events_taken opts given) t.more (sym t.events ∙ (says-of (turn.Failed name) failed).3);
     says = says-as took t.says;
     stands = λ went. (t.stands went, all-is ∙ open-source opts names t.given' (went-open took went t.says));
+    early = early-at all order (stops_at names given) refl;
+    moves = λ went. inl (says-of turn.Went went).2;
   }
 
 records-open : (seq : SeqSpec) (places : List ℕ) → is_open (map (seq_event seq) places) ≡ true
@@ -117,11 +137,14 @@ module _ (seq : SeqSpec) (before : Option (List Take)) (given : List Take) (read
         took = nothing-took;
         put = c.put;
         rest = rest-from seq (n + c.some);
-        events = all-from seq (n + c.some) next.1.within ∙ ap (λ xs. xs ++ rest-from seq (n + c.some)) (sym all);
+        events = all-from seq (n + c.some) next.2.within ∙ ap (λ xs. xs ++ rest-from seq (n + c.some)) (sym all);
         list = all-list seq;
         puts = c.puts;
-        says = (ap is_open all ∙ records-open seq (range_with_len 0 (n + c.some)), omega (arith, ap total given_is));
-        stands = λ went. (n + c.some, sound, next.1, all, given_is);
+        fails = λ name failed. absurd (let f = failed in cc);
+        says = (ap is_open all ∙ records-open seq (range_with_len 0 (n + c.some)), omega (arith, ap total given_is), inr given_is);
+        stands = λ went. (n + c.some, sound, next.2, all, given_is);
+        early = inl refl;
+        moves = λ went. inr next.1;
       }
   numbers-read turn.Ended c =
       let all : read ++ c.put ≡ seq_all seq = ap (λ xs. xs ++ c.put) read_is ∙ c.last refl in
@@ -133,8 +156,11 @@ module _ (seq : SeqSpec) (before : Option (List Take)) (given : List Take) (read
         events = sym all ∙ sym (append-nil (read ++ c.put));
         list = all-list seq;
         puts = c.puts;
+        fails = λ name failed. absurd (let f = failed in cc);
         says = (ap is_open all ∙ end-open (seq_events seq 0 (seq_count seq)) (seq_context (seq_count seq)), refl);
         stands = λ went. absurd (let f = went in cc);
+        early = inl refl;
+        moves = λ went. absurd (let f = went in cc);
       }
   numbers-read (turn.Failed failed) c = absurd (never c.answers)
     where
@@ -156,8 +182,11 @@ module _ (seq : SeqSpec) (before : Option (List Take)) (given : List Take) (read
     events = all-from seq n at.within ∙ ap (λ xs. xs ++ rest-from seq n) (sym read_is ∙ sym (append-nil read));
     list = all-list seq;
     puts = λ memory. absurd (memory refl);
+    fails = λ name failed. absurd (let f = failed in cc);
     says = tt;
     stands = λ went. absurd (let f = went in cc);
+    early = inl refl;
+    moves = λ went. absurd (let f = went in cc);
   }
 
 -- the numbers leave the inputs as they are

@@ -1,5 +1,5 @@
 -- A run, from turn to turn.
-use Rattle.std.proofs.Common.{◌≡◌, ℕ, ◌+◌, ◌<◌, ◌≤◌, ◌^◌, Bool, true, false, List, [], ◌∷◌, ◌++◌, Option, Some, None, refl, ap, sym, ◌∙◌, subst, append_assoc, arith}
+use Rattle.std.proofs.Common.{◌≡◌, ℕ, Bool, true, false, List, [], ◌++◌, Option, Some, None, refl, ap, sym, ◌∙◌, subst, append_assoc, inl, arith}
 use Rattle.mlr_event.specs.declared.event.Event.{Event}
 use Rattle.mlr_event.specs.declared.names.InputName.{InputName}
 use Rattle.mlr_event.specs.declared.names.Target.{Target}
@@ -17,14 +17,14 @@ use Rattle.std.specs.Prelude.{IfSome}
 use Rattle.std.specs.Option.{option_map}
 use Rattle.std.proofs.lemmas.List.{append-nil}
 use Rattle.read_files.specs.Given.{AreFrontsTaken, Behind}
-use Rattle.writers.specs.declared.options.WriteOpts.{WriteOpts}
 use Rattle.serial_core.specs.declared.answer.Ended.{Ended}
 use Rattle.serial_core.specs.declared.answer.Ended.TheVariants as answer
 use Rattle.serial_core.specs.declared.serial.Serial.{Serial}
 use Rattle.serial_core.specs.declared.serial.SerialTurn.TheVariants.{Went, Over}
-use Rattle.serial_core.specs.Command.{Command, given_by, names_of, result, text}
+use Rattle.serial_core.specs.Command.{Command, result, text}
 use Rattle.serial_core.specs.Run.{Run}
-use Rattle.serial_core.specs.Standing.{Begins, InputCause, Leaves, Ran, SerialStands}
+use Rattle.serial_core.specs.Standing.{Begins, InputCause, Leaves, MayGoOn, Ran, SerialStands}
+use Rattle.serial_core.proofs.Stopping.{EndsEarly}
 use Rattle.serial_core.proofs.Turns.{leaves-behind, reader-few, reader-order, reader-rest, whole-behind}
 
 -- how far a run has come
@@ -34,6 +34,7 @@ pub record Going {S : Type 0} (verb : S → Verb) (stands : S → List Event →
   pub shown : List Event
   pub at : SerialStands verb stands command given read shown serial
   pub behind : Behind before given contents taken name
+  pub may_go_on : MayGoOn command given
   pub leaves : ChangesAt Stdout (λ b n. n ≡ with_bytes (out_of command.write shown) b) first held
 
 -- nothing was taken behind what was taken before
@@ -58,6 +59,7 @@ module _ {S : Type 0} (verb : S → Verb) (stands : S → List Event → Type 0)
     shown = [];
     at = begins;
     behind = behind;
+    may_go_on = inl refl;
     leaves = ChangesAt-none Stdout (λ b n. n ≡ with_bytes (out_of command.write []) b) with_bytes-none held;
   }
 
@@ -70,6 +72,7 @@ module _ {S : Type 0} (verb : S → Verb) (stands : S → List Event → Type 0)
       shown = chain command.verbs (now.read ++ ran.outcome.put);
       at = ran.outcome.stand;
       behind = ran.took.behind;
+      may_go_on = ran.outcome.may_go_on;
       leaves =
           ChangesAt-then Stdout (λ b n. n ≡ with_bytes (out_of command.write now.shown) b) (λ b n. n ≡ with_bytes ran.outcome.more b)
           (λ b n. n ≡ with_bytes (out_of command.write (chain command.verbs (now.read ++ ran.outcome.put))) b)
@@ -77,8 +80,8 @@ module _ {S : Type 0} (verb : S → Verb) (stands : S → List Event → Type 0)
           first held held' now.leaves ran.outcome.leaves;
     }
 
-    pub came-over : (ended : Ended) → Ran (Over ended) verb stands command before now.given now.read now.shown after contents taken' name' held held' → Run ended command contents before taken' name' first held'
-    came-over ended ran = record {
+    pub came-over : EndsEarly command before contents → (ended : Ended) → Ran (Over ended) verb stands command before now.given now.read now.shown after contents taken' name' held held' → Run ended command contents before taken' name' first held'
+    came-over ends ended ran = record {
       given = ran.given';
       order = ran.took.order;
       behind = ran.took.behind;
@@ -88,13 +91,14 @@ module _ {S : Type 0} (verb : S → Verb) (stands : S → List Event → Type 0)
           ChangesAt-then Stdout (λ b n. n ≡ with_bytes (out_of command.write now.shown) b) (Leaves ended ran.outcome.more) (Leaves ended (text command ran.given'))
           (λ a b c one two. subst (λ t. Leaves ended t a c) (sym ran.outcome.text) (leaves-behind ended command ran.given' ran.outcome.says (out_of command.write now.shown) ran.outcome.more a b c one two))
           first held held' now.leaves ran.outcome.leaves;
+      early = ends now.given ran.given' taken name (reader-order command.origin now.given now.read serial.reader now.at.reader) now.behind now.may_go_on ran.outcome.early ran.took.one_read;
     }
 
-  pub out-of-turns : (grows : (events behind : List Event) → (more : List Event) × (chain command.verbs (events ++ behind) ≡ chain command.verbs events ++ more))
+  pub out-of-turns : EndsEarly command before contents → (grows : (events behind : List Event) → (more : List Event) × (chain command.verbs (events ++ behind) ≡ chain command.verbs events ++ more))
       (writes : (events behind : List Event) → is_open events ≡ true → (more : List ℕ) × (out_of command.write (events ++ behind) ≡ out_of command.write events ++ more))
       → (taken : Option (List Take)) (name : Option InputName) (first held : Option Held) (serial : Serial S) (now : Going verb stands command before contents taken name first held serial)
       → Run answer.NoMemory command contents before taken name first held
-  out-of-turns grows writes taken name first held serial now =
+  out-of-turns ends grows writes taken name first held serial now =
       let rest = reader-rest command.origin now.given now.read serial.reader now.at.reader in
       let made = grows now.read rest.0 in
       let all : result command now.given ≡ now.shown ++ (serial.events ++ made.0) =
@@ -109,17 +113,18 @@ module _ {S : Type 0} (verb : S → Verb) (stands : S → List Event → Type 0)
         leaves =
             ChangesAt-map Stdout (λ b n. n ≡ with_bytes (out_of command.write now.shown) b) (PutsFront (text command now.given))
             (λ b n is. (out_of command.write now.shown, (more.0, ap (out_of command.write) all ∙ more.1), is)) first held now.leaves;
+        early = ends now.given now.given taken name (reader-order command.origin now.given now.read serial.reader now.at.reader) now.behind now.may_go_on (inl refl) (omega arith);
       }
 
 -- counts behind calls that changed none
 pub cause-from : (ended : Ended) (f0 f1 f2 : InputName → ℕ) → ((name : InputName) → f1 name ≡ f0 name) → InputCause ended f1 f2 → InputCause ended f0 f2
-cause-from answer.Done f0 f1 f2 same cause = λ name. omega (arith, same name, cause name)
+cause-from answer.Done f0 f1 f2 same cause = λ name. cause name ∙ same name
 cause-from (answer.Refused refusal) f0 f1 f2 same cause = λ name. cause name ∙ same name
-cause-from (answer.Data fault) f0 f1 f2 same cause = λ name. omega (arith, same name, cause name)
+cause-from (answer.Data fault) f0 f1 f2 same cause = λ name. cause name ∙ same name
 cause-from (answer.Read name) f0 f1 f2 same cause = (λ other. omega (arith, same other, cause.0 other), omega (arith, same name, cause.1))
-cause-from (answer.Written target) f0 f1 f2 same cause = λ name. omega (arith, same name, cause name)
+cause-from (answer.Written target) f0 f1 f2 same cause = λ name. cause name ∙ same name
 cause-from answer.TooLong f0 f1 f2 same cause = λ name. cause name ∙ same name
-cause-from answer.NoMemory f0 f1 f2 same cause = λ name. omega (arith, same name, cause name)
+cause-from answer.NoMemory f0 f1 f2 same cause = λ name. cause name ∙ same name
 
 pub counted-from : (failed : Bool) (f0 f1 f2 : Target → ℕ) → ((target : Target) → f1 target ≡ f0 target) → Counted failed f1 f2 Stdout → Counted failed f0 f2 Stdout
 counted-from true f0 f1 f2 same counted = (λ other. omega (arith, same other, counted.0 other), omega (arith, same Stdout, counted.1))

@@ -1,9 +1,8 @@
 -- What a read and a pass come to together.
-use Rattle.std.proofs.Common.{◌≡◌, ℕ, ◌<◌, ◌≤◌, ◌^◌, Bool, true, false, not, ◌||◌, ◌&&◌, List, [], ◌∷◌, ◌++◌, Option, Some, None, refl, ap, sym, ◌∙◌, subst, append_assoc, inl, inr, arith}
+use Rattle.std.proofs.Common.{◌≡◌, ℕ, Bool, true, false, not, ◌||◌, ◌&&◌, List, [], ◌∷◌, ◌++◌, Option, Some, None, refl, ap, sym, ◌∙◌, append_assoc, inl, inr}
 use Rattle.std.specs.List.{list_any}
-use Rattle.std.proofs.lemmas.Bool.{and_parts, cases_Bool, not-true, true≢false}
+use Rattle.std.proofs.lemmas.Bool.{and_parts, cases_Bool, true≢false}
 use Rattle.std.proofs.lemmas.List.{append-nil}
-use Rattle.std.proofs.lemmas.List.Folds.{list_any-append}
 use Rattle.mlr_event.specs.declared.event.Event.{Event}
 use Rattle.mlr_event.specs.declared.event.Event.TheVariants as event
 use Rattle.mlr_event.specs.declared.fault.Fault.{Fault}
@@ -13,7 +12,7 @@ use Rattle.mlr_event.specs.declared.names.Target.TheVariants.{Stdout}
 use Rattle.mlr_world.specs.Counts.{Counted}
 use Rattle.mlr_event.specs.Verb.{Verb, is_end, is_last, is_list, is_open}
 use Rattle.mlr_event.proofs.Ordered.{open-before}
-use Rattle.mlr_world.specs.Outputs.{Held, ChangesAt, with_bytes}
+use Rattle.mlr_world.specs.Outputs.{Held, ChangesAt}
 use Rattle.mlr_world.proofs.Changes.{ChangesAt-map}
 use Rattle.writers.specs.declared.options.WriteOpts.{WriteOpts}
 use Rattle.outlet.specs.Out.{fault_in, out_of}
@@ -28,20 +27,20 @@ use Rattle.mlr_world.specs.Taken.{Take}
 use Rattle.serial_core.specs.Command.{Command, result}
 use Rattle.serial_core.specs.Standing.{InputCause, Leaves, Says, TurnCounts, WriteLeaves, WriteSays, behind, turn_failed}
 
--- counts never fall
-pub turn-rises : (read : ReadTurn) (f0 f1 : InputName → ℕ) → TurnCause read f0 f1 → (name : InputName) → f0 name ≤ f1 name
-turn-rises turn.Went f0 f1 cause name = omega (arith, cause name)
-turn-rises turn.Ended f0 f1 cause name = omega (arith, cause name)
-turn-rises (turn.Failed failed) f0 f1 cause name = cause.0 name
-turn-rises turn.TooLong f0 f1 cause name = omega (arith, cause name)
-turn-rises turn.NoMemory f0 f1 cause name = omega (arith, cause name)
+-- no count rose but in a read that failed
+pub turn-same : (read : ReadTurn) (f0 f1 : InputName → ℕ) → ((name : InputName) → read ≡ turn.Failed name → ⊥) → TurnCause read f0 f1 → (name : InputName) → f1 name ≡ f0 name
+turn-same turn.Went f0 f1 other cause = cause
+turn-same turn.Ended f0 f1 other cause = cause
+turn-same (turn.Failed name) f0 f1 other cause = absurd (other name refl)
+turn-same turn.TooLong f0 f1 other cause = cause
+turn-same turn.NoMemory f0 f1 other cause = cause
 
 pub behind-cause : (read : ReadTurn) (f0 f1 : InputName → ℕ) → TurnCause read f0 f1 → TurnCounts (behind read) f0 f1
 behind-cause turn.Went f0 f1 cause = cause
-behind-cause turn.Ended f0 f1 cause = turn-rises turn.Ended f0 f1 cause
+behind-cause turn.Ended f0 f1 cause = cause
 behind-cause (turn.Failed name) f0 f1 cause = cause
 behind-cause turn.TooLong f0 f1 cause = cause
-behind-cause turn.NoMemory f0 f1 cause = turn-rises turn.NoMemory f0 f1 cause
+behind-cause turn.NoMemory f0 f1 cause = cause
 
 pub behind-counts : (read : ReadTurn) (f0 f1 : Target → ℕ) → Counted false f0 f1 Stdout → Counted (turn_failed (behind read)) f0 f1 Stdout
 behind-counts turn.Went f0 f1 same = same
@@ -51,14 +50,14 @@ behind-counts turn.TooLong f0 f1 same = same
 behind-counts turn.NoMemory f0 f1 same = same
 
 -- an answer of a write says nothing of the inputs
-pub written-cause : (ended : Ended) (events : List Event) (f0 f1 : InputName → ℕ) → WriteSays (Some ended) events → ((name : InputName) → f0 name ≤ f1 name) → InputCause ended f0 f1
-written-cause answer.Done events f0 f1 says rises = rises
-written-cause (answer.Refused refusal) events f0 f1 says rises = absurd says
-written-cause (answer.Data fault) events f0 f1 says rises = rises
-written-cause (answer.Read name) events f0 f1 says rises = absurd says
-written-cause (answer.Written target) events f0 f1 says rises = rises
-written-cause answer.TooLong events f0 f1 says rises = absurd says
-written-cause answer.NoMemory events f0 f1 says rises = rises
+pub written-cause : (ended : Ended) (events : List Event) (f0 f1 : InputName → ℕ) → WriteSays (Some ended) events → ((name : InputName) → f1 name ≡ f0 name) → InputCause ended f0 f1
+written-cause answer.Done events f0 f1 says same = same
+written-cause (answer.Refused refusal) events f0 f1 says same = absurd says
+written-cause (answer.Data fault) events f0 f1 says same = same
+written-cause (answer.Read name) events f0 f1 says same = absurd says
+written-cause (answer.Written target) events f0 f1 says same = same
+written-cause answer.TooLong events f0 f1 says same = absurd says
+written-cause answer.NoMemory events f0 f1 says same = same
 
 -- a front of a list is one
 pub list-front : (xs ys : List Event) → is_list (xs ++ ys) ≡ true → is_list xs ≡ true

@@ -1,5 +1,5 @@
 -- A write of what is at hand, and then a read.
-use Rattle.std.proofs.Common.{◌≡◌, ℕ, ◌+◌, ◌<◌, ◌≤◌, ◌^◌, true, false, List, [], ◌∷◌, ◌++◌, Option, Some, None, refl, ap, sym, ◌∙◌, subst, append_assoc, arith}
+use Rattle.std.proofs.Common.{◌≡◌, ℕ, ◌<◌, ◌^◌, true, List, [], ◌∷◌, ◌++◌, Option, Some, None, refl, ap, sym, ◌∙◌, subst, append_assoc, arith, inl}
 use Rattle.std.proofs.lemmas.List.{append-nil}
 use Rattle.mlr_event.specs.declared.event.Event.{Event}
 use Rattle.mlr_event.specs.declared.event.Event.TheVariants as event
@@ -9,10 +9,9 @@ use Rattle.mlr_event.specs.declared.options.ReadOpts.{ReadOpts}
 use Rattle.mlr_event.specs.Verb.{KeepsOrder, Verb, is_list, is_open}
 use Rattle.mlr_event.proofs.Ordered.{open-list}
 use Rattle.mlr_world.specs.Inputs.{Contents}
-use Rattle.mlr_world.specs.Outputs.{Held, ChangesAt, IsFrontOf, with_bytes}
+use Rattle.mlr_world.specs.Outputs.{Held, with_bytes}
 use Rattle.mlr_world.specs.Taken.{Take}
 use Rattle.mlr_world.proofs.Changes.{ChangesAt-then, with_bytes-twice}
-use Rattle.writers.specs.declared.options.WriteOpts.{WriteOpts}
 use Rattle.outlet.specs.Out.{out_of}
 use Rattle.outlet.specs.Standing.{PutsFront, StandsFor}
 use Rattle.chain_core.specs.Chain.{chain}
@@ -28,9 +27,9 @@ use Rattle.serial_core.specs.declared.reader.Reader.TheVariants as reader
 use Rattle.serial_core.specs.declared.serial.Serial.{Serial}
 use Rattle.serial_core.specs.declared.serial.SerialTurn.{SerialTurn}
 use Rattle.serial_core.specs.declared.serial.SerialTurn.TheVariants.{Went, Over}
-use Rattle.serial_core.specs.Command.{Command, Origin, files, numbers, given_by, names_of, result}
-use Rattle.serial_core.specs.Reading.{ReaderStands, TookMore}
-use Rattle.serial_core.specs.Standing.{CameOver, Leaves, Outcome, Ran, Says, SerialStands, Settled, WentOn, WriteLeaves, WriteSays, Wrote}
+use Rattle.serial_core.specs.Command.{Command, Origin, files, numbers, given_by, names_of}
+use Rattle.serial_core.specs.Reading.{ReaderStands}
+use Rattle.serial_core.specs.Standing.{Leaves, Outcome, Ran, Says, SerialStands, Settled, WriteSays, Wrote}
 use Rattle.serial_core.proofs.Origins.{all-from, all-list, goes-on, rest-from}
 use Rattle.serial_core.proofs.Turning.{written-over}
 
@@ -77,7 +76,7 @@ leaves-behind answer.NoMemory command takes says text more a b c first second = 
 
 module _ {S : Type 0} (verb : S → Verb) (stands : S → List Event → Type 0) (orderly : (s : S) → KeepsOrder (verb s))
     (command : Command) (given : List Take) (read shown : List Event) (serial : Serial S) (at : SerialStands verb stands command given read shown serial) where
-  chained : (events : List Event) → is_list events ≡ true → is_list (chain command.verbs events) ≡ true
+  pub chained : (events : List Event) → is_list events ≡ true → is_list (chain command.verbs events) ≡ true
   chained events list = subst (λ vs. is_list (chain vs events) ≡ true) at.verbs (chain-list verb stands orderly true serial.stages.stages.items events list)
 
   pub list-at-hand : is_list (shown ++ serial.events) ≡ true
@@ -117,18 +116,20 @@ module _ {S : Type 0} (verb : S → Verb) (stands : S → List Event → Type 0)
           one_read = omega arith;
           few = omega (arith, reader-few command.origin given read serial.reader at.reader);
         };
-        outcome = record { says = over.says; more = over.more; text = over.text; leaves = over.leaves };
+        outcome = record { says = over.says; more = over.more; text = over.text; leaves = over.leaves; early = inl refl };
       }
 
   -- a read behind a write
   outcome-behind : (turned : SerialTurn) (given' : List Take) (after : Serial S) (held held' held'' : Option Held) → Wrote None command.write shown serial.events held held'
-      → Outcome turned verb stands command given' read (chain command.verbs read) after held' held'' → Outcome turned verb stands command given' read shown after held held''
+      → Outcome turned verb stands command given given' read (chain command.verbs read) after held' held'' → Outcome turned verb stands command given given' read shown after held held''
   outcome-behind Went given' after held held' held'' wrote o = record {
     put = o.put;
     rest = o.rest;
     events = o.events;
     few = o.few;
     goes = o.goes;
+    may_go_on = o.may_go_on;
+    moves = o.moves;
     stand = o.stand;
     more = wrote.more ++ o.more;
     text = o.text ∙ ap (λ t. t ++ o.more) (ap (out_of command.write) at.at_hand ∙ wrote.text) ∙ append_assoc (out_of command.write shown) wrote.more o.more;
@@ -139,6 +140,7 @@ module _ {S : Type 0} (verb : S → Verb) (stands : S → List Event → Type 0)
     more = wrote.more ++ o.more;
     text = o.text ∙ ap (λ t. t ++ o.more) (ap (out_of command.write) at.at_hand ∙ wrote.text) ∙ append_assoc (out_of command.write shown) wrote.more o.more;
     leaves = ChangesAt-then Stdout (λ b n. n ≡ with_bytes wrote.more b) (Leaves ended o.more) (Leaves ended (wrote.more ++ o.more)) (leaves-behind ended command given' o.says wrote.more o.more) held held' held'' wrote.leaves o.leaves;
+    early = o.early;
   }
 
   pub ran-behind : (turned : SerialTurn) (before : Option (List Take)) (after : Serial S) (contents : Option Contents) (taken : Option (List Take)) (name : Option InputName) (held held' held'' : Option Held)

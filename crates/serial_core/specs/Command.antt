@@ -1,7 +1,6 @@
 -- What a command makes of the inputs that were taken.
-use Rattle.std.specs.Prelude.{ℕ, List, [], ◌∷◌, ◌++◌}
+use Rattle.std.specs.Prelude.{ℕ, List, []}
 use Rattle.mlr_event.specs.declared.event.Event.{Event}
-use Rattle.mlr_event.specs.declared.event.Event.TheVariants as event
 use Rattle.mlr_event.specs.declared.names.InputName.{InputName}
 use Rattle.mlr_event.specs.declared.options.ReadOpts.{ReadOpts}
 use Rattle.mlr_event.specs.Verb.{Verb}

@@ -1,9 +1,8 @@
 -- How far a run has come, and what a turn of it does.
-use Rattle.std.specs.Prelude.{◌≡◌, ◌⊎◌, ℕ, ◌+◌, ◌<◌, ◌≤◌, ◌^◌, Bool, true, false, List, [], ◌∷◌, ◌++◌, Option, Some, None}
+use Rattle.std.specs.Prelude.{◌≡◌, ◌⊎◌, ℕ, ◌+◌, ◌<◌, ◌≤◌, ◌^◌, Bool, true, false, List, [], ◌++◌, Option, Some, None}
 use Rattle.std.specs.List.{list_any}
 use Rattle.mlr_event.specs.declared.event.Event.{Event}
 use Rattle.mlr_event.specs.declared.names.InputName.{InputName}
-use Rattle.mlr_event.specs.declared.names.Target.{Target}
 use Rattle.mlr_event.specs.declared.names.Target.TheVariants.{Stdout}
 use Rattle.mlr_event.specs.Verb.{Verb, is_end, is_list, is_open}
 use Rattle.mlr_world.specs.Counts.{Rose}

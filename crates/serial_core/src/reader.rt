@@ -27,7 +27,7 @@ pub enum Reader {
 }
 
 impl Reader {
-    /// Makes one read of at most 65,536 bytes, or takes the next numbers, and puts behind `out` what that fixes.
+    /// Makes one read of fewer than 65,536 bytes, or takes the next numbers, and puts behind `out` what that fixes.
     pub fn turn<I: Inputs>(&mut self, inputs: &mut I, out: &mut Events) -> ReadTurn
         requires { (origin : Origin) × (before : Option (List Take)) × (given : List Take) × (read : List SpecEvent) × ReaderStands origin given read self.old × Behind before given (I.contents inputs.old) (I.taken inputs.old) (I.open_name inputs.old) }
         ensures read { (origin : Origin) (before : Option (List Take)) (given : List Take) (read : List SpecEvent) → ReaderStands origin given read self.old → Behind before given (I.contents inputs.old) (I.taken inputs.old) (I.open_name inputs.old)

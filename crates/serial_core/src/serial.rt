@@ -60,7 +60,7 @@ impl<S: Step + Drop> Serial<S> {
         }
     }
 
-    /// Makes at most one read, of at most 65,536 bytes, and writes all text that is fixed then.
+    /// Makes at most one read, of fewer than 65,536 bytes, and writes all text that is fixed then.
     pub fn turn<I: Inputs, O: Outputs>(&mut self, inputs: &mut I, outputs: &mut O) -> SerialTurn
         requires { (command : Command) × (before : Option (List Take)) × (given : List Take) × (read : List SpecEvent) × (shown : List SpecEvent) × SerialStands S.verb S.stands command given read shown self.old × Behind before given (I.contents inputs.old) (I.taken inputs.old) (I.open_name inputs.old) }
         ensures ran { (command : Command) (before : Option (List Take)) (given : List Take) (read shown : List SpecEvent) → SerialStands S.verb S.stands command given read shown self.old → Behind before given (I.contents inputs.old) (I.taken inputs.old) (I.open_name inputs.old)

@@ -1,8 +1,9 @@
-use Rattle.std.proofs.Common.{◌≡◌, ℕ, ◌+◌, ◌-◌, ◌<◌, ◌≤◌, List, [], ◌∷◌, ◌++◌, refl, ap, sym, ◌∙◌, inl, inr, arith, append_assoc}
+use Rattle.std.proofs.Common.{◌≡◌, ◌+◌, ◌-◌, ◌<◌, [], ◌∷◌, ◌++◌, refl, ap, sym, ◌∙◌, inl, inr, arith, append_assoc}
 use Rattle.std.specs.Prelude.{min}
 use Rattle.mlr_event.specs.declared.event.Event.TheVariants as event
 use Rattle.verbs_seq.specs.Seq.{seq_context, seq_count, seq_events}
-use Rattle.serial_core.proofs.Numbers.{all-counted, events-append}
+use Rattle.std.proofs.lemmas.Bool.{ltb-true}
+use Rattle.serial_core.proofs.Numbers.{all-counted, events-append, some-put}
 use Rattle.serial_core.proofs.reader.next_numbers.Goals as goal
 
 pub returns-in-Ok-true : goal.returns-in-Ok-true
@@ -10,7 +11,9 @@ returns-in-Ok-true c seq given sound at = record {
   some = min 500 (seq_count seq - given);
   put = seq_events seq given (min 500 (seq_count seq - given));
   puts = λ memory. c.in-Ok-true.ensures.adds seq given at;
-  next = λ went. (refl, c.in-Ok-true.ensures.stands seq given at);
+  next = λ went.
+      let less : given + min 500 (seq_count seq - given) < seq_count seq = ltb-true (given + min 500 (seq_count seq - given)) (seq_count seq) (sym (c.in-Ok-true.ensures.more seq given at) ∙ c.in-Ok-true.field-0-test) in
+      (refl, some-put seq given (min 500 (seq_count seq - given)) (omega (arith, less)), c.in-Ok-true.ensures.stands seq given at);
   last = λ e. absurd (let f = e in cc);
   answers = inl refl;
 }

@@ -1,11 +1,6 @@
-use Rattle.std.proofs.Common.{◌≡◌, List, Option, [], subst}
-use Rattle.mlr_event.specs.declared.event.Event.{Event}
-use Rattle.mlr_world.specs.Inputs.{Contents}
-use Rattle.mlr_world.specs.Taken.{Take}
-use Rattle.read_files.specs.Given.{Behind}
-use Rattle.serial_core.specs.declared.reader.Reader.TheVariants as reader
-use Rattle.serial_core.specs.Command.{Origin, files, numbers}
-use Rattle.serial_core.specs.Reading.{Read, ReaderStands}
+use Rattle.std.proofs.Common.{subst}
+use Rattle.serial_core.specs.Command.{files, numbers}
+use Rattle.serial_core.specs.Reading.{ReaderStands}
 use Rattle.serial_core.proofs.Origins.{files-read, numbers-read, origin-cause}
 use Rattle.serial_core.proofs.reader.Reader.turn.Goals as goal
 
@@ -14,7 +9,7 @@ returns-in-Files-clause-read g c (files opts names) before given read stands beh
     let at = subst (ReaderStands (files opts names) given read) c.in-Files.is stands in
     let turned = c.turn.ensures.turned opts names before given at.0 behind in
     files-read opts names before given read at.1 c.turn.result c.turn.new.self (g.I.Inputs.contents c.args.inputs.now) (g.I.Inputs.taken c.turn.new.inputs) (g.I.Inputs.open_name c.turn.new.inputs) c.args.out.now c.turn.new.out
-    turned (c.source_laws.ensures.list opts names turned.given')
+    turned c.source_laws.ensures.all at.0.order (c.source_laws.ensures.list opts names turned.given')
 returns-in-Files-clause-read g c (numbers seq) before given read stands behind = absurd (subst (ReaderStands (numbers seq) given read) c.in-Files.is stands)
 
 pub returns-in-Numbers-clause-read : goal.returns-in-Numbers-clause-read

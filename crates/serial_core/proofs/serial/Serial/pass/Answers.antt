@@ -1,4 +1,4 @@
-use Rattle.std.proofs.Common.{◌≡◌, ◌++◌, true, refl, ap, sym, ◌∙◌, subst}
+use Rattle.std.proofs.Common.{◌≡◌, ◌++◌, true, ap, sym, ◌∙◌, subst}
 use Rattle.mlr_event.specs.Verb.{is_list}
 use Rattle.outlet.specs.Out.{out_of}
 use Rattle.outlet.specs.Standing.{StandsFor}

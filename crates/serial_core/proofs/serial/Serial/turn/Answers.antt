@@ -1,5 +1,4 @@
-use Rattle.std.proofs.Common.{◌≡◌, ◌++◌, refl, arith}
-use Rattle.serial_core.specs.Command.{given_by}
+use Rattle.std.proofs.Common.{◌++◌, refl}
 use Rattle.serial_core.proofs.Turning.{written-cause}
 use Rattle.serial_core.proofs.Turns.{list-at-hand, origin-list, over-written, ran-behind, settled-behind}
 use Rattle.serial_core.proofs.serial.Serial.turn.Goals as goal
@@ -34,7 +33,7 @@ returns-in-Some-clause-cause g c =
     let at = c.requires.5 in
     let list = list-at-hand g.S.Step.verb g.S.Step.stands g.met.S.Step.orderly c.requires.0 c.requires.2 c.requires.3 c.requires.4 c.args.self.now at in
     let wrote = c.in-Some.ensures.wrote c.requires.0.write c.requires.4 at.outlet list in
-    written-cause c.in-Some.ended (c.requires.4 ++ c.args.self.now.events) (g.I.Inputs.faults c.args.inputs.now) (g.I.Inputs.faults c.args.inputs.now) wrote.says (λ name. omega arith)
+    written-cause c.in-Some.ended (c.requires.4 ++ c.args.self.now.events) (g.I.Inputs.faults c.args.inputs.now) (g.I.Inputs.faults c.args.inputs.now) wrote.says (λ name. refl)
 
 pub returns-in-None-clause-ran : goal.returns-in-None-clause-ran
 returns-in-None-clause-ran g c command before given read shown at behind =

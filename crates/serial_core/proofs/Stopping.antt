@@ -1,0 +1,148 @@
+-- How little a run takes, and what it comes to where no call fails.
+use Rattle.std.proofs.Common.{◌≡◌, ℕ, ◌+◌, ◌<◌, ◌≤◌, true, false, List, [], ◌∷◌, ◌++◌, length, Option, Some, None, refl, ap, sym, ◌∙◌, subst, inl, inr, arith, length-append}
+use Rattle.std.specs.Prelude.{◌⊎◌, IfSome}
+use Rattle.std.specs.List.{list_any}
+use Rattle.std.specs.Option.{option_map}
+use Rattle.std.proofs.lemmas.Bool.{cases_Bool, cases_lt, true≢false}
+use Rattle.std.proofs.lemmas.List.{append-nil}
+use Rattle.mlr_event.specs.declared.event.Event.{Event}
+use Rattle.mlr_event.specs.declared.names.InputName.{InputName}
+use Rattle.mlr_event.specs.declared.names.Target.{Target}
+use Rattle.mlr_event.specs.declared.names.Target.TheVariants.{Stdout}
+use Rattle.mlr_event.specs.declared.options.ReadOpts.{ReadOpts}
+use Rattle.mlr_event.specs.Verb.{is_end, is_list, is_open}
+use Rattle.mlr_world.specs.Counts.{Counted, Rose}
+use Rattle.mlr_world.specs.Inputs.{Contents}
+use Rattle.mlr_world.specs.Outputs.{Held, ChangesAt}
+use Rattle.mlr_world.specs.Taken.{Take}
+use Rattle.outlet.specs.Out.{fault_in, out_of}
+use Rattle.chain_core.specs.Chain.{chain}
+use Rattle.read_files.specs.Given.{AreFrontsTaken, AreWhole, Behind, GoesOn, InOrder, taken_by, total}
+use Rattle.read_files.specs.Sources.{events_taken, source}
+use Rattle.serial_core.specs.declared.answer.Ended.{Ended}
+use Rattle.serial_core.specs.declared.answer.Ended.TheVariants as answer
+use Rattle.serial_core.specs.Answer.{has_failed}
+use Rattle.serial_core.specs.Command.{Command, Origin, files, numbers, given_by, names_of, result}
+use Rattle.serial_core.specs.Run.{Completes, HoldsAll, Run, StopsEarly}
+use Rattle.serial_core.specs.Standing.{InputCause, Leaves, MayGoOn}
+use Rattle.serial_core.proofs.Origins.{open-source}
+use Rattle.serial_core.proofs.Turning.{end-closes, fault-closes, last-alone}
+
+-- the laws of what inputs give
+abbrev pub SourceList : Type 0
+SourceList = (opts : ReadOpts) (names : List InputName) (given : List Take) → is_list (source opts names given) ≡ true
+
+abbrev pub SourceGrows : Type 0
+SourceGrows = (opts : ReadOpts) (names : List InputName) (given longer : List Take) → InOrder names given → GoesOn given longer → (more : List Event) × (source opts names longer ≡ events_taken opts given ++ more)
+
+abbrev pub SourceFixed : Type 0
+SourceFixed = (opts : ReadOpts) (names : List InputName) (given longer : List Take) → InOrder names given → InOrder names longer → GoesOn given longer → is_open (source opts names given) ≡ false
+    → source opts names longer ≡ source opts names given
+
+abbrev pub SourceWhole : Type 0
+SourceWhole = (told : Contents) (names : List InputName) (given whole : List Take) → InOrder names given → AreFrontsTaken told given → AreWhole told names whole → GoesOn given whole × InOrder names whole
+
+abbrev pub SourceEarly : Type 0
+SourceEarly = (told : Contents) (names : List InputName) (given : List Take) (n : ℕ) → InOrder names given → AreFrontsTaken told given → n < total given → GoesOn (taken_by told names n) given × InOrder names (taken_by told names n)
+
+-- a run that went on while its result might ends early with the next read
+abbrev pub EndsEarly : Command → Option (List Take) → Option Contents → Type 0
+EndsEarly command before contents = (given given' : List Take) (taken : Option (List Take)) (name : Option InputName) → InOrder (names_of command.origin) given → Behind before given contents taken name → MayGoOn command given
+    → (given' ≡ given) ⊎ (is_open (result command given) ≡ true) → total given' < total given + 65536 → IfSome contents (λ told. IfSome before (λ _. StopsEarly command told given'))
+
+none-order : (names : List InputName) → InOrder names []
+none-order [] = tt
+none-order (name ∷ names) = tt
+
+-- as more is taken no byte is lost
+total-on : (given longer : List Take) → GoesOn given longer → total given ≤ total longer
+total-on [] longer on = omega arith
+total-on (t ∷ given) [] on = absurd on
+total-on (t ∷ given) (u ∷ longer) on = omega (arith, total-on given longer on.1, ap length on.0.1.1, length-append t.bytes on.0.1.0)
+
+-- what was taken, where contents and takes are told
+behind-fronts : (before : Option (List Take)) (given : List Take) (contents : Option Contents) (taken : Option (List Take)) (name : Option InputName) → Behind before given contents taken name
+    → (told : Contents) (takes : List Take) → contents ≡ Some told → before ≡ Some takes → AreFrontsTaken told given
+behind-fronts before given contents taken name behind told takes told_is takes_is =
+    subst (λ c. IfSome c (λ told. AreFrontsTaken told given)) told_is
+    (subst (λ t. IfSome contents (λ told. IfSome t (λ _. AreFrontsTaken told given))) (behind.entries ∙ ap (option_map (λ takes. takes ++ given)) takes_is) behind.fronts)
+
+if-both : {A B : Type 0} (o : Option A) (p : Option B) (P : A → Type 0) → ((a : A) (b : B) → o ≡ Some a → p ≡ Some b → P a) → IfSome o (λ a. IfSome p (λ _. P a))
+if-both None p P holds = tt
+if-both (Some a) None P holds = tt
+if-both (Some a) (Some b) P holds = holds a b refl refl
+
+module _ (lists : SourceList) (grows : SourceGrows) (fixed : SourceFixed) (command : Command)
+    (growth : (events behind : List Event) → (more : List Event) × (chain command.verbs (events ++ behind) ≡ chain command.verbs events ++ more))
+    (chained : (events : List Event) → is_list events ≡ true → is_list (chain command.verbs events) ≡ true) where
+  -- a result with an end or a fault stays as it is when more is taken
+  origin-fixed : (origin : Origin) (given longer : List Take) → InOrder (names_of origin) given → InOrder (names_of origin) longer → GoesOn given longer → is_open (chain command.verbs (given_by origin given)) ≡ false
+      → chain command.verbs (given_by origin longer) ≡ chain command.verbs (given_by origin given)
+  origin-fixed (numbers seq) given longer order order' on closed = refl
+  origin-fixed (files opts names) given longer order order' on closed = elim (cases_Bool (is_open (source opts names given))) [
+    | inl opens ↦
+        let more = grows opts names given longer order on in
+        let made = growth (source opts names given) more.0 in
+        let all : chain command.verbs (source opts names longer) ≡ chain command.verbs (source opts names given) ++ made.0 =
+        ap (chain command.verbs) (more.1 ∙ ap (λ t. t ++ more.0) (sym (open-source opts names given opens))) ∙ made.1 in
+        all
+        ∙ ap (λ t. chain command.verbs (source opts names given) ++ t) (last-alone (chain command.verbs (source opts names given)) made.0 closed (sym (ap is_list all) ∙ chained (source opts names longer) (lists opts names longer)))
+        ∙ append-nil (chain command.verbs (source opts names given))
+    | inr shut ↦ ap (chain command.verbs) (fixed opts names given longer order order' on shut)
+  ]
+
+  result-fixed : (given longer : List Take) → InOrder (names_of command.origin) given → InOrder (names_of command.origin) longer → GoesOn given longer → is_open (result command given) ≡ false → result command longer ≡ result command given
+  result-fixed given longer order order' on closed = origin-fixed command.origin given longer order order' on closed
+
+  -- a run goes on only while the result may
+  nothing-taken : (given : List Take) → MayGoOn command given → is_open (result command given) ≡ false → given ≡ []
+  nothing-taken given (inl nothing) closed = nothing
+  nothing-taken given (inr opens) closed = absurd (true≢false (sym opens ∙ closed))
+
+  module _ (early : SourceEarly) (told : Contents) (given given' : List Take) (order : InOrder (names_of command.origin) given) (fronts : AreFrontsTaken told given) (may : MayGoOn command given) where
+    at-once : (given' ≡ given) ⊎ (is_open (result command given) ≡ true) → is_open (result command []) ≡ false → given' ≡ []
+    at-once ends closed =
+        let now : is_open (result command given) ≡ false = ap is_open (result-fixed [] given (none-order (names_of command.origin)) order tt closed) ∙ closed in
+        elim ends [ inl same ↦ same ∙ nothing-taken given may now | inr opens ↦ absurd (true≢false (sym opens ∙ now)) ]
+
+    soon : total given' < total given + 65536 → (n : ℕ) → is_open (result command (taken_by told (names_of command.origin) n)) ≡ false → total given' < n + 65536
+    soon one n closed = elim (cases_lt n (total given)) [
+      | inl less ↦
+          let on = early told (names_of command.origin) given n order fronts less in
+          let now : is_open (result command given) ≡ false = ap is_open (result-fixed (taken_by told (names_of command.origin) n) given on.1 order on.0 closed) ∙ closed in
+          absurd (omega (arith, less, ap total (nothing-taken given may now)))
+      | inr more ↦ omega (arith, more, one)
+    ]
+
+    stops-early : (given' ≡ given) ⊎ (is_open (result command given) ≡ true) → total given' < total given + 65536 → StopsEarly command told given'
+    stops-early ends one = record { at_once = at-once ends; soon = soon one }
+
+  pub stopped-early : SourceEarly → (before : Option (List Take)) (contents : Option Contents) → EndsEarly command before contents
+  stopped-early early before contents given given' taken name order behind may ends one =
+      if-both contents before (λ told. StopsEarly command told given')
+      (λ told takes told_is takes_is. stops-early early told given given' order (behind-fronts before given contents taken name behind told takes told_is takes_is) may ends one)
+
+  -- where no call fails the answer is that of all that the inputs hold
+  module _ (whole : SourceWhole) (contents : Option Contents) (taken taken' : Option (List Take)) (name' : Option InputName) (held held' : Option Held) (holds : HoldsAll command contents taken) where
+    on-whole : (ended : Ended) (run : Run ended command contents taken taken' name' held held') → GoesOn run.given holds.whole × InOrder (names_of command.origin) holds.whole
+    on-whole ended run =
+        whole holds.told (names_of command.origin) run.given holds.whole run.order
+        (behind-fronts taken run.given contents taken' name' run.behind holds.told holds.before holds.contents_told holds.taken_told) holds.wholes
+
+    same-whole : (ended : Ended) (run : Run ended command contents taken taken' name' held held') → is_open (result command run.given) ≡ false → result command holds.whole ≡ result command run.given
+    same-whole ended run closed = let on = on-whole ended run in result-fixed run.given holds.whole run.order on.1 on.0 closed
+
+    pub completes : (ended : Ended) → Run ended command contents taken taken' name' held held' → (f0 f1 : InputName → ℕ) → InputCause ended f0 f1 → ((name : InputName) → Rose (f0 name) (f1 name) → ⊥)
+        → (o0 o1 : Target → ℕ) → Counted (has_failed ended) o0 o1 Stdout → (Rose (o0 Stdout) (o1 Stdout) → ⊥) → Completes ended command holds.whole held held'
+    completes answer.Done run f0 f1 cause reads o0 o1 counts writes =
+        let same = same-whole answer.Done run (end-closes (result command run.given) run.says) in
+        (ap (list_any is_end) same ∙ run.says, subst (λ t. ChangesAt Stdout (Leaves answer.Done (out_of command.write t)) held held') (sym same) run.leaves)
+    completes (answer.Refused refusal) run f0 f1 cause reads o0 o1 counts writes = absurd run.says
+    completes (answer.Data fault) run f0 f1 cause reads o0 o1 counts writes =
+        let same = same-whole (answer.Data fault) run (fault-closes (result command run.given) fault run.says) in
+        (ap fault_in same ∙ run.says, subst (λ t. ChangesAt Stdout (Leaves (answer.Data fault) (out_of command.write t)) held held') (sym same) run.leaves)
+    completes (answer.Read name) run f0 f1 cause reads o0 o1 counts writes = absurd (reads name cause.1)
+    completes (answer.Written target) run f0 f1 cause reads o0 o1 counts writes = absurd (writes counts.1)
+    completes answer.TooLong run f0 f1 cause reads o0 o1 counts writes =
+        absurd (omega (arith, run.says.1, holds.few, total-on run.given holds.whole (on-whole answer.TooLong run).0))
+    completes answer.NoMemory run f0 f1 cause reads o0 o1 counts writes = tt
