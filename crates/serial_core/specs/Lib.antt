@@ -3,3 +3,4 @@ pub mod Command
 pub mod Reading
 pub mod Run
 pub mod Standing
+pub mod Models

@@ -2,8 +2,12 @@
 #![tactic(auto)]
 
 mod answer;
+#[cfg(test)]
+mod first_record;
 mod reader;
 mod serial;
+#[cfg(test)]
+mod serial_tests;
 
 pub use answer::{Ended, Refusal, Why};
 pub use reader::Reader;
