@@ -3,6 +3,8 @@
 #![tactic(auto)]
 
 mod copies;
+#[cfg(test)]
+mod copies_tests;
 mod each;
 #[cfg(test)]
 mod fields_tests;

@@ -151,6 +151,31 @@ pub(crate) fn makes(alloc: Global, spec: Spec, lines: &str, want: &str) -> Resul
     Ok(made == whole)
 }
 
+/// What the verb of a copy of these options makes of records, as `tried` has it.
+fn copy_tried(alloc: Global, spec: &Spec, lines: &str) -> Result<Bytes, NoMemory>
+    requires { IsSound spec.now }
+{
+    let verb = StreamVerb::of(alloc, spec)?;
+    let events = events_of(alloc, verb, lines)?;
+    shown(alloc, &events)
+}
+
+/// Whether the verb of these options and that of a copy both make these lines of those, before the end.
+pub(crate) fn both_make(
+    alloc: Global,
+    spec: Spec,
+    lines: &str,
+    want: &str,
+) -> Result<bool, NoMemory>
+    requires { IsSound spec }
+{
+    let copied = copy_tried(alloc, &spec, lines);
+    let made = makes(alloc, spec, lines, want);
+    let mut whole = Bytes::copy_of(alloc, want.as_bytes())?;
+    whole.append(b"end\n")?;
+    Ok(made? && copied? == whole)
+}
+
 /// Whether the verb of these options is closed behind these lines.
 pub(crate) fn shut_behind(alloc: Global, spec: Spec, lines: &str) -> Result<bool, NoMemory>
     requires { IsSound spec }

@@ -28,6 +28,18 @@ impl StreamVerb {
             broken: false,
         })
     }
+
+    /// The verb of a copy of these options, which was given nothing. It takes memory for the copy too.
+    pub fn of(alloc: Global, spec: &Spec) -> Result<Self, NoMemory>
+        requires { IsSound spec.now }
+        ensures verb { IfOk result (λ made. ⟦<StreamVerb as Step>⟧.verb made ≡ verb_of (streaming_of spec.now)) }
+        ensures stands { IfOk result (λ made. ⟦<StreamVerb as Step>⟧.stands made []) }
+    {
+        match spec.copy(alloc) {
+            Ok(copy) => StreamVerb::new(alloc, copy),
+            Err(error) => Err(error),
+        }
+    }
 }
 
 impl Step for StreamVerb {
