@@ -1,0 +1,82 @@
+-- What a plan means.
+use Rattle.std.specs.Prelude.{◌≡◌, true, if◌then◌else◌, List, [], ◌∷◌}
+use Rattle.mlr_event.specs.Verb.{Verb}
+use Rattle.mlr_event.specs.declared.names.InputName.{InputName}
+use Rattle.read_files.specs.Standing.{can_read}
+use Rattle.serial_core.specs.Command.{Command, Origin, files, numbers}
+use Rattle.verbs_seq.specs.Seq.{IsSoundSeq}
+use Rattle.verbs_state.specs.Streaming.{verb_of}
+use Rattle.verbs_stream.specs.Each as stream
+use Rattle.writers.specs.declared.options.WriteOpts.{WriteOpts}
+use Rattle.mlr_plan.specs.declared.plan.Plan.{Plan}
+use Rattle.mlr_plan.specs.declared.verb_spec.VerbSpec.{VerbSpec}
+use Rattle.mlr_plan.specs.declared.verb_spec.VerbSpec.TheVariants.{Stream, Seq}
+
+-- a verb that isn't a source, with options that words may give
+abbrev pub IsVerb : VerbSpec → Type 0
+IsVerb (Stream spec) = stream.IsSound spec
+IsVerb (Seq seq) = ⊥
+
+abbrev pub AreVerbs : List VerbSpec → Type 0
+AreVerbs [] = Unit {0}
+AreVerbs (spec ∷ specs) = IsVerb spec × AreVerbs specs
+
+-- the first verb of a plan may be a source
+abbrev pub AreSound : List VerbSpec → Type 0
+AreSound [] = Unit {0}
+AreSound (Stream spec ∷ specs) = stream.IsSound spec × AreVerbs specs
+AreSound (Seq seq ∷ specs) = IsSoundSeq seq × AreVerbs specs
+
+-- the verbs, without a source
+abbrev pub verbs_of : List VerbSpec → List Verb
+verbs_of [] = []
+verbs_of (Stream spec ∷ specs) = verb_of (stream.streaming_of spec) ∷ verbs_of specs
+verbs_of (Seq seq ∷ specs) = verbs_of specs
+
+-- where the events come from: a source, or else this origin
+abbrev pub origin_or : Origin → List VerbSpec → Origin
+origin_or origin [] = origin
+origin_or origin (Stream spec ∷ specs) = origin
+origin_or origin (Seq seq ∷ specs) = numbers seq
+
+abbrev pub inputs_of : Plan → List InputName
+inputs_of plan = if plan.no_input then [] else plan.inputs.items
+
+abbrev pub origin_of : Plan → Origin
+origin_of plan = origin_or (files plan.read (inputs_of plan)) plan.verbs.items
+
+-- the command of a plan: standard output is written by the first style
+pub record IsCommandOf (plan : Plan) (command : Command) : Type 0 where
+  pub origin : command.origin ≡ origin_of plan
+  pub verbs : command.verbs ≡ verbs_of plan.verbs.items
+  pub rest : List WriteOpts
+  pub write : plan.styles.items ≡ command.write ∷ rest
+
+-- a plan that can be run
+pub record IsSound (plan : Plan) : Type 0 where
+  pub readable : can_read plan.read ≡ true
+  pub verbs : AreSound plan.verbs.items
+  pub styled : plan.styles.items ≡ [] → ⊥
+
+-- a copy of a verb: the same verb, sound where its source is
+abbrev pub AreSame : VerbSpec → VerbSpec → Type 0
+AreSame (Stream spec) (Stream copy) = (stream.streaming_of copy ≡ stream.streaming_of spec) × (stream.IsSound spec → stream.IsSound copy)
+AreSame (Stream spec) (Seq copy) = ⊥
+AreSame (Seq seq) (Stream copy) = ⊥
+AreSame (Seq seq) (Seq copy) = copy ≡ seq
+
+abbrev pub AreSameVerbs : List VerbSpec → List VerbSpec → Type 0
+AreSameVerbs [] [] = Unit {0}
+AreSameVerbs [] (copy ∷ copies) = ⊥
+AreSameVerbs (spec ∷ specs) [] = ⊥
+AreSameVerbs (spec ∷ specs) (copy ∷ copies) = AreSame spec copy × AreSameVerbs specs copies
+
+pub record IsCopy (plan copy : Plan) : Type 0 where
+  pub read : copy.read ≡ plan.read
+  pub inputs : copy.inputs.items ≡ plan.inputs.items
+  pub no_input : copy.no_input ≡ plan.no_input
+  pub verbs : AreSameVerbs plan.verbs.items copy.verbs.items
+  pub styles : copy.styles.items ≡ plan.styles.items
+  pub per_batch : copy.per_batch ≡ plan.per_batch
+  pub turns : copy.turns ≡ plan.turns
+  pub serial : copy.serial ≡ plan.serial

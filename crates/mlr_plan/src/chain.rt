@@ -1,0 +1,63 @@
+ghost use Rattle.std.specs.Prelude.{◌≡◌, ◌++◌, ◌∷◌, [], IfOk, OnOk};
+ghost use Rattle.chain_core.specs.Chain.{chain};
+ghost use Rattle.chain_core.specs.Standing.{StandsFor, verbs_in};
+ghost use Rattle.mlr_plan.specs.Plans.{AreSound, AreVerbs, IsVerb, verbs_of};
+
+use crate::verb::Verb;
+use crate::verb_spec::VerbSpec;
+use chain_core::Stages;
+use mlr_event::{Events, Step};
+use mlr_spec::NoMemory;
+use std::alloc::Global;
+
+/// The verbs of a plan one behind the other, without the source. They have begun, and `made` gets what they make before
+/// the first event. It takes memory for each verb.
+pub fn chain_of(
+    alloc: Global,
+    verbs: &[VerbSpec],
+    made: &mut Events,
+) -> Result<Stages<Verb>, NoMemory>
+    requires sound { AreSound verbs.now }
+    requires empty { made.old ≡ [] }
+    ensures verbs { IfOk result (λ stages. verbs_in ⟦<Verb as Step>⟧.verb stages ≡ verbs_of verbs.now) }
+    ensures stands { IfOk result (λ stages. StandsFor ⟦<Verb as Step>⟧.verb ⟦<Verb as Step>⟧.stands [] stages) }
+    ensures made { IfOk result (λ _. made.new ≡ chain (verbs_of verbs.now) []) }
+{
+    let mut stages = Stages::new(alloc);
+    for spec in without_source(verbs) {
+        push_verb(alloc, spec, &mut stages, made)?;
+    }
+    Ok(stages)
+}
+
+/// The verbs behind the source, or all where there is none.
+fn without_source(verbs: &[VerbSpec]) -> &[VerbSpec]
+    requires { AreSound verbs.now }
+    ensures sound { AreVerbs result.now }
+    ensures verbs { verbs_of result.now ≡ verbs_of verbs.now }
+{
+    match verbs {
+        [VerbSpec::Seq(_), behind @ ..] => behind,
+        _ => verbs,
+    }
+}
+
+/// Makes the verb of these options, begins it, and puts it last.
+fn push_verb(
+    alloc: Global,
+    spec: &VerbSpec,
+    stages: &mut Stages<Verb>,
+    made: &mut Events,
+) -> Result<(), NoMemory>
+    requires verb { IsVerb spec.now }
+    requires chain { StandsFor ⟦<Verb as Step>⟧.verb ⟦<Verb as Step>⟧.stands [] stages.old }
+    requires made { made.old ≡ chain (verbs_in ⟦<Verb as Step>⟧.verb stages.old) [] }
+    ensures verbs { OnOk result (verbs_in ⟦<Verb as Step>⟧.verb stages.new ≡ verbs_in ⟦<Verb as Step>⟧.verb stages.old ++ verbs_of (spec.now ∷ [])) }
+    ensures stands { OnOk result (StandsFor ⟦<Verb as Step>⟧.verb ⟦<Verb as Step>⟧.stands [] stages.new) }
+    ensures made { OnOk result (made.new ≡ chain (verbs_in ⟦<Verb as Step>⟧.verb stages.new) []) }
+{
+    let mut first = Events::new(alloc);
+    let mut verb = Verb::new(alloc, spec)?;
+    verb.begin(&mut first)?;
+    stages.push(verb, first, made)
+}

@@ -1,0 +1,80 @@
+ghost use Rattle.std.specs.Prelude.{◌≡◌, IfOk};
+ghost use Rattle.mlr_plan.specs.Plans.{AreSameVerbs, IsCopy};
+
+use crate::verb_spec::VerbSpec;
+use mlr_event::{InputName, ReadOpts};
+use mlr_spec::NoMemory;
+use std::alloc::Global;
+use writers::WriteOpts;
+
+/// What a command reads, through which verbs its records go, and how they are written.
+#[derive(Drop)]
+pub struct Plan {
+    /// How the main inputs are read.
+    pub read: ReadOpts,
+    /// The main inputs, in their order.
+    pub inputs: Vec<InputName>,
+    /// No main input is read.
+    pub no_input: bool,
+    /// The verbs, in their order; only the first may be a source.
+    pub verbs: Vec<VerbSpec>,
+    /// How outputs are written: the first style is that of standard output.
+    pub styles: Vec<WriteOpts>,
+    /// At most so many records go from one thread to the next at a time.
+    pub per_batch: u64,
+    /// A loop of the language takes at most so many turns.
+    pub turns: u64,
+    /// The run goes one after the other, without threads.
+    pub serial: bool,
+}
+
+impl Plan {
+    /// A copy, which shares the patterns. It takes memory for lists, and for texts of more than 16 bytes.
+    pub fn copy(&self, alloc: Global) -> Result<Self, NoMemory>
+        ensures { IfOk result (λ copy. IsCopy self.now copy) }
+    {
+        Ok(Plan {
+            read: self.read.copy(alloc)?,
+            inputs: copy_names(alloc, &self.inputs)?,
+            no_input: self.no_input,
+            verbs: copy_verbs(alloc, &self.verbs)?,
+            styles: copy_styles(alloc, &self.styles)?,
+            per_batch: self.per_batch,
+            turns: self.turns,
+            serial: self.serial,
+        })
+    }
+}
+
+/// A copy of a list of inputs.
+pub(crate) fn copy_names(alloc: Global, names: &[InputName]) -> Result<Vec<InputName>, NoMemory>
+    ensures { IfOk result (λ copies. copies.items ≡ names.now) }
+{
+    let mut copies = Vec::with_capacity(alloc, names.len())?;
+    for name in names {
+        copies.push(name.copy(alloc)?)?;
+    }
+    Ok(copies)
+}
+
+/// A copy of a list of verbs.
+fn copy_verbs(alloc: Global, verbs: &[VerbSpec]) -> Result<Vec<VerbSpec>, NoMemory>
+    ensures { IfOk result (λ copies. AreSameVerbs verbs.now copies.items) }
+{
+    let mut copies = Vec::with_capacity(alloc, verbs.len())?;
+    for verb in verbs {
+        copies.push(verb.copy(alloc)?)?;
+    }
+    Ok(copies)
+}
+
+/// A copy of a list of styles.
+fn copy_styles(alloc: Global, styles: &[WriteOpts]) -> Result<Vec<WriteOpts>, NoMemory>
+    ensures { IfOk result (λ copies. copies.items ≡ styles.now) }
+{
+    let mut copies = Vec::with_capacity(alloc, styles.len())?;
+    for style in styles {
+        copies.push(style.copy(alloc)?)?;
+    }
+    Ok(copies)
+}

@@ -1,0 +1,28 @@
+ghost use Rattle.std.specs.Prelude.{IfOk};
+ghost use Rattle.mlr_plan.specs.Plans.{AreSame};
+
+use mlr_spec::NoMemory;
+use std::alloc::Global;
+use verbs_seq::SeqSpec;
+use verbs_stream::Spec;
+
+/// A verb of a plan, with its options.
+#[derive(Drop)]
+pub enum VerbSpec {
+    /// A streaming verb.
+    Stream(Spec),
+    /// The source `seqgen`.
+    Seq(SeqSpec),
+}
+
+impl VerbSpec {
+    /// A copy, which shares the patterns. It takes memory for lists, and for texts of more than 16 bytes.
+    pub fn copy(&self, alloc: Global) -> Result<Self, NoMemory>
+        ensures { IfOk result (λ copy. AreSame self.now copy) }
+    {
+        match self {
+            VerbSpec::Stream(spec) => Ok(VerbSpec::Stream(spec.copy(alloc)?)),
+            VerbSpec::Seq(seq) => Ok(VerbSpec::Seq(seq.copy(alloc)?)),
+        }
+    }
+}
