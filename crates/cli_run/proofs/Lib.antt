@@ -1,12 +1,4 @@
-pub mod Takes
-pub mod Growing
-pub mod Showing
-pub mod Given
-pub mod Turning
-pub mod Putting
-pub mod Going
-pub mod Opened
+pub mod Sound
+pub mod Answering
 pub mod Top
-pub mod Completing
-pub mod Whole
 pub mod Messages

@@ -1,21 +1,24 @@
 -- A run with its message.
 use Rattle.std.proofs.Common.{◌≡◌, ℕ, ◌≤◌, Bool, true, false, List, Option, Some, None, refl, sym, subst, ◌∙◌, inl, inr, arith}
 use Rattle.std.specs.Prelude.{◌⊎◌}
-use Rattle.mlr_event.specs.declared.names.InputName.{InputName}
 use Rattle.mlr_event.specs.declared.names.Target.{Target}
 use Rattle.mlr_event.specs.declared.names.Target.TheVariants.{Stdout, Stderr}
-use Rattle.mlr_event.specs.declared.fault.Fault.{Fault}
 use Rattle.mlr_world.specs.Counts.{Rose, Counted, Tallied}
 use Rattle.mlr_world.specs.Taken.{Take}
 use Rattle.mlr_world.specs.Outputs.{Held, ChangesAt, call_failed, lacked_memory}
 use Rattle.mlr_world.specs.declared.outputs.Done.{Done}
 use Rattle.mlr_world.specs.declared.outputs.Done.TheVariants as done
-use Rattle.cli_run.specs.declared.answer.Ended.{Ended}
-use Rattle.cli_run.specs.declared.answer.Ended.TheVariants as answer
-use Rattle.cli_run.specs.Meaning.{text_given}
+use Rattle.serial_core.specs.declared.answer.Ended.{Ended}
+use Rattle.serial_core.specs.declared.answer.Ended.TheVariants as answer
+use Rattle.serial_core.specs.Answer.{has_failed}
+use Rattle.serial_core.specs.Command as serial
+use Rattle.serial_core.specs.Standing as standing
+use Rattle.cli_run.specs.declared.command.Line.{Line}
+use Rattle.cli_run.specs.declared.command.Line.TheVariants.{Accepted, Refused}
+use Rattle.cli_run.specs.Answer.{IsRefusedWhere, refused_in}
+use Rattle.cli_run.specs.Meaning.{command_in, command_of, text_given}
 use Rattle.cli_run.specs.Message.{Puts, message_of}
-use Rattle.cli_run.specs.Run.{LeavesText, Says, Leaves, LeavesMessage, WhereTold, OutputCause}
-use Rattle.cli_run.specs.Stream.{output_failed}
+use Rattle.cli_run.specs.Run.{Says, Leaves, LeavesMessage, WhereTold, OutputCause}
 
 -- counts over a call, and over a later one
 pub never_falls : {N : Type 0} (failed : Bool) (before now : N → ℕ) (name : N) → Counted failed before now name → (other : N) → before other ≤ now other
@@ -44,7 +47,7 @@ message_left message done.NoMemory before now f0 f1 f2 s0 s1 s2 ff ss counted ta
 
 pub leaves_all : (words : List (List ℕ)) (ended : Ended) (given : List Take) (result : Done) (h0 h1 h2 : Option Held) (f0 f1 f2 : Target → ℕ) (s0 s1 s2 : ℕ)
     → f0 Stderr ≤ f1 Stderr → s0 ≤ s1 → Counted (call_failed result) f1 f2 Stderr → Tallied (lacked_memory result) s1 s2
-    → ChangesAt Stdout (LeavesText ended (text_given words given)) h0 h1 → ChangesAt Stderr (Puts (message_of words ended) result) h1 h2
+    → ChangesAt Stdout (standing.Leaves ended (text_given words given)) h0 h1 → ChangesAt Stderr (Puts (message_of words ended) result) h1 h2
     → WhereTold (Leaves words ended given (Rose (f0 Stderr) (f2 Stderr) ⊎ Rose s0 s2)) h0 h2
 leaves_all words ended given result None None None f0 f1 f2 s0 s1 s2 ff ss counted tallied out err = tt
 leaves_all words ended given result None None (Some c) f0 f1 f2 s0 s1 s2 ff ss counted tallied out err = err
@@ -52,21 +55,27 @@ leaves_all words ended given result None (Some b) h2 f0 f1 f2 s0 s1 s2 ff ss cou
 leaves_all words ended given result (Some a) None h2 f0 f1 f2 s0 s1 s2 ff ss counted tallied out err = absurd out
 leaves_all words ended given result (Some a) (Some b) None f0 f1 f2 s0 s1 s2 ff ss counted tallied out err = err
 leaves_all words ended given result (Some a) (Some b) (Some c) f0 f1 f2 s0 s1 s2 ff ss counted tallied out err = record {
-  out = subst (LeavesText ended (text_given words given) (a Stdout)) (sym (err.elsewhere Stdout apart)) out.here;
+  out = subst (standing.Leaves ended (text_given words given) (a Stdout)) (sym (err.elsewhere Stdout apart)) out.here;
   err = subst (λ before. LeavesMessage (message_of words ended) (Rose (f0 Stderr) (f2 Stderr) ⊎ Rose s0 s2) before (c Stderr)) (out.elsewhere Stderr apart')
       (message_left (message_of words ended) result (b Stderr) (c Stderr) f0 f1 f2 s0 s1 s2 ff ss counted tallied err.here);
   others = λ target not_out not_err. err.elsewhere target not_err ∙ out.elsewhere target not_out;
 }
 
 -- why the answer is what it is, by the counts of the outputs
-pub cause : (ended : Ended) (inputs : List InputName) (fault : Option Fault) (given : List Take) (result : Done) (f0 f1 f2 : Target → ℕ)
-    → Says ended inputs fault given → (ended ≡ answer.Done → result ≡ done.Ok) → Counted (output_failed ended) f0 f1 Stdout → Counted (call_failed result) f1 f2 Stderr → OutputCause ended f0 f2
-cause answer.Done inputs fault given result f0 f1 f2 says silent first second =
+pub cause : (ended : Ended) (command : serial.Command) (given : List Take) (result : Done) (f0 f1 f2 : Target → ℕ)
+    → standing.Says ended command given → (ended ≡ answer.Done → result ≡ done.Ok) → Counted (has_failed ended) f0 f1 Stdout → Counted (call_failed result) f1 f2 Stderr → OutputCause ended f0 f2
+cause answer.Done command given result f0 f1 f2 says silent first second =
     λ target. subst (λ r. Counted (call_failed r) f1 f2 Stderr) (silent refl) second target ∙ first target
-cause (answer.Refused refusal) inputs fault given result f0 f1 f2 says silent first second = tt
-cause (answer.Data found) inputs fault given result f0 f1 f2 says silent first second = tt
-cause (answer.Read name) inputs fault given result f0 f1 f2 says silent first second = tt
-cause (answer.Written target) inputs fault given result f0 f1 f2 says silent first second =
+cause (answer.Refused refusal) command given result f0 f1 f2 says silent first second = tt
+cause (answer.Data found) command given result f0 f1 f2 says silent first second = tt
+cause (answer.Read name) command given result f0 f1 f2 says silent first second = tt
+cause (answer.Written target) command given result f0 f1 f2 says silent first second =
     subst (λ t. Rose (f0 t) (f2 t)) (sym says) (Rose-later (f0 Stdout) (f1 Stdout) (f2 Stdout) first.1 (never_falls (call_failed result) f1 f2 Stderr second Stdout))
-cause answer.TooLong inputs fault given result f0 f1 f2 says silent first second = tt
-cause answer.NoMemory inputs fault given result f0 f1 f2 says silent first second = tt
+cause answer.TooLong command given result f0 f1 f2 says silent first second = tt
+cause answer.NoMemory command given result f0 f1 f2 says silent first second = tt
+
+-- the same of words: those that are refused have the answer Refused
+pub cause_given : (ended : Ended) (line : Line) (words : List (List ℕ)) (given : List Take) (result : Done) (f0 f1 f2 : Target → ℕ)
+    → IsRefusedWhere (refused_in line) ended → Says ended (command_in line words) given → (ended ≡ answer.Done → result ≡ done.Ok) → Counted (has_failed ended) f0 f1 Stdout → Counted (call_failed result) f1 f2 Stderr → OutputCause ended f0 f2
+cause_given ended (Accepted command) words given result f0 f1 f2 refused says silent first second = cause ended (command_of command words) given result f0 f1 f2 says silent first second
+cause_given ended (Refused word) words given result f0 f1 f2 refused says silent first second = subst (λ e. OutputCause e f0 f2) (sym refused) tt

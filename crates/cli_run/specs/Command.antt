@@ -1,5 +1,5 @@
 -- What the words of a command line ask for.
-use Rattle.std.specs.Prelude.{ℕ, ◌+◌, if◌then◌else◌, List, [], ◌∷◌, codes, drop, map, Option, Some, None}
+use Rattle.std.specs.Prelude.{ℕ, ◌+◌, Bool, true, false, not, ◌||◌, if◌then◌else◌, List, [], ◌∷◌, ◌++◌, codes, drop, map, Option, Some, None}
 use Rattle.std.specs.Str.{bytes_eq}
 use Rattle.mlr_event.specs.declared.names.InputName.{InputName}
 use Rattle.mlr_event.specs.declared.names.InputName.TheVariants.{Stdin, File}
@@ -8,6 +8,12 @@ use Rattle.mlr_event.specs.declared.options.Format.TheVariants.{Csv, Tsv, Json, 
 use Rattle.cli_run.specs.declared.command.Command.{Command}
 use Rattle.cli_run.specs.declared.command.Line.{Line}
 use Rattle.cli_run.specs.declared.command.Line.TheVariants.{Accepted, Refused}
+use Rattle.cli_run.specs.declared.command.Next.{Next}
+use Rattle.cli_run.specs.declared.command.Next.TheVariants.{Word, Names, Refuse}
+use Rattle.cli_run.specs.declared.command.Place.{Place}
+use Rattle.cli_run.specs.declared.command.Place.TheVariants.{Flags, Verb, Options, Argument}
+use Rattle.cli_run.specs.declared.verbs.Asked.{Asked}
+use Rattle.cli_run.specs.Verbs.{first_verb, is_dashed, may_end, option_named, verb_named, with_option}
 
 -- the flags that name the format of the input, of the output, and of both
 abbrev pub input_flag : List ℕ → Option Format
@@ -45,7 +51,7 @@ both_flag word =
     if bytes_eq word (codes "--xtab") then Some Xtab else (
     if bytes_eq word (codes "--pprint") then Some Pprint else None)))))))
 
--- a command line without flags: DKVP in and out, and the file names begin with this word
+-- a command line without flags: DKVP in and out, and the file names begin behind so many words
 abbrev pub plain : ℕ → Command
 plain names = record { input = Dkvp; output = Dkvp; names = names }
 
@@ -62,17 +68,70 @@ flagged word command = elim (input_flag word) [
   ]
 ]
 
--- Flags, of which a later one wins over an earlier one, then `cat`, then any file names; or the number of the first word at
--- which no such line can go on, one past the last if words lack. The words begin with this number.
-abbrev pub line_from : ℕ → Command → List (List ℕ) → Line
-line_from n command [] = Refused n
-line_from n command (word ∷ words) = elim (flagged word command) [
-  | Some next ↦ line_from (n + 1) next words
-  | None ↦ if bytes_eq word (codes "cat") then Accepted (record command { names = n }) else Refused n
+-- What the next word of a command line, which has this number, makes of what was read: flags come first, of which a later
+-- one wins over an earlier one, then verbs with their options, each behind `then` but the first, and then file names.
+abbrev pub behind_verb : Command → Option Asked → Next
+behind_verb command (Some asked) = Word command (Options asked)
+behind_verb command None = Refuse
+
+abbrev pub behind_options : Command → Asked → List ℕ → Next
+behind_options command asked word =
+    if not (may_end asked) || is_dashed word then Refuse else (
+    if bytes_eq word (codes "then") then Word command Verb else Names)
+
+abbrev pub after : ℕ → Command → Place → List ℕ → Next
+after n command Flags word = elim (flagged word command) [ Some next ↦ Word next Flags | None ↦ behind_verb command (first_verb word) ]
+after n command Verb word = behind_verb command (verb_named word)
+after n command (Options asked) word = elim (option_named asked word) [ Some option ↦ Word command (Argument asked option) | None ↦ behind_options command asked word ]
+after n command (Argument asked option) word = behind_verb command (with_option asked option n word)
+
+-- whether a command line may end here
+abbrev pub may_stop : Place → Bool
+may_stop Flags = false
+may_stop Verb = false
+may_stop (Options asked) = may_end asked
+may_stop (Argument asked option) = false
+
+-- What the rest of a command line makes it behind so many words: accepted, or refused at the first word at which no
+-- command line can go on, one past the last if words lack.
+abbrev pub line_from : ℕ → Command → Place → List (List ℕ) → Line
+line_from n command place [] = if may_stop place then Accepted (record command { names = n }) else Refused (n + 1)
+line_from n command place (word ∷ words) = elim (after (n + 1) command place word) [
+  | Word next at ↦ line_from (n + 1) next at words
+  | Names ↦ Accepted (record command { names = n })
+  | Refuse ↦ Refused (n + 1)
 ]
 
 abbrev pub line_of : List (List ℕ) → Line
-line_of words = line_from 1 (plain 0) words
+line_of words = line_from 0 (plain 0) Flags words
+
+-- the verb whose options were read, where it may end
+abbrev pub ended : Place → List Asked
+ended Flags = []
+ended Verb = []
+ended (Options asked) = if may_end asked then asked ∷ [] else []
+ended (Argument asked option) = []
+
+-- the verb that a word ends: `then`, or the first file name
+abbrev pub ended_by : Place → Next → List Asked
+ended_by place (Word command Flags) = []
+ended_by place (Word command Verb) = ended place
+ended_by place (Word command (Options asked)) = []
+ended_by place (Word command (Argument asked option)) = []
+ended_by place Names = ended place
+ended_by place Refuse = []
+
+-- the verbs that the rest of a command line asks for
+abbrev pub asked_from : ℕ → Command → Place → List (List ℕ) → List Asked
+asked_from n command place [] = ended place
+asked_from n command place (word ∷ words) = ended_by place (after (n + 1) command place word) ++ elim (after (n + 1) command place word) [
+  | Word next at ↦ asked_from (n + 1) next at words
+  | Names ↦ []
+  | Refuse ↦ []
+]
+
+abbrev pub asked : List (List ℕ) → List Asked
+asked words = asked_from 0 (plain 0) Flags words
 
 -- the names of the files that a command reads
 abbrev pub names_of : Command → List (List ℕ) → List (List ℕ)

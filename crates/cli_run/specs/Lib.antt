@@ -1,9 +1,7 @@
+pub mod Verbs
 pub mod Command
 pub mod Options
-pub mod Sources
 pub mod Meaning
 pub mod Message
 pub mod Answer
 pub mod Run
-pub mod Readers
-pub mod Stream

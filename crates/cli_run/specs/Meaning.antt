@@ -1,70 +1,59 @@
--- What a command makes of the inputs that were taken: the text of standard output, and the fault.
-use Rattle.std.specs.Prelude.{ℕ, Bool, not, ◌&&◌, List, [], ◌∷◌, Option, Some, None, is_some}
-use Rattle.mlr_event.specs.declared.event.Body.{Body}
-use Rattle.mlr_event.specs.declared.event.Body.TheVariants as body
-use Rattle.mlr_event.specs.declared.event.Event.{Event}
-use Rattle.mlr_event.specs.declared.event.Event.TheVariants.{Rec, Text, Out, End, Fault}
-use Rattle.mlr_event.specs.declared.fault.Fault.{Fault as FaultIn}
+-- What a command line means: where its events come from, its verbs, and how the records are written.
+use Rattle.std.specs.Prelude.{ℕ, false, ◌==◌, if◌then◌else◌, List, [], ◌∷◌, map, codes, Option, Some, None}
 use Rattle.mlr_event.specs.declared.names.InputName.{InputName}
 use Rattle.mlr_world.specs.Taken.{Take}
-use Rattle.writers.specs.Written.{written}
+use Rattle.mlr_plan.specs.declared.verb_spec.VerbSpec.{VerbSpec}
+use Rattle.mlr_plan.specs.declared.verb_spec.VerbSpec.TheVariants as plan
+use Rattle.mlr_plan.specs.Plans.{origin_or, verbs_of}
+use Rattle.serial_core.specs.Command as serial
+use Rattle.verbs_stream.specs.declared.spec.Spec.TheVariants as verb
 use Rattle.cli_run.specs.declared.command.Command.{Command}
 use Rattle.cli_run.specs.declared.command.Line.{Line}
 use Rattle.cli_run.specs.declared.command.Line.TheVariants.{Accepted, Refused}
-use Rattle.cli_run.specs.Command.{line_of, names_of, inputs_of}
+use Rattle.cli_run.specs.declared.verbs.Asked.{Asked}
+use Rattle.cli_run.specs.declared.verbs.Asked.TheVariants.{Cat, Nothing, Head, Seq}
+use Rattle.cli_run.specs.declared.verbs.Numbers.{Numbers}
+use Rattle.cli_run.specs.Command.{asked, inputs_of, line_of, names_of}
 use Rattle.cli_run.specs.Options.{read_options, write_options}
-use Rattle.cli_run.specs.Sources.{events_from, stops_at}
+use Rattle.cli_run.specs.Verbs.{word_at}
 
--- the records and texts among events, up to a fault
-abbrev pub bodies : List Event → List Body
-bodies [] = []
-bodies (Rec r ctx ∷ events) = body.Rec r ∷ bodies events
-bodies (Text text ∷ events) = body.Text text ∷ bodies events
-bodies (Out target piece ∷ events) = bodies events
-bodies (End ctx ∷ events) = bodies events
-bodies (Fault fault ∷ events) = []
+-- the field of `seqgen`: `i` where no word names it
+abbrev pub field_of : List (List ℕ) → Numbers → List ℕ
+field_of words numbers = if numbers.field == 0 then codes "i" else word_at words numbers.field
 
--- the first fault among events
-abbrev pub fault_in : List Event → Option FaultIn
-fault_in [] = None
-fault_in (Rec r ctx ∷ events) = fault_in events
-fault_in (Text text ∷ events) = fault_in events
-fault_in (Out target piece ∷ events) = fault_in events
-fault_in (End ctx ∷ events) = fault_in events
-fault_in (Fault fault ∷ events) = Some fault
+-- a verb with its options
+abbrev pub spec_of : List (List ℕ) → Asked → VerbSpec
+spec_of words Cat = plan.Stream (verb.Cat (record { number = false; name = codes "n"; groups = None }))
+spec_of words Nothing = plan.Stream verb.Nothing
+spec_of words (Head count) = plan.Stream (verb.Head (record { count = count; groups = None }))
+spec_of words (Seq numbers) = plan.Seq (record { field = field_of words numbers; start = numbers.start; stop = numbers.stop; step = numbers.step })
 
--- what the inputs of a command give, from the first on
-abbrev pub events_taken : Command → List Take → List Event
-events_taken command takes = events_from (read_options command.input) 1 0 takes
+abbrev pub specs_of : List (List ℕ) → List VerbSpec
+specs_of words = map (spec_of words) (asked words)
 
-abbrev pub fault_taken : Command → List Take → Option FaultIn
-fault_taken command takes = fault_in (events_taken command takes)
+-- what an accepted command line means
+abbrev pub command_of : Command → List (List ℕ) → serial.Command
+command_of command words = record {
+  origin = origin_or (serial.files (read_options command.input) (inputs_of (names_of command words))) (specs_of words);
+  verbs = verbs_of (specs_of words);
+  write = write_options command;
+}
 
--- the text has its end where all inputs were read to their ends without a fault
-abbrev pub is_whole : Command → List InputName → List Take → Bool
-is_whole command inputs takes = not (is_some (stops_at inputs takes)) && not (is_some (fault_taken command takes))
+abbrev pub command_in : Line → List (List ℕ) → Option serial.Command
+command_in (Accepted command) words = Some (command_of command words)
+command_in (Refused word) words = None
 
-abbrev pub text_taken : Command → List InputName → List Take → List ℕ
-text_taken command inputs takes = written (write_options command) (bodies (events_taken command takes)) (is_whole command inputs takes)
+abbrev pub command_given : List (List ℕ) → Option serial.Command
+command_given words = command_in (line_of words) words
 
--- the same of what a command line is; one that isn't accepted has no inputs, no text and no fault
-abbrev pub inputs_in : Line → List (List ℕ) → List InputName
-inputs_in (Accepted command) words = inputs_of (names_of command words)
-inputs_in (Refused word) words = []
+-- the inputs that are read, and the text of standard output; a command line that isn't accepted has none
+abbrev pub inputs_for : Option serial.Command → List InputName
+inputs_for None = []
+inputs_for (Some command) = serial.names_of command.origin
 
-abbrev pub fault_in_line : Line → List Take → Option FaultIn
-fault_in_line (Accepted command) takes = fault_taken command takes
-fault_in_line (Refused word) takes = None
-
-abbrev pub text_in : Line → List (List ℕ) → List Take → List ℕ
-text_in (Accepted command) words takes = text_taken command (inputs_of (names_of command words)) takes
-text_in (Refused word) words takes = []
-
-abbrev pub inputs_given : List (List ℕ) → List InputName
-inputs_given words = inputs_in (line_of words) words
-
-abbrev pub fault_given : List (List ℕ) → List Take → Option FaultIn
-fault_given words takes = fault_in_line (line_of words) takes
+abbrev pub text_for : Option serial.Command → List Take → List ℕ
+text_for None given = []
+text_for (Some command) given = serial.text command given
 
 abbrev pub text_given : List (List ℕ) → List Take → List ℕ
-text_given words takes = text_in (line_of words) words takes
+text_given words given = text_for (command_given words) given

@@ -13,15 +13,12 @@ use Rattle.mlr_event.specs.declared.names.Target.TheVariants as target
 use Rattle.mlr_world.specs.declared.outputs.Done.{Done}
 use Rattle.mlr_world.specs.declared.outputs.Done.TheVariants as done
 use Rattle.mlr_world.specs.Outputs.{IsFrontOf, with_bytes}
-use Rattle.cli_run.specs.declared.answer.Ended.{Ended}
-use Rattle.cli_run.specs.declared.answer.Ended.TheVariants as answer
+use Rattle.serial_core.specs.declared.answer.Ended.{Ended}
+use Rattle.serial_core.specs.declared.answer.Ended.TheVariants as answer
 use Rattle.cli_run.specs.declared.command.Line.{Line}
 use Rattle.cli_run.specs.declared.command.Line.TheVariants.{Accepted, Refused}
 use Rattle.cli_run.specs.Command.{line_of, names_of}
-
--- the word with this number from 1; none of number 0 or past the last
-abbrev pub word_at : List (List ℕ) → ℕ → List ℕ
-word_at words number = if number == 0 then [] else slice_index_or words (number - 1) []
+use Rattle.cli_run.specs.Verbs.{word_at}
 
 abbrev pub input_text : InputName → List ℕ
 input_text input.Stdin = codes "(stdin)"

@@ -1,8 +1,12 @@
-ghost use Rattle.std.specs.Prelude.{◌≡◌, ◌<◌, ◌≤◌, ◌^◌, ◌+◌, length};
-ghost use Rattle.cli_run.specs.Command.{both_flag, flagged, input_flag, line_from, line_of, output_flag};
+ghost use Rattle.std.specs.Prelude.{◌≡◌};
+ghost use Rattle.cli_run.specs.Command.{after, asked, behind_options, behind_verb, both_flag, ended, ended_by, flagged, input_flag, line_of, may_stop, output_flag, plain};
 
+use crate::verbs::{
+    Asked, VerbOption, first_verb, is_dashed, may_end, option_named, verb_named, with_option,
+};
 use mlr_event::Format;
 use mlr_value::Bytes;
+use std::alloc::Global;
 
 /// What a command line asks for.
 #[derive(Clone, Copy, Debug, PartialEq, Eq)]
@@ -129,26 +133,126 @@ fn flagged(word: &[u8], command: Command) -> Option<Command>
     }
 }
 
-/// Reads a command line: flags, `cat` and file names.
-pub(crate) fn line_of(words: &[Bytes]) -> Line
-    ensures { result ≡ line_of words.now }
+/// Where a command line has come to.
+#[derive(Clone, Copy, Debug, PartialEq, Eq)]
+pub(crate) enum Place {
+    /// A flag or the first verb must come.
+    Flags,
+    /// A verb must come.
+    Verb,
+    /// An option of this verb may come.
+    Options(Asked),
+    /// What this option of this verb takes must come.
+    Argument(Asked, VerbOption),
+}
+
+/// What a word makes of a command line.
+#[derive(Clone, Copy, Debug, PartialEq, Eq)]
+pub(crate) enum Next {
+    /// It belongs to the flags and verbs.
+    Word(Command, Place),
+    /// It is the first file name.
+    Names,
+    /// No command line goes on with it.
+    Refuse,
+}
+
+/// DKVP in and out.
+pub(crate) fn plain() -> Command
+    ensures { result ≡ plain 0 }
 {
-    let mut command = Command {
+    Command {
         input: Format::Dkvp,
         output: Format::Dkvp,
         names: 0,
-    };
-    for (place, word) in words.iter().enumerate() {
-        match flagged(word.as_slice(), command) {
-            Some(next) => command = next,
-            None if word.as_slice() == b"cat".as_slice() => {
+    }
+}
+
+/// Behind a verb, if there is one, its options may come.
+fn behind_verb(command: Command, asked: Option<Asked>) -> Next
+    ensures { result ≡ behind_verb command asked }
+{
+    match asked {
+        Some(asked) => Next::Word(command, Place::Options(asked)),
+        None => Next::Refuse,
+    }
+}
+
+/// What a word makes of a verb where it is none of its options.
+fn behind_options(alloc: Global, command: Command, asked: Asked, word: &[u8]) -> Next
+    ensures { result ≡ behind_options command asked word.now }
+{
+    if !may_end(alloc, asked) || is_dashed(word) {
+        Next::Refuse
+    } else if word == b"then".as_slice() {
+        Next::Word(command, Place::Verb)
+    } else {
+        Next::Names
+    }
+}
+
+/// What the next word, which has this number, makes of what was read.
+pub(crate) fn after(
+    alloc: Global,
+    number: usize,
+    command: Command,
+    place: Place,
+    word: &[u8],
+) -> Next
+    ensures { result ≡ after number command place word.now }
+{
+    match place {
+        Place::Flags => match flagged(word, command) {
+            Some(next) => Next::Word(next, Place::Flags),
+            None => behind_verb(command, first_verb(word)),
+        },
+        Place::Verb => behind_verb(command, verb_named(word)),
+        Place::Options(asked) => match option_named(asked, word) {
+            Some(option) => Next::Word(command, Place::Argument(asked, option)),
+            None => behind_options(alloc, command, asked, word),
+        },
+        Place::Argument(asked, option) => {
+            behind_verb(command, with_option(asked, option, number, word))
+        }
+    }
+}
+
+/// Whether a command line may end here.
+fn may_stop(alloc: Global, place: Place) -> bool
+    ensures { result ≡ may_stop place }
+{
+    match place {
+        Place::Options(asked) => may_end(alloc, asked),
+        _ => false,
+    }
+}
+
+/// Reads a command line: flags, verbs with their options, and file names. It takes no memory.
+pub(crate) fn line_of(alloc: Global, words: &[Bytes]) -> Line
+    ensures { result ≡ line_of words.now }
+{
+    let mut command = plain();
+    let mut place = Place::Flags;
+    for (before, word) in words.iter().enumerate() {
+        match after(alloc, before + 1, command, place, word.as_slice()) {
+            Next::Word(next, at) => {
+                command = next;
+                place = at;
+            }
+            Next::Names => {
                 return Line::Accepted(Command {
-                    names: place + 1,
+                    names: before,
                     ..command
                 });
             }
-            None => return Line::Refused(place as u64 + 1),
+            Next::Refuse => return Line::Refused(before as u64 + 1),
         }
+    }
+    if may_stop(alloc, place) {
+        return Line::Accepted(Command {
+            names: words.len(),
+            ..command
+        });
     }
     Line::Refused(words.len() as u64 + 1)
 }

@@ -1,19 +1,18 @@
 //! The top call of `mlr`: it takes the words of the command line and the inputs and outputs, runs the command, and
-//! says how the run ended. So far it accepts the flags of formats, then `cat`, and then file names.
+//! says how the run ended. So far it accepts the flags of formats, then `cat`, `nothing`, `head` and, first of all,
+//! `seqgen`, joined by `then`, and then file names.
 #![tactic(auto)]
 
-mod answer;
 mod command;
-mod input;
-mod laws;
 mod message;
 mod options;
-mod progress;
-mod reader;
+mod planning;
 mod run;
-mod stream;
 #[cfg(test)]
 mod tests;
+#[cfg(test)]
+mod verb_tests;
+mod verbs;
 
-pub use answer::{Ended, Refusal, Why};
 pub use run::run_mlr;
+pub use serial_core::{Ended, Refusal, Why};

@@ -3,14 +3,17 @@ ghost use Rattle.std.specs.List.{flat_map};
 ghost use Rattle.mlr_event.specs.declared.names.Target.TheVariants.{Stderr};
 ghost use Rattle.mlr_world.specs.Counts.{Counted, Tallied};
 ghost use Rattle.mlr_world.specs.Outputs.{ChangesAt, call_failed, lacked_memory};
-ghost use Rattle.cli_run.specs.Message.{Puts, message_of, fault_pieces, length_pieces, line_pieces, byte_pieces, file_text, named, word_at, input_text, target_text};
+ghost use Rattle.cli_run.specs.Message.{Puts, message_of, fault_pieces, length_pieces, line_pieces, byte_pieces, file_text, named, input_text, target_text};
+ghost use Rattle.cli_run.specs.Verbs.{word_at};
 
-use crate::Ended;
 use crate::command::{Line, line_of};
+use crate::options::names_of;
 use itoa::Buffer;
 use mlr_event::{Fault, FileRef, InputName, Target};
 use mlr_value::Bytes;
 use mlr_world::{Done, Outputs};
+use serial_core::Ended;
+use std::alloc::Global;
 
 /// Room for the numbers of one message.
 #[derive(Drop)]
@@ -23,6 +26,7 @@ pub(crate) struct Digits {
 /// Writes the message of an answer to standard error, in pieces from where they stand. Numbers go by way of the
 /// buffer, so that a message takes no memory.
 pub(crate) fn write_message<O: Outputs>(
+    alloc: Global,
     words: &[Bytes],
     ended: &Ended,
     digits: &mut Digits,
@@ -51,7 +55,7 @@ pub(crate) fn write_message<O: Outputs>(
                 b"",
             )
         }
-        Ended::Data(fault) => write_fault(words, fault, digits, outputs),
+        Ended::Data(fault) => write_fault(alloc, words, fault, digits, outputs),
         Ended::Read(name) => say(
             outputs,
             b"mlr: cannot read ",
@@ -105,6 +109,7 @@ pub(crate) fn write_message<O: Outputs>(
 
 /// Writes the message of a fault.
 fn write_fault<O: Outputs>(
+    alloc: Global,
     words: &[Bytes],
     fault: &Fault,
     digits: &mut Digits,
@@ -121,7 +126,7 @@ fn write_fault<O: Outputs>(
             want,
             have,
         } => write_length(
-            file_text(words, *file),
+            file_text(alloc, words, *file),
             *line,
             *want,
             *have,
@@ -129,35 +134,35 @@ fn write_fault<O: Outputs>(
             outputs,
         ),
         Fault::Quote { file, line } => say_line(
-            file_text(words, *file),
+            file_text(alloc, words, *file),
             *line,
             b": unclosed quote\n",
             digits,
             outputs,
         ),
         Fault::Table { file, line } => say_line(
-            file_text(words, *file),
+            file_text(alloc, words, *file),
             *line,
             b": bad table line\n",
             digits,
             outputs,
         ),
         Fault::JsonSyntax { file, byte } => say_byte(
-            file_text(words, *file),
+            file_text(alloc, words, *file),
             *byte,
             b": bad JSON\n",
             digits,
             outputs,
         ),
         Fault::JsonDeep { file, byte } => say_byte(
-            file_text(words, *file),
+            file_text(alloc, words, *file),
             *byte,
             b": nested deeper than 100\n",
             digits,
             outputs,
         ),
         Fault::JsonKind { file, byte } => say_byte(
-            file_text(words, *file),
+            file_text(alloc, words, *file),
             *byte,
             b": not a map\n",
             digits,
@@ -299,12 +304,12 @@ fn word_at(words: &[Bytes], number: u64) -> &[u8]
 }
 
 /// The name of an input of a command line, by its number from 1; no bytes if there is none.
-fn file_text(words: &[Bytes], file: FileRef) -> &[u8]
+fn file_text(alloc: Global, words: &[Bytes], file: FileRef) -> &[u8]
     ensures { result.now ≡ file_text words.now file }
 {
-    match line_of(words) {
+    match line_of(alloc, words) {
         Line::Accepted(command) => match file {
-            FileRef::Main(number) => named(words.get(command.names..).unwrap_or(&[]), number),
+            FileRef::Main(number) => named(names_of(words, command), number),
             FileRef::Left(_) => b"",
         },
         Line::Refused(_) => b"",

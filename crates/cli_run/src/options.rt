@@ -1,5 +1,5 @@
 ghost use Rattle.std.specs.Prelude.{◌≡◌, ◌≤◌, ◌^◌, length, IfOk};
-ghost use Rattle.cli_run.specs.Command.{inputs_of};
+ghost use Rattle.cli_run.specs.Command.{inputs_of, names_of};
 ghost use Rattle.cli_run.specs.Options.{default_separator, is_json, read_options, write_options};
 
 use crate::command::Command;
@@ -60,6 +60,13 @@ fn is_json(format: Format) -> bool
     ensures { result ≡ is_json format }
 {
     matches!(format, Format::Json | Format::Jsonl)
+}
+
+/// The names of the files that a command reads.
+pub(crate) fn names_of(words: &[Bytes], command: Command) -> &[Bytes]
+    ensures { result.now ≡ names_of command words.now }
+{
+    words.get(command.names..).unwrap_or(&[])
 }
 
 /// More inputs than any memory holds.

@@ -1,27 +1,24 @@
-ghost use Rattle.std.specs.Prelude.{◌≡◌, ◌⊎◌, ◌<◌, ◌≤◌, ◌^◌, false, true, None, List, [], IfOk, length};
-ghost use Rattle.mlr_event.specs.declared.event.Event.{Event};
+ghost use Rattle.std.specs.Prelude.{◌≡◌, ◌⊎◌, ◌≤◌, Some, true};
 ghost use Rattle.mlr_event.specs.declared.names.InputName.{InputName};
 ghost use Rattle.mlr_event.specs.declared.names.Target.{Target};
 ghost use Rattle.mlr_event.specs.declared.names.Target.TheVariants.{Stdout, Stderr};
 ghost use Rattle.mlr_world.specs.Counts.{Counted, Rose};
-ghost use Rattle.cli_run.specs.Answer.{IsRefusedWhere, is_refused, refused_word};
-ghost use Rattle.cli_run.specs.Command.{inputs_of};
-ghost use Rattle.cli_run.specs.Run.{HoldsClean, InputCause, OutputCause, Run};
-ghost use Rattle.cli_run.specs.Options.{write_options};
-ghost use Rattle.cli_run.specs.Stream.{CatRun, IsReady, WordsRun, output_failed};
+ghost use Rattle.serial_core.specs.Answer.{has_failed, is_refused};
+ghost use Rattle.serial_core.specs.Command as serial;
+ghost use Rattle.serial_core.specs.Run.{Completes as Complete, HoldsAll, Run as SerialRun};
+ghost use Rattle.serial_core.specs.Standing.{InputCause};
+ghost use Rattle.cli_run.specs.Answer.{IsRefusedWhere, refused_word};
+ghost use Rattle.cli_run.specs.Meaning.{command_given, command_of};
+ghost use Rattle.cli_run.specs.Run.{Completes, OutputCause, Ran, Run};
 
-use crate::answer::{Ended, Refusal, Why};
 use crate::command::{Command, Line, line_of};
-use crate::input::run_input;
-use crate::laws::growth_laws;
 use crate::message::{Digits, write_message};
-use crate::options::{inputs_of, read_options, write_options};
-use crate::progress::Progress;
+use crate::planning::plan_of;
 use itoa::Buffer;
-use mlr_event::InputName;
-use mlr_spec::NoMemory;
+use mlr_plan::run_serial;
 use mlr_value::Bytes;
 use mlr_world::{Inputs, Outputs};
+use serial_core::{Ended, Refusal, Why};
 use std::alloc::Global;
 use std::sync::Wait;
 use std::thread::Threads;
@@ -40,8 +37,8 @@ pub fn run_mlr<
     inputs: I,
     outputs: &mut O,
 ) -> (Ended, I)
-    // Refused comes exactly where the words aren't flags of formats, then `cat`, then file names, at the first word at
-    // which no such line can go on, and nothing is read.
+    // Refused comes exactly where the words aren't flags of formats, then verbs that are built with their options, each
+    // behind `then` but the first, then file names, at the first word at which no such line can go on; nothing is read.
     ensures refused { IsRefusedWhere (refused_word words.now) result.0 }
     ensures untouched { is_refused result.0 ≡ true → result.1 ≡ inputs }
 
@@ -55,15 +52,14 @@ pub fn run_mlr<
     ensures output_counts { (target : Target) → O.faults outputs.old target ≤ O.faults outputs.new target }
     ensures output_cause { OutputCause result.0 (O.faults outputs.old) (O.faults outputs.new) }
 
-    // Where nothing fails and the inputs have no fault, it is done.
-    ensures completes { refused_word words.now ≡ None → HoldsClean words.now (I.contents inputs) (I.taken inputs)
+    // Where no call fails, the answer is that of all that the inputs hold, and standard output has its text.
+    ensures completes { (command : serial.Command) → command_given words.now ≡ Some command → (holds : HoldsAll command (I.contents inputs) (I.taken inputs))
         → ((name : InputName) → ¬ Rose (I.faults inputs name) (I.faults result.1 name))
         → ¬ Rose (O.faults outputs.old Stdout) (O.faults outputs.new Stdout)
-        → (result.0 ≡ Ended.Done) ⊎ (result.0 ≡ Ended.NoMemory) }
+        → Completes result.0 command holds.whole (O.held outputs.old) (O.held outputs.new) }
 {
     let _ = rt;
     let _ = env;
-    growth_laws();
     let mut digits = Digits {
         first: Buffer::new(),
         second: Buffer::new(),
@@ -71,7 +67,7 @@ pub fn run_mlr<
     };
     let mut inputs = inputs;
     let ended = run_command(alloc, words, &mut inputs, outputs);
-    let _ = write_message(words, &ended, &mut digits, outputs);
+    let _ = write_message(alloc, words, &ended, &mut digits, outputs);
     (ended, inputs)
 }
 
@@ -84,87 +80,43 @@ fn run_command<I: Inputs, O: Outputs>(
 ) -> Ended
     ensures refused { IsRefusedWhere (refused_word words.now) result }
     ensures untouched { is_refused result ≡ true → inputs.new ≡ inputs.old }
-    ensures run { WordsRun result words.now (I.contents inputs.old) (I.taken inputs.old) (I.taken inputs.new) (O.held outputs.old) (O.held outputs.new) }
+    ensures run { Ran words.now result (I.contents inputs.old) (I.taken inputs.old) (I.taken inputs.new) (O.held outputs.old) (O.held outputs.new) }
     ensures contents { I.contents inputs.new ≡ I.contents inputs.old }
     ensures input_cause { InputCause result (I.faults inputs.old) (I.faults inputs.new) }
-    ensures output_counts { Counted (output_failed result) (O.faults outputs.old) (O.faults outputs.new) Stdout }
+    ensures output_counts { Counted (has_failed result) (O.faults outputs.old) (O.faults outputs.new) Stdout }
     ensures shortages { O.shortages outputs.old ≤ O.shortages outputs.new }
+    ensures completes { (command : serial.Command) → command_given words.now ≡ Some command → (holds : HoldsAll command (I.contents inputs.old) (I.taken inputs.old))
+        → ((name : InputName) → ¬ Rose (I.faults inputs.old name) (I.faults inputs.new name)) → ¬ Rose (O.faults outputs.old Stdout) (O.faults outputs.new Stdout)
+        → Complete result command holds.whole (O.held outputs.old) (O.held outputs.new) }
 {
-    match line_of(words) {
+    match line_of(alloc, words) {
         Line::Refused(word) => Ended::Refused(Refusal {
             word,
             why: Why::NotBuilt,
         }),
-        Line::Accepted(command) => {
-            let names = words.get(command.names..).unwrap_or(&[]);
-            run_cat(alloc, command, names, inputs, outputs)
-        }
+        Line::Accepted(command) => run_accepted(alloc, words, command, inputs, outputs),
     }
 }
 
-/// Reads all inputs, one after another, and writes their records.
-fn run_cat<I: Inputs, O: Outputs>(
+/// Runs a command line that is accepted.
+fn run_accepted<I: Inputs, O: Outputs>(
     alloc: Global,
+    words: &[Bytes],
     command: Command,
-    names: &[Bytes],
     inputs: &mut I,
     outputs: &mut O,
 ) -> Ended
-    ensures run { CatRun result command (inputs_of names.now) (I.contents inputs.old) (I.taken inputs.old) (I.taken inputs.new) (O.held outputs.old) (O.held outputs.new) }
-    ensures not_refused { is_refused result ≡ false }
+    ensures run { SerialRun result (command_of command words.now) (I.contents inputs.old) (I.taken inputs.old) (I.taken inputs.new) (I.open_name inputs.new) (O.held outputs.old) (O.held outputs.new) }
     ensures contents { I.contents inputs.new ≡ I.contents inputs.old }
     ensures input_cause { InputCause result (I.faults inputs.old) (I.faults inputs.new) }
-    ensures output_counts { Counted (output_failed result) (O.faults outputs.old) (O.faults outputs.new) Stdout }
+    ensures output_counts { Counted (has_failed result) (O.faults outputs.old) (O.faults outputs.new) Stdout }
     ensures shortages { O.shortages outputs.old ≤ O.shortages outputs.new }
+    ensures completes { (holds : HoldsAll (command_of command words.now) (I.contents inputs.old) (I.taken inputs.old))
+        → ((name : InputName) → ¬ Rose (I.faults inputs.old name) (I.faults inputs.new name)) → ¬ Rose (O.faults outputs.old Stdout) (O.faults outputs.new Stdout)
+        → Complete result (command_of command words.now) holds.whole (O.held outputs.old) (O.held outputs.new) }
 {
-    let Ok(mut progress) = first_progress(alloc, command) else {
-        return Ended::NoMemory;
-    };
-    let Ok(names) = inputs_of(alloc, names) else {
-        return Ended::NoMemory;
-    };
-    run_inputs(alloc, command, names, &mut progress, inputs, outputs)
-}
-
-/// A run of which nothing was taken and nothing was written.
-fn first_progress(alloc: Global, command: Command) -> Result<Progress, NoMemory>
-    ensures ready { IfOk result (λ made. IsReady (write_options command) made []) }
-    ensures taken { IfOk result (λ made. made.taken ≡ 0) }
-    ensures nr { IfOk result (λ made. made.nr ≡ 0) }
-{
-    let opts = write_options(alloc, command)?;
-    Progress::new(alloc, &opts)
-}
-
-/// Reads these inputs, one after another, writes their records, and writes the end.
-fn run_inputs<I: Inputs, O: Outputs>(
-    alloc: Global,
-    command: Command,
-    names: Vec<InputName>,
-    progress: &mut Progress,
-    inputs: &mut I,
-    outputs: &mut O,
-) -> Ended
-    requires ready { IsReady (write_options command) progress.old [] }
-    requires taken { progress.old.taken ≡ 0 }
-    requires nr { progress.old.nr ≡ 0 }
-    requires few { length names.items ≤ 2 ^ 60 }
-    ensures run { CatRun result command names.items (I.contents inputs.old) (I.taken inputs.old) (I.taken inputs.new) (O.held outputs.old) (O.held outputs.new) }
-    ensures not_refused { is_refused result ≡ false }
-    ensures contents { I.contents inputs.new ≡ I.contents inputs.old }
-    ensures input_cause { InputCause result (I.faults inputs.old) (I.faults inputs.new) }
-    ensures output_counts { Counted (output_failed result) (O.faults outputs.old) (O.faults outputs.new) Stdout }
-    ensures shortages { O.shortages outputs.old ≤ O.shortages outputs.new }
-{
-    let Ok(read) = read_options(alloc, command.input) else {
-        return Ended::NoMemory;
-    };
-    let mut number = 1;
-    for name in names {
-        match run_input(alloc, &read, number, name, progress, inputs, outputs) {
-            None => number += 1,
-            Some(ended) => return ended,
-        }
+    match plan_of(alloc, words, command) {
+        Ok(plan) => run_serial(alloc, &plan, inputs, outputs),
+        Err(_) => Ended::NoMemory,
     }
-    progress.write_end(outputs)
 }

@@ -12,16 +12,16 @@ use std::thread::Threads;
 
 /// What a run leaves.
 #[derive(Drop)]
-struct Left {
-    ended: Ended,
-    outputs: MemOutputs,
+pub(crate) struct Left {
+    pub(crate) ended: Ended,
+    pub(crate) outputs: MemOutputs,
 }
 
 /// Two files, which the runs may name.
 const FILES: [(&str, &str); 2] = [("f", "a,b\n1,2\n"), ("g", "b\n3\n4,5\n")];
 
 /// Runs words over these two files and a standard input, which come in these pieces and fail at these calls.
-fn run<R: Threads + Wait + Copy + Send + 'static>(
+pub(crate) fn run<R: Threads + Wait + Copy + Send + 'static>(
     rt: &R,
     alloc: Global,
     words: &str,
@@ -52,7 +52,7 @@ fn run<R: Threads + Wait + Copy + Send + 'static>(
 }
 
 /// Outputs that hold nothing, with room for so many bytes, that fail at these calls.
-fn outputs(alloc: Global, room: usize, failing: &[u64]) -> Result<MemOutputs, NoMemory> {
+pub(crate) fn outputs(alloc: Global, room: usize, failing: &[u64]) -> Result<MemOutputs, NoMemory> {
     MemOutputs::new(
         alloc,
         Vec::new(alloc),
@@ -62,7 +62,7 @@ fn outputs(alloc: Global, room: usize, failing: &[u64]) -> Result<MemOutputs, No
 }
 
 /// The bytes of a target; none if it isn't held.
-fn bytes_of<'a>(outputs: &'a MemOutputs, target: &Target) -> &'a [u8] {
+pub(crate) fn bytes_of<'a>(outputs: &'a MemOutputs, target: &Target) -> &'a [u8] {
     match outputs.bytes_of(target) {
         Some(bytes) => bytes,
         None => b"",
@@ -70,7 +70,7 @@ fn bytes_of<'a>(outputs: &'a MemOutputs, target: &Target) -> &'a [u8] {
 }
 
 /// Words, standard input, standard output, the message, the status.
-type Row = (&'static str, &'static str, &'static str, &'static str, u8);
+pub(crate) type Row = (&'static str, &'static str, &'static str, &'static str, u8);
 
 /// DKVP.
 const DKVP: [Row; 10] = [
@@ -283,11 +283,17 @@ const NAMED: [Row; 6] = [
         1,
     ),
     ("--inidx --odkvp cat f", "", "1=a,b\n1=1,2\n", "", 0),
-    ("cat then", "", "", "mlr: cannot read then\n", 1),
+    (
+        "--icsv cat f then",
+        "",
+        "a=1,b=2\n",
+        "mlr: cannot read then\n",
+        1,
+    ),
 ];
 
 /// Checks each row, with the input cut at every byte.
-fn check_rows<R: Threads + Wait + Abort + Copy + Send + 'static>(
+pub(crate) fn check_rows<R: Threads + Wait + Abort + Copy + Send + 'static>(
     rt: &R,
     alloc: Global,
     rows: &[Row],

@@ -1,0 +1,143 @@
+//! The plan of a command line.
+ghost use Rattle.std.specs.Prelude.{◌≡◌, ◌++◌, ◌∷◌, [], None, false, map, IfOk, OnOk};
+ghost use Rattle.mlr_plan.specs.Plans.{IsCommandOf, IsSound};
+ghost use Rattle.cli_run.specs.Command.{ended};
+ghost use Rattle.cli_run.specs.Meaning.{command_of, field_of, spec_of, specs_of};
+
+use crate::command::{Command, Next, Place, after, plain};
+use crate::options::{inputs_of, names_of, read_options, write_options};
+use crate::verbs::{Asked, Numbers, may_end, numbers_of};
+use mlr_plan::{Plan, VerbSpec};
+use mlr_spec::NoMemory;
+use mlr_value::Bytes;
+use std::alloc::Global;
+use verbs_stream::{Cat, Head, Spec};
+
+/// At most so many records go from one thread to the next at a time, where no word says it.
+const PER_BATCH: u64 = 500;
+
+/// A loop of the language takes at most so many turns, where no word says it.
+const TURNS: u64 = 1_000_000_000;
+
+/// The plan of a command line that is accepted.
+pub(crate) fn plan_of(alloc: Global, words: &[Bytes], command: Command) -> Result<Plan, NoMemory>
+    ensures sound { IfOk result (λ plan. IsSound plan) }
+    ensures command { IfOk result (λ plan. IsCommandOf plan (command_of command words.now)) }
+{
+    let mut styles = Vec::new(alloc);
+    styles.push(write_options(alloc, command)?)?;
+    Ok(Plan {
+        read: read_options(alloc, command.input)?,
+        inputs: inputs_of(alloc, names_of(words, command))?,
+        no_input: false,
+        verbs: specs_of(alloc, words)?,
+        styles,
+        per_batch: PER_BATCH,
+        turns: TURNS,
+        serial: true,
+    })
+}
+
+/// The verbs that the words of a command line ask for.
+fn specs_of(alloc: Global, words: &[Bytes]) -> Result<Vec<VerbSpec>, NoMemory>
+    ensures { IfOk result (λ specs. specs.items ≡ specs_of words.now) }
+{
+    let mut specs = Vec::new(alloc);
+    let mut command = plain();
+    let mut place = Place::Flags;
+    for (before, word) in words.iter().enumerate() {
+        let next = after(alloc, before + 1, command, place, word.as_slice());
+        match next {
+            Next::Word(then, at) => {
+                if let Place::Verb = at {
+                    push_ended(alloc, words, place, &mut specs)?;
+                }
+                command = then;
+                place = at;
+            }
+            Next::Names => {
+                push_ended(alloc, words, place, &mut specs)?;
+                return Ok(specs);
+            }
+            Next::Refuse => return Ok(specs),
+        }
+    }
+    push_ended(alloc, words, place, &mut specs)?;
+    Ok(specs)
+}
+
+/// Puts the verb last whose options were read, where it may end.
+fn push_ended(
+    alloc: Global,
+    words: &[Bytes],
+    place: Place,
+    specs: &mut Vec<VerbSpec>,
+) -> Result<(), NoMemory>
+    ensures { OnOk result (specs.new.items ≡ specs.old.items ++ map (spec_of words.now) (ended place)) }
+{
+    if let Place::Options(asked) = place {
+        if may_end(alloc, asked) {
+            return push_spec(alloc, words, asked, specs);
+        }
+    }
+    Ok(())
+}
+
+/// Puts a verb with its options last.
+fn push_spec(
+    alloc: Global,
+    words: &[Bytes],
+    asked: Asked,
+    specs: &mut Vec<VerbSpec>,
+) -> Result<(), NoMemory>
+    ensures { OnOk result (specs.new.items ≡ specs.old.items ++ spec_of words.now asked ∷ []) }
+{
+    match asked {
+        Asked::Cat => {
+            let name = Bytes::copy_of(alloc, b"n")?;
+            push(specs, VerbSpec::Stream(Spec::Cat(plain_cat(name))))
+        }
+        Asked::Nothing => push(specs, VerbSpec::Stream(Spec::Nothing)),
+        Asked::Head(count) => push(
+            specs,
+            VerbSpec::Stream(Spec::Head(Head {
+                count,
+                groups: None,
+            })),
+        ),
+        Asked::Seq(numbers) => {
+            let field = field_of(alloc, words, numbers)?;
+            push(specs, VerbSpec::Seq(numbers_of(field, numbers)))
+        }
+    }
+}
+
+fn plain_cat(name: Bytes) -> Cat
+    ensures { result ≡ (record { number = false; name = name; groups = None }) }
+{
+    Cat {
+        number: false,
+        name,
+        groups: None,
+    }
+}
+
+fn push(specs: &mut Vec<VerbSpec>, spec: VerbSpec) -> Result<(), NoMemory>
+    ensures { OnOk result (specs.new.items ≡ specs.old.items ++ spec ∷ []) }
+{
+    specs.push(spec)?;
+    Ok(())
+}
+
+/// The field of `seqgen`: `i` where no word names it.
+fn field_of(alloc: Global, words: &[Bytes], numbers: Numbers) -> Result<Bytes, NoMemory>
+    ensures { IfOk result (λ field. field ≡ field_of words.now numbers) }
+{
+    if numbers.field == 0 {
+        return Bytes::copy_of(alloc, b"i");
+    }
+    match words.get(numbers.field - 1) {
+        Some(word) => Bytes::copy_of(alloc, word.as_slice()),
+        None => Ok(Bytes::new(alloc)),
+    }
+}
