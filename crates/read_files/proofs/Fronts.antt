@@ -1,5 +1,5 @@
 -- What was taken, among all that the inputs hold.
-use Rattle.std.proofs.Common.{◌≡◌, ℕ, ◌+◌, ◌-◌, ◌<◌, ◌≤◌, Bool, true, false, List, [], ◌∷◌, ◌++◌, length, Option, Some, None, refl, ap, sym, subst, ◌∙◌, arith, length-append, inl, inr}
+use Rattle.std.proofs.Common.{◌≡◌, ℕ, ◌-◌, ◌<◌, true, false, List, [], ◌∷◌, ◌++◌, length, Option, Some, None, refl, ap, sym, subst, ◌∙◌, arith, length-append, inl, inr}
 use Rattle.std.specs.Prelude.{drop, if◌then◌else◌, nat_le, take}
 use Rattle.std.proofs.lemmas.Bool.{cases_Bool, false≢true, leb-true, lt-leb}
 use Rattle.std.proofs.lemmas.List.{append-nil, take-append-drop, take-append-le}
