@@ -1,5 +1,5 @@
 ghost use Rattle.std.specs.Prelude.{◌≡◌, IfOk};
-ghost use Rattle.mlr_plan.specs.Plans.{AreSameVerbs, IsCopy};
+ghost use Rattle.mlr_plan.specs.Plans.{AreSameVerbs, IsCopy, IsSound};
 
 use crate::verb_spec::VerbSpec;
 use mlr_event::{InputName, ReadOpts};
@@ -31,7 +31,8 @@ pub struct Plan {
 impl Plan {
     /// A copy, which shares the patterns. It takes memory for lists, and for texts of more than 16 bytes.
     pub fn copy(&self, alloc: Global) -> Result<Self, NoMemory>
-        ensures { IfOk result (λ copy. IsCopy self.now copy) }
+        ensures copy { IfOk result (λ copy. IsCopy self.now copy) }
+        ensures sound { IfOk result (λ copy. IsSound self.now → IsSound copy) }
     {
         Ok(Plan {
             read: self.read.copy(alloc)?,

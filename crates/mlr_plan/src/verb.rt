@@ -31,14 +31,18 @@ impl Verb {
     }
 
     /// Puts what the verb makes before all events behind `out`. It is called once, before the first step.
-    pub fn begin(&mut self, _out: &mut Events) -> Result<(), NoMemory>
+    pub fn begin(&mut self, out: &mut Events) -> Result<(), NoMemory>
         requires { ⟦<Verb as Step>⟧.stands self.old [] }
         ensures verb { ⟦<Verb as Step>⟧.verb self.new ≡ ⟦<Verb as Step>⟧.verb self.old }
         ensures stands { OnOk result (⟦<Verb as Step>⟧.stands self.new []) }
-        ensures first { OnOk result (_out.new ≡ _out.old ++ (⟦<Verb as Step>⟧.verb self.old).first) }
+        ensures first { OnOk result (out.new ≡ out.old ++ (⟦<Verb as Step>⟧.verb self.old).first) }
     {
         match self {
-            Verb::Stream(_) => Ok(()),
+            // It makes nothing before them.
+            Verb::Stream(_) => {
+                let _ = out;
+                Ok(())
+            }
         }
     }
 }
