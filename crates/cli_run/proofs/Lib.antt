@@ -2,3 +2,4 @@ pub mod Sound
 pub mod Answering
 pub mod Top
 pub mod Messages
+pub mod Rows

@@ -217,4 +217,4 @@ origin-same read read' inputs inputs' specs specs' r i s =
     ap (λ x. origin_or (files x inputs) specs) (sym r) ∙ ap (λ x. origin_or (files read' x) specs) (sym i) ∙ ap (origin_or (files read' inputs')) (sym s)
 
 pub specs-sound : (words : List (List ℕ)) → AreSound (specs_of words)
-specs-sound words = first words 0 (plain 0) Flags words
+specs-sound words = first words 0 plain Flags words

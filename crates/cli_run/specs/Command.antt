@@ -51,9 +51,9 @@ both_flag word =
     if bytes_eq word (codes "--xtab") then Some Xtab else (
     if bytes_eq word (codes "--pprint") then Some Pprint else None)))))))
 
--- a command line without flags: DKVP in and out, and the file names begin behind so many words
-abbrev pub plain : ℕ → Command
-plain names = record { input = Dkvp; output = Dkvp; names = names }
+-- a command line without words: DKVP in and out
+abbrev pub plain : Command
+plain = record { input = Dkvp; output = Dkvp; names = 0 }
 
 -- what a flag makes of a command, if the word is one
 abbrev pub flagged : List ℕ → Command → Option Command
@@ -103,7 +103,7 @@ line_from n command place (word ∷ words) = elim (after (n + 1) command place w
 ]
 
 abbrev pub line_of : List (List ℕ) → Line
-line_of words = line_from 0 (plain 0) Flags words
+line_of words = line_from 0 plain Flags words
 
 -- the verb whose options were read, where it may end
 abbrev pub ended : Place → List Asked
@@ -131,7 +131,7 @@ asked_from n command place (word ∷ words) = ended_by place (after (n + 1) comm
 ]
 
 abbrev pub asked : List (List ℕ) → List Asked
-asked words = asked_from 0 (plain 0) Flags words
+asked words = asked_from 0 plain Flags words
 
 -- the names of the files that a command reads
 abbrev pub names_of : Command → List (List ℕ) → List (List ℕ)

@@ -159,7 +159,7 @@ pub(crate) enum Next {
 
 /// DKVP in and out.
 pub(crate) fn plain() -> Command
-    ensures { result ≡ plain 0 }
+    ensures { result ≡ plain }
 {
     Command {
         input: Format::Dkvp,

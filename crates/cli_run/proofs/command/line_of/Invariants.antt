@@ -1,4 +1,4 @@
-use Rattle.std.proofs.Common.{◌≡◌, ◌+◌, drop}
+use Rattle.std.proofs.Common.{◌≡◌, drop}
 use Rattle.cli_run.specs.Command.{line_from, line_of}
 use Rattle.cli_run.proofs.command.line_of.Given as goal
 

@@ -1,10 +1,8 @@
 use Rattle.std.proofs.Common.{subst}
-use Rattle.std.specs.Prelude.{◌≡◌}
 use Rattle.mlr_event.specs.declared.names.InputName.{InputName}
 use Rattle.mlr_event.specs.declared.names.Target.TheVariants.{Stdout}
 use Rattle.mlr_world.specs.Counts.{Rose}
 use Rattle.cli_run.specs.Command.{line_of}
-use Rattle.cli_run.specs.Meaning.{command_of}
 use Rattle.cli_run.proofs.Answering.{CompletesAs, command-is}
 use Rattle.cli_run.proofs.run.run_command.Goals as goal
 
