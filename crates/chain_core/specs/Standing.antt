@@ -5,7 +5,7 @@ use Rattle.mlr_event.specs.declared.event.Event.{Event}
 use Rattle.mlr_event.specs.Verb.{Verb, made}
 use Rattle.chain_core.specs.Chain.{closing, cut, last_context, zero_context}
 use Rattle.chain_core.specs.declared.gate.Gate.{Gate}
-use Rattle.chain_core.specs.declared.stages.Stages.{Stages}
+use Rattle.chain_core.specs.declared.chain.Chain.{Chain}
 use Rattle.chain_core.specs.declared.stage.Stage.{Stage}
 
 -- whether a verb was closed, at a quiet place
@@ -31,7 +31,7 @@ StagesStand verb stands quiet given (stage ∷ stages) =
 abbrev pub verbs_of : {S : Type 0} → (S → Verb) → List (Stage S) → List Verb
 verbs_of verb stages = map (λ stage. verb stage.gate.verb) stages
 
-abbrev pub verbs_in : {S : Type 0} → (S → Verb) → Stages S → List Verb
+abbrev pub verbs_in : {S : Type 0} → (S → Verb) → Chain S → List Verb
 verbs_in verb stages = verbs_of verb stages.stages.items
 
 -- whether no verb has effects
@@ -39,7 +39,7 @@ abbrev pub all_quiet : List Verb → Bool
 all_quiet verbs = list_all (λ verb. not verb.effects) verbs
 
 -- verbs were given these events
-pub record StandsFor {S : Type 0} (verb : S → Verb) (stands : S → List Event → Type 0) (given : List Event) (all : Stages S) : Type 0 where
+pub record StandsFor {S : Type 0} (verb : S → Verb) (stands : S → List Event → Type 0) (given : List Event) (all : Chain S) : Type 0 where
   pub stages : StagesStand verb stands true given all.stages.items
   pub quiet : all.quiet ≡ all_quiet (verbs_in verb all)
   pub room : all.room ≡ []

@@ -5,7 +5,7 @@ ghost use Rattle.mlr_plan.specs.Plans.{AreSound, AreVerbs, IsVerb, verbs_of};
 
 use crate::verb::Verb;
 use crate::verb_spec::VerbSpec;
-use chain_core::Stages;
+use chain_core::Chain;
 use mlr_event::{Events, Step};
 use mlr_spec::NoMemory;
 use std::alloc::Global;
@@ -16,14 +16,14 @@ pub fn chain_of(
     alloc: Global,
     verbs: &[VerbSpec],
     made: &mut Events,
-) -> Result<Stages<Verb>, NoMemory>
+) -> Result<Chain<Verb>, NoMemory>
     requires sound { AreSound verbs.now }
     requires empty { made.old ≡ [] }
     ensures verbs { IfOk result (λ stages. verbs_in ⟦<Verb as Step>⟧.verb stages ≡ verbs_of verbs.now) }
     ensures stands { IfOk result (λ stages. StandsFor ⟦<Verb as Step>⟧.verb ⟦<Verb as Step>⟧.stands [] stages) }
     ensures made { IfOk result (λ _. made.new ≡ chain (verbs_of verbs.now) []) }
 {
-    let mut stages = Stages::new(alloc);
+    let mut stages = Chain::new(alloc);
     for spec in without_source(verbs) {
         push_verb(alloc, spec, &mut stages, made)?;
     }
@@ -46,7 +46,7 @@ fn without_source(verbs: &[VerbSpec]) -> &[VerbSpec]
 fn push_verb(
     alloc: Global,
     spec: &VerbSpec,
-    stages: &mut Stages<Verb>,
+    stages: &mut Chain<Verb>,
     made: &mut Events,
 ) -> Result<(), NoMemory>
     requires verb { IsVerb spec.now }

@@ -64,7 +64,7 @@ module _ (opts : ReadOpts) (names : List InputName) (before : Option (List Take)
   says-as : (turned : ReadTurn) → file.TurnSays turned opts names given t.given' → ReadSays turned (files opts names) t.given' (read ++ t.more) []
   says-as turn.Went says = (ap is_open all-is ∙ says.0, says.1, inl refl)
   says-as turn.Ended says = (ap is_open all-is ∙ says, refl)
-  says-as (turn.Failed name) says = (ap is_open all-is ∙ says.0, refl, says.2)
+  says-as (turn.Failed name) says = (ap is_open all-is ∙ says.0, refl, says.2, says.1)
   says-as turn.TooLong says = (ap is_open all-is ∙ says.0, refl, says.1)
   says-as turn.NoMemory says = tt
 
@@ -93,7 +93,7 @@ module _ (opts : ReadOpts) (names : List InputName) (before : Option (List Take)
     says = says-as took t.says;
     stands = λ went. (t.stands went, all-is ∙ open-source opts names t.given' (went-open took went t.says));
     early = early-at all order (stops_at names given) refl;
-    moves = λ went. inl (says-of turn.Went went).2;
+    came_on = λ went. (says-of turn.Went went).2;
   }
 
 records-open : (seq : SeqSpec) (places : List ℕ) → is_open (map (seq_event seq) places) ≡ true
@@ -144,7 +144,7 @@ module _ (seq : SeqSpec) (before : Option (List Take)) (given : List Take) (read
         says = (ap is_open all ∙ records-open seq (range_with_len 0 (n + c.some)), omega (arith, ap total given_is), inr given_is);
         stands = λ went. (n + c.some, sound, next.2, all, given_is);
         early = inl refl;
-        moves = λ went. inr next.1;
+        came_on = λ went. next.1;
       }
   numbers-read turn.Ended c =
       let all : read ++ c.put ≡ seq_all seq = ap (λ xs. xs ++ c.put) read_is ∙ c.last refl in
@@ -160,7 +160,7 @@ module _ (seq : SeqSpec) (before : Option (List Take)) (given : List Take) (read
         says = (ap is_open all ∙ end-open (seq_events seq 0 (seq_count seq)) (seq_context (seq_count seq)), refl);
         stands = λ went. absurd (let f = went in cc);
         early = inl refl;
-        moves = λ went. absurd (let f = went in cc);
+        came_on = λ went. absurd (let f = went in cc);
       }
   numbers-read (turn.Failed failed) c = absurd (never c.answers)
     where
@@ -186,7 +186,7 @@ module _ (seq : SeqSpec) (before : Option (List Take)) (given : List Take) (read
     says = tt;
     stands = λ went. absurd (let f = went in cc);
     early = inl refl;
-    moves = λ went. absurd (let f = went in cc);
+    came_on = λ went. absurd (let f = went in cc);
   }
 
 -- the numbers leave the inputs as they are

@@ -93,7 +93,7 @@ module _ {S : Type 0} (verb : S → Verb) (stands : S → List Event → Type 0)
         few = says.1;
         goes = p.says;
         may_go_on = may-go-on p.says says.2;
-        moves = r.moves is;
+        came_on = r.came_on is;
         stand = record {
           reader = subst (ReaderStands command.origin r.given' (read ++ r.put)) (sym same) (r.stands is);
           clear = says.0;
@@ -112,7 +112,7 @@ module _ {S : Type 0} (verb : S → Verb) (stands : S → List Event → Type 0)
   goes-passed memory now held held' turn.Went is says same p = went-passed memory now held held' says is same p
   goes-passed memory now held held' turn.Ended is says same p = absurd (true≢false (sym p.says ∙ chain-closes true command.verbs (read ++ r.put) says.0))
   goes-passed memory now held held' (turn.Failed name) is says same p = record {
-    says = (open-result says.1 p.says, says.2);
+    says = (open-result says.1 p.says, says.2, says.3);
     more = p.more;
     text = ap (λ t. out_of command.write (chain command.verbs t)) (all-read says.1) ∙ p.text;
     leaves = p.leaves;
@@ -150,7 +150,7 @@ module _ {S : Type 0} (verb : S → Verb) (stands : S → List Event → Type 0)
       let says = subst (λ t. ReadSays t command.origin r.given' (read ++ r.put) r.rest) is r.says in
       let all : given_by command.origin r.given' ≡ read = all-read says.1 ∙ ap (λ t. read ++ t) (r.fails name is) ∙ append-nil read in
       record {
-        says = (ap (λ t. is_open (chain command.verbs t)) all ∙ settled.all.outlet.clear, says.2);
+        says = (ap (λ t. is_open (chain command.verbs t)) all ∙ settled.all.outlet.clear, says.2, says.3);
         more = [];
         text = ap (λ t. out_of command.write (chain command.verbs t)) all ∙ sym (append-nil (out_of command.write (chain command.verbs read)));
         leaves = ChangesAt-none Stdout (Leaves (answer.Read name) []) with_bytes-none held;

@@ -94,28 +94,6 @@ module _ {S : Type 0} (verb : S → Verb) (stands : S → List Event → Type 0)
       early = ends now.given ran.given' taken name (reader-order command.origin now.given now.read serial.reader now.at.reader) now.behind now.may_go_on ran.outcome.early ran.took.one_read;
     }
 
-  pub out-of-turns : EndsEarly command before contents → (grows : (events behind : List Event) → (more : List Event) × (chain command.verbs (events ++ behind) ≡ chain command.verbs events ++ more))
-      (writes : (events behind : List Event) → is_open events ≡ true → (more : List ℕ) × (out_of command.write (events ++ behind) ≡ out_of command.write events ++ more))
-      → (taken : Option (List Take)) (name : Option InputName) (first held : Option Held) (serial : Serial S) (now : Going verb stands command before contents taken name first held serial)
-      → Run answer.NoMemory command contents before taken name first held
-  out-of-turns ends grows writes taken name first held serial now =
-      let rest = reader-rest command.origin now.given now.read serial.reader now.at.reader in
-      let made = grows now.read rest.0 in
-      let all : result command now.given ≡ now.shown ++ (serial.events ++ made.0) =
-      ap (chain command.verbs) rest.1 ∙ made.1 ∙ ap (λ t. t ++ made.0) now.at.at_hand ∙ append_assoc now.shown serial.events made.0 in
-      let more = writes now.shown (serial.events ++ made.0) now.at.outlet.clear in
-      record {
-        given = now.given;
-        order = reader-order command.origin now.given now.read serial.reader now.at.reader;
-        behind = now.behind;
-        few = omega (arith, reader-few command.origin now.given now.read serial.reader now.at.reader);
-        says = tt;
-        leaves =
-            ChangesAt-map Stdout (λ b n. n ≡ with_bytes (out_of command.write now.shown) b) (PutsFront (text command now.given))
-            (λ b n is. (out_of command.write now.shown, (more.0, ap (out_of command.write) all ∙ more.1), is)) first held now.leaves;
-        early = ends now.given now.given taken name (reader-order command.origin now.given now.read serial.reader now.at.reader) now.behind now.may_go_on (inl refl) (omega arith);
-      }
-
 -- counts behind calls that changed none
 pub cause-from : (ended : Ended) (f0 f1 f2 : InputName → ℕ) → ((name : InputName) → f1 name ≡ f0 name) → InputCause ended f1 f2 → InputCause ended f0 f2
 cause-from answer.Done f0 f1 f2 same cause = λ name. cause name ∙ same name

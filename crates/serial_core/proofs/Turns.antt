@@ -129,7 +129,7 @@ module _ {S : Type 0} (verb : S → Verb) (stands : S → List Event → Type 0)
     few = o.few;
     goes = o.goes;
     may_go_on = o.may_go_on;
-    moves = o.moves;
+    came_on = o.came_on;
     stand = o.stand;
     more = wrote.more ++ o.more;
     text = o.text ∙ ap (λ t. t ++ o.more) (ap (out_of command.write) at.at_hand ∙ wrote.text) ∙ append_assoc (out_of command.write shown) wrote.more o.more;

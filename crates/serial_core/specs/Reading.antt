@@ -39,7 +39,7 @@ pub record Counts (turn : ReadTurn) (spec : SeqSpec) (given : ℕ) (after : SeqS
 abbrev pub ReadSays : ReadTurn → Origin → List Take → List Event → List Event → Type 0
 ReadSays Went origin given read rest = (is_open read ≡ true) × (total given < 2 ^ 60) × ((rest ≡ []) ⊎ (given ≡ []))
 ReadSays Ended origin given read rest = (is_open read ≡ false) × (rest ≡ [])
-ReadSays (Failed name) origin given read rest = (is_open read ≡ true) × (rest ≡ []) × (stops_at (names_of origin) given ≡ Some name)
+ReadSays (Failed name) origin given read rest = (is_open read ≡ true) × (rest ≡ []) × (stops_at (names_of origin) given ≡ Some name) × (total given < 2 ^ 60)
 ReadSays TooLong origin given read rest = (is_open read ≡ true) × (rest ≡ []) × (total given ≡ 2 ^ 60)
 ReadSays NoMemory origin given read rest = Unit {0}
 
@@ -50,6 +50,11 @@ pub record TookMore (origin : Origin) (before : Option (List Take)) (given given
   pub behind : Behind before given' contents taken' name'
   pub one_read : total given' < total given + 65536
   pub few : total given' ≤ 2 ^ 60
+
+-- the run came on: more was taken of the inputs, or more numbers came
+abbrev pub CameOn : Origin → List Take → List Take → List Event → Type 0
+CameOn (files opts names) given given' put = total given + ends given < total given' + ends given'
+CameOn (numbers spec) given given' put = put ≡ [] → ⊥
 
 -- What a turn did: more was taken, and but for want of memory the next events were put out.
 pub record Read (turn : ReadTurn) (origin : Origin) (before : Option (List Take)) (given : List Take) (read : List Event) (after : Reader) (contents : Option Contents) (taken' : Option (List Take)) (name' : Option InputName) (out out' : List Event) : Type 0 where
@@ -64,4 +69,4 @@ pub record Read (turn : ReadTurn) (origin : Origin) (before : Option (List Take)
   pub says : ReadSays turn origin given' (read ++ put) rest
   pub stands : turn ≡ Went → ReaderStands origin given' (read ++ put) after
   pub early : (given' ≡ given) ⊎ (given_by origin given ≡ read)
-  pub moves : turn ≡ Went → (total given + ends given < total given' + ends given') ⊎ (put ≡ [] → ⊥)
+  pub came_on : turn ≡ Went → CameOn origin given given' put

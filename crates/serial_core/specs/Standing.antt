@@ -16,7 +16,7 @@ use Rattle.chain_core.specs.Chain.{chain}
 use Rattle.chain_core.specs.Standing as chain
 use Rattle.read_files.specs.declared.reader.ReadTurn.{ReadTurn}
 use Rattle.read_files.specs.declared.reader.ReadTurn.TheVariants as turn
-use Rattle.read_files.specs.Given.{ends, stops_at, total}
+use Rattle.read_files.specs.Given.{stops_at, total}
 use Rattle.serial_core.specs.declared.answer.Ended.{Ended}
 use Rattle.serial_core.specs.declared.answer.Ended.TheVariants as answer
 use Rattle.serial_core.specs.declared.serial.Serial.{Serial}
@@ -24,7 +24,7 @@ use Rattle.serial_core.specs.declared.serial.SerialTurn.{SerialTurn}
 use Rattle.serial_core.specs.declared.serial.SerialTurn.TheVariants.{Went, Over}
 use Rattle.serial_core.specs.Answer.{has_failed}
 use Rattle.serial_core.specs.Command.{Command, given_by, names_of, result}
-use Rattle.serial_core.specs.Reading.{ReaderStands, TookMore}
+use Rattle.serial_core.specs.Reading.{CameOn, ReaderStands, TookMore}
 
 -- It runs this command; this was taken of the inputs, these events were read, and the text of these was written of what the
 -- verbs made of them. The others are at hand.
@@ -50,7 +50,7 @@ abbrev pub Says : Ended → Command → List Take → Type 0
 Says answer.Done command given = list_any is_end (result command given) ≡ true
 Says (answer.Refused refusal) command given = ⊥
 Says (answer.Data fault) command given = fault_in (result command given) ≡ Some fault
-Says (answer.Read name) command given = (is_open (result command given) ≡ true) × (stops_at (names_of command.origin) given ≡ Some name)
+Says (answer.Read name) command given = (is_open (result command given) ≡ true) × (stops_at (names_of command.origin) given ≡ Some name) × (total given < 2 ^ 60)
 Says (answer.Written target) command given = target ≡ Stdout
 Says answer.TooLong command given = (is_open (result command given) ≡ true) × (total given ≡ 2 ^ 60)
 Says answer.NoMemory command given = Unit {0}
@@ -77,7 +77,7 @@ pub record WentOn {S : Type 0} (verb : S → Verb) (stands : S → List Event �
   pub few : total given' < 2 ^ 60
   pub goes : is_open (chain command.verbs (read ++ put)) ≡ true
   pub may_go_on : MayGoOn command given'
-  pub moves : (total given + ends given < total given' + ends given') ⊎ (put ≡ [] → ⊥)
+  pub came_on : CameOn command.origin given given' put
   pub stand : SerialStands verb stands command given' (read ++ put) (chain command.verbs (read ++ put)) after
   pub more : List ℕ
   pub text : out_of command.write (chain command.verbs (read ++ put)) ≡ out_of command.write shown ++ more

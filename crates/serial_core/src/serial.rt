@@ -18,7 +18,7 @@ ghost use Rattle.serial_core.specs.Standing.{Begins, CanPass, InputCause, Passed
 
 use crate::answer::Ended;
 use crate::reader::Reader;
-use chain_core::{Stages, chain_laws};
+use chain_core::{Chain, chain_laws};
 use mlr_event::{Events, Step};
 use mlr_world::{Inputs, Outputs};
 use outlet::{Let, Outlet, outlet_laws};
@@ -33,14 +33,11 @@ pub enum SerialTurn {
     Over(Ended),
 }
 
-/// More turns than any run has, since each takes a byte, the end of an input or a number.
-const MOST_TURNS: u64 = u64::MAX;
-
 /// A run that goes from turn to turn. It stands for what was taken of the inputs.
 #[derive(Drop)]
 pub struct Serial<S> {
     reader: Reader,
-    stages: Stages<S>,
+    stages: Chain<S>,
     outlet: Outlet,
     /// What the verbs have made, and what of it isn't written.
     events: Events,
@@ -49,7 +46,7 @@ pub struct Serial<S> {
 impl<S: Step + Drop> Serial<S> {
     /// A run that begins: what the verbs have made of nothing is in `made`, and nothing was read or written. It takes no
     /// memory.
-    pub fn new(reader: Reader, stages: Stages<S>, made: Events, outlet: Outlet) -> Self
+    pub fn new(reader: Reader, stages: Chain<S>, made: Events, outlet: Outlet) -> Self
         ensures { (command : Command) → ReaderStands command.origin [] [] reader → verbs_in S.verb stages ≡ command.verbs → Chained S.verb S.stands [] stages → made ≡ chain command.verbs [] → StandsFor command.write [] outlet → Begins S.verb S.stands command result }
     {
         Serial {
@@ -95,13 +92,12 @@ impl<S: Step + Drop> Serial<S> {
         chain_laws();
         outlet_laws();
         source_laws();
-        for _ in 0..MOST_TURNS {
+        loop {
             match self.turn(inputs, outputs) {
                 SerialTurn::Went => {}
                 SerialTurn::Over(ended) => return ended,
             }
         }
-        Ended::NoMemory
     }
 
     /// Makes a read, and writes all text that is fixed then. Nothing is at hand.

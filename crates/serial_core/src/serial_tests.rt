@@ -6,7 +6,7 @@ ghost use Rattle.serial_core.specs.Standing.{Begins};
 
 use crate::first_record::FirstRecord;
 use crate::{Ended, Reader, Serial};
-use chain_core::Stages;
+use chain_core::Chain;
 use mlr_event::models::Cat;
 use mlr_event::{Comments, Events, Format, InputName, ReadOpts, Step, Target};
 use mlr_spec::{InferOpts, NoMemory};
@@ -60,7 +60,7 @@ fn run_of<S: Step + Drop>(
     requires first { (S.verb verb).first ≡ [] }
     ensures { IfOk result (λ made. (origin : Origin) → ReaderStands origin [] [] reader → Begins S.verb S.stands (record { origin = origin; verbs = S.verb verb ∷ []; write = write.now }) made) }
 {
-    let mut stages = Stages::new(alloc);
+    let mut stages = Chain::new(alloc);
     let mut made = Events::new(alloc);
     stages.push(verb, Events::new(alloc), &mut made)?;
     let outlet = Outlet::new(alloc, write)?;

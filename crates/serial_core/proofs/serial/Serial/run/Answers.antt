@@ -3,13 +3,14 @@ use Rattle.read_files.specs.Given.{Behind}
 use Rattle.serial_core.specs.declared.serial.SerialTurn.TheVariants.{Went, Over}
 use Rattle.serial_core.specs.Answer.{has_failed}
 use Rattle.serial_core.specs.Standing.{Ran}
-use Rattle.serial_core.proofs.Running.{behind-none, came-over, cause-from, counted-from, going-first, going-on, out-of-turns}
+use Rattle.serial_core.proofs.Left.{less-left}
+use Rattle.serial_core.proofs.Running.{behind-none, came-over, cause-from, counted-from, going-first, going-on}
 use Rattle.serial_core.proofs.Stopping.{completes, stopped-early}
 use Rattle.serial_core.proofs.Turns.{chained}
 use Rattle.serial_core.proofs.serial.Serial.run.Goals as goal
 
-pub loop-init : goal.loop-init
-loop-init g c = (
+pub loop-ended-init : goal.loop-ended-init
+loop-ended-init g c = (
   refl,
   λ name. refl,
   λ target. refl,
@@ -21,84 +22,70 @@ loop-init g c = (
 
 pub turn-requires : goal.turn-requires
 turn-requires g c =
-    let now = c.loop.invariant.4 c.requires.0 c.requires.1 in
-    (c.requires.0, g.I.Inputs.taken c.args.inputs.now, now.given, now.read, now.shown, now.at, subst (λ t. Behind (g.I.Inputs.taken c.args.inputs.now) now.given t (g.I.Inputs.taken c.loop.inputs) (g.I.Inputs.open_name c.loop.inputs)) (sym c.loop.invariant.0) now.behind)
+    let now = c.loop-ended.invariant.4 c.requires.0 c.requires.1 in
+    (c.requires.0, g.I.Inputs.taken c.args.inputs.now, now.given, now.read, now.shown, now.at, subst (λ t. Behind (g.I.Inputs.taken c.args.inputs.now) now.given t (g.I.Inputs.taken c.loop-ended.inputs) (g.I.Inputs.open_name c.loop-ended.inputs)) (sym c.loop-ended.invariant.0) now.behind)
 
 pub returns-in-Over-clause-run : goal.returns-in-Over-clause-run
 returns-in-Over-clause-run g c command begins =
-    let now = c.loop.invariant.4 command begins in
-    came-over g.S.Step.verb g.S.Step.stands command (g.I.Inputs.taken c.args.inputs.now) (g.I.Inputs.contents c.args.inputs.now) (g.I.Inputs.taken c.loop.inputs) (g.I.Inputs.open_name c.loop.inputs)
-    (g.O.Outputs.held c.args.outputs.now) (g.O.Outputs.held c.loop.outputs) c.loop.self now c.turn.new.self (g.I.Inputs.taken c.turn.new.inputs) (g.I.Inputs.open_name c.turn.new.inputs) (g.O.Outputs.held c.turn.new.outputs)
+    let now = c.loop-ended.invariant.4 command begins in
+    came-over g.S.Step.verb g.S.Step.stands command (g.I.Inputs.taken c.args.inputs.now) (g.I.Inputs.contents c.args.inputs.now) (g.I.Inputs.taken c.loop-ended.inputs) (g.I.Inputs.open_name c.loop-ended.inputs)
+    (g.O.Outputs.held c.args.outputs.now) (g.O.Outputs.held c.loop-ended.outputs) c.loop-ended.self now c.turn.new.self (g.I.Inputs.taken c.turn.new.inputs) (g.I.Inputs.open_name c.turn.new.inputs) (g.O.Outputs.held c.turn.new.outputs)
     (stopped-early c.source_laws.ensures.list c.source_laws.ensures.grows c.source_laws.ensures.fixed command (c.chain_laws.ensures.growth command.verbs)
     (chained g.S.Step.verb g.S.Step.stands g.met.S.Step.orderly command [] [] [] c.args.self.now begins) c.source_laws.ensures.early (g.I.Inputs.taken c.args.inputs.now) (g.I.Inputs.contents c.args.inputs.now)) c.in-Over.ended
-    (subst (λ t. Ran (Over c.in-Over.ended) g.S.Step.verb g.S.Step.stands command (g.I.Inputs.taken c.args.inputs.now) now.given now.read now.shown c.turn.new.self t (g.I.Inputs.taken c.turn.new.inputs) (g.I.Inputs.open_name c.turn.new.inputs) (g.O.Outputs.held c.loop.outputs) (g.O.Outputs.held c.turn.new.outputs))
-    c.loop.invariant.0
-    (c.in-Over.ensures.ran command (g.I.Inputs.taken c.args.inputs.now) now.given now.read now.shown now.at (subst (λ t. Behind (g.I.Inputs.taken c.args.inputs.now) now.given t (g.I.Inputs.taken c.loop.inputs) (g.I.Inputs.open_name c.loop.inputs)) (sym c.loop.invariant.0) now.behind)))
+    (subst (λ t. Ran (Over c.in-Over.ended) g.S.Step.verb g.S.Step.stands command (g.I.Inputs.taken c.args.inputs.now) now.given now.read now.shown c.turn.new.self t (g.I.Inputs.taken c.turn.new.inputs) (g.I.Inputs.open_name c.turn.new.inputs) (g.O.Outputs.held c.loop-ended.outputs) (g.O.Outputs.held c.turn.new.outputs))
+    c.loop-ended.invariant.0
+    (c.in-Over.ensures.ran command (g.I.Inputs.taken c.args.inputs.now) now.given now.read now.shown now.at (subst (λ t. Behind (g.I.Inputs.taken c.args.inputs.now) now.given t (g.I.Inputs.taken c.loop-ended.inputs) (g.I.Inputs.open_name c.loop-ended.inputs)) (sym c.loop-ended.invariant.0) now.behind)))
 
 pub returns-in-Over-clause-contents : goal.returns-in-Over-clause-contents
-returns-in-Over-clause-contents g c = c.turn.ensures.contents ∙ c.loop.invariant.0
+returns-in-Over-clause-contents g c = c.turn.ensures.contents ∙ c.loop-ended.invariant.0
 
 pub returns-in-Over-clause-cause : goal.returns-in-Over-clause-cause
-returns-in-Over-clause-cause g c = cause-from c.in-Over.ended (g.I.Inputs.faults c.args.inputs.now) (g.I.Inputs.faults c.loop.inputs) (g.I.Inputs.faults c.turn.new.inputs) c.loop.invariant.1 c.in-Over.ensures.cause
+returns-in-Over-clause-cause g c = cause-from c.in-Over.ended (g.I.Inputs.faults c.args.inputs.now) (g.I.Inputs.faults c.loop-ended.inputs) (g.I.Inputs.faults c.turn.new.inputs) c.loop-ended.invariant.1 c.in-Over.ensures.cause
 
 pub returns-in-Over-clause-counts : goal.returns-in-Over-clause-counts
 returns-in-Over-clause-counts g c =
-    counted-from (has_failed c.in-Over.ended) (g.O.Outputs.faults c.args.outputs.now) (g.O.Outputs.faults c.loop.outputs) (g.O.Outputs.faults c.turn.new.outputs) c.loop.invariant.2 c.in-Over.ensures.counts
+    counted-from (has_failed c.in-Over.ended) (g.O.Outputs.faults c.args.outputs.now) (g.O.Outputs.faults c.loop-ended.outputs) (g.O.Outputs.faults c.turn.new.outputs) c.loop-ended.invariant.2 c.in-Over.ensures.counts
 
 pub returns-in-Over-clause-completes : goal.returns-in-Over-clause-completes
 returns-in-Over-clause-completes g c command begins holds reads writes =
-    let now = c.loop.invariant.4 command begins in
-    let run = came-over g.S.Step.verb g.S.Step.stands command (g.I.Inputs.taken c.args.inputs.now) (g.I.Inputs.contents c.args.inputs.now) (g.I.Inputs.taken c.loop.inputs) (g.I.Inputs.open_name c.loop.inputs)
-    (g.O.Outputs.held c.args.outputs.now) (g.O.Outputs.held c.loop.outputs) c.loop.self now c.turn.new.self (g.I.Inputs.taken c.turn.new.inputs) (g.I.Inputs.open_name c.turn.new.inputs) (g.O.Outputs.held c.turn.new.outputs)
+    let now = c.loop-ended.invariant.4 command begins in
+    let run = came-over g.S.Step.verb g.S.Step.stands command (g.I.Inputs.taken c.args.inputs.now) (g.I.Inputs.contents c.args.inputs.now) (g.I.Inputs.taken c.loop-ended.inputs) (g.I.Inputs.open_name c.loop-ended.inputs)
+    (g.O.Outputs.held c.args.outputs.now) (g.O.Outputs.held c.loop-ended.outputs) c.loop-ended.self now c.turn.new.self (g.I.Inputs.taken c.turn.new.inputs) (g.I.Inputs.open_name c.turn.new.inputs) (g.O.Outputs.held c.turn.new.outputs)
     (stopped-early c.source_laws.ensures.list c.source_laws.ensures.grows c.source_laws.ensures.fixed command (c.chain_laws.ensures.growth command.verbs)
     (chained g.S.Step.verb g.S.Step.stands g.met.S.Step.orderly command [] [] [] c.args.self.now begins) c.source_laws.ensures.early (g.I.Inputs.taken c.args.inputs.now) (g.I.Inputs.contents c.args.inputs.now)) c.in-Over.ended
-    (subst (λ t. Ran (Over c.in-Over.ended) g.S.Step.verb g.S.Step.stands command (g.I.Inputs.taken c.args.inputs.now) now.given now.read now.shown c.turn.new.self t (g.I.Inputs.taken c.turn.new.inputs) (g.I.Inputs.open_name c.turn.new.inputs) (g.O.Outputs.held c.loop.outputs) (g.O.Outputs.held c.turn.new.outputs))
-    c.loop.invariant.0
-    (c.in-Over.ensures.ran command (g.I.Inputs.taken c.args.inputs.now) now.given now.read now.shown now.at (subst (λ t. Behind (g.I.Inputs.taken c.args.inputs.now) now.given t (g.I.Inputs.taken c.loop.inputs) (g.I.Inputs.open_name c.loop.inputs)) (sym c.loop.invariant.0) now.behind))) in
+    (subst (λ t. Ran (Over c.in-Over.ended) g.S.Step.verb g.S.Step.stands command (g.I.Inputs.taken c.args.inputs.now) now.given now.read now.shown c.turn.new.self t (g.I.Inputs.taken c.turn.new.inputs) (g.I.Inputs.open_name c.turn.new.inputs) (g.O.Outputs.held c.loop-ended.outputs) (g.O.Outputs.held c.turn.new.outputs))
+    c.loop-ended.invariant.0
+    (c.in-Over.ensures.ran command (g.I.Inputs.taken c.args.inputs.now) now.given now.read now.shown now.at (subst (λ t. Behind (g.I.Inputs.taken c.args.inputs.now) now.given t (g.I.Inputs.taken c.loop-ended.inputs) (g.I.Inputs.open_name c.loop-ended.inputs)) (sym c.loop-ended.invariant.0) now.behind))) in
     completes c.source_laws.ensures.list c.source_laws.ensures.grows c.source_laws.ensures.fixed command (c.chain_laws.ensures.growth command.verbs)
     (chained g.S.Step.verb g.S.Step.stands g.met.S.Step.orderly command [] [] [] c.args.self.now begins) c.source_laws.ensures.whole
     (g.I.Inputs.contents c.args.inputs.now) (g.I.Inputs.taken c.args.inputs.now) (g.I.Inputs.taken c.turn.new.inputs) (g.I.Inputs.open_name c.turn.new.inputs) (g.O.Outputs.held c.args.outputs.now) (g.O.Outputs.held c.turn.new.outputs) holds c.in-Over.ended run
     (g.I.Inputs.faults c.args.inputs.now) (g.I.Inputs.faults c.turn.new.inputs)
-    (cause-from c.in-Over.ended (g.I.Inputs.faults c.args.inputs.now) (g.I.Inputs.faults c.loop.inputs) (g.I.Inputs.faults c.turn.new.inputs) c.loop.invariant.1 c.in-Over.ensures.cause) reads
+    (cause-from c.in-Over.ended (g.I.Inputs.faults c.args.inputs.now) (g.I.Inputs.faults c.loop-ended.inputs) (g.I.Inputs.faults c.turn.new.inputs) c.loop-ended.invariant.1 c.in-Over.ensures.cause) reads
     (g.O.Outputs.faults c.args.outputs.now) (g.O.Outputs.faults c.turn.new.outputs)
-    (counted-from (has_failed c.in-Over.ended) (g.O.Outputs.faults c.args.outputs.now) (g.O.Outputs.faults c.loop.outputs) (g.O.Outputs.faults c.turn.new.outputs) c.loop.invariant.2 c.in-Over.ensures.counts) writes
+    (counted-from (has_failed c.in-Over.ended) (g.O.Outputs.faults c.args.outputs.now) (g.O.Outputs.faults c.loop-ended.outputs) (g.O.Outputs.faults c.turn.new.outputs) c.loop-ended.invariant.2 c.in-Over.ensures.counts) writes
 
 pub returns-in-Over-clause-shortages : goal.returns-in-Over-clause-shortages
-returns-in-Over-clause-shortages g c = omega (arith, c.loop.invariant.3, c.turn.ensures.shortages)
+returns-in-Over-clause-shortages g c = omega (arith, c.loop-ended.invariant.3, c.turn.ensures.shortages)
 
-pub loop-preserved : goal.loop-preserved
-loop-preserved g c = (
-  c.turn.ensures.contents ∙ c.loop.invariant.0,
-  λ name. c.in-Went.ensures.cause name ∙ c.loop.invariant.1 name,
-  λ target. c.in-Went.ensures.counts target ∙ c.loop.invariant.2 target,
-  omega (arith, c.loop.invariant.3, c.turn.ensures.shortages),
+pub loop-ended-preserved : goal.loop-ended-preserved
+loop-ended-preserved g c = (
+  c.turn.ensures.contents ∙ c.loop-ended.invariant.0,
+  λ name. c.in-Went.ensures.cause name ∙ c.loop-ended.invariant.1 name,
+  λ target. c.in-Went.ensures.counts target ∙ c.loop-ended.invariant.2 target,
+  omega (arith, c.loop-ended.invariant.3, c.turn.ensures.shortages),
   λ command begins.
-      let now = c.loop.invariant.4 command begins in
-      going-on g.S.Step.verb g.S.Step.stands command (g.I.Inputs.taken c.args.inputs.now) (g.I.Inputs.contents c.args.inputs.now) (g.I.Inputs.taken c.loop.inputs) (g.I.Inputs.open_name c.loop.inputs)
-      (g.O.Outputs.held c.args.outputs.now) (g.O.Outputs.held c.loop.outputs) c.loop.self now c.turn.new.self (g.I.Inputs.taken c.turn.new.inputs) (g.I.Inputs.open_name c.turn.new.inputs) (g.O.Outputs.held c.turn.new.outputs)
-      (subst (λ t. Ran Went g.S.Step.verb g.S.Step.stands command (g.I.Inputs.taken c.args.inputs.now) now.given now.read now.shown c.turn.new.self t (g.I.Inputs.taken c.turn.new.inputs) (g.I.Inputs.open_name c.turn.new.inputs) (g.O.Outputs.held c.loop.outputs) (g.O.Outputs.held c.turn.new.outputs))
-      c.loop.invariant.0
-      (c.in-Went.ensures.ran command (g.I.Inputs.taken c.args.inputs.now) now.given now.read now.shown now.at (subst (λ t. Behind (g.I.Inputs.taken c.args.inputs.now) now.given t (g.I.Inputs.taken c.loop.inputs) (g.I.Inputs.open_name c.loop.inputs)) (sym c.loop.invariant.0) now.behind))),
+      let now = c.loop-ended.invariant.4 command begins in
+      going-on g.S.Step.verb g.S.Step.stands command (g.I.Inputs.taken c.args.inputs.now) (g.I.Inputs.contents c.args.inputs.now) (g.I.Inputs.taken c.loop-ended.inputs) (g.I.Inputs.open_name c.loop-ended.inputs)
+      (g.O.Outputs.held c.args.outputs.now) (g.O.Outputs.held c.loop-ended.outputs) c.loop-ended.self now c.turn.new.self (g.I.Inputs.taken c.turn.new.inputs) (g.I.Inputs.open_name c.turn.new.inputs) (g.O.Outputs.held c.turn.new.outputs)
+      (subst (λ t. Ran Went g.S.Step.verb g.S.Step.stands command (g.I.Inputs.taken c.args.inputs.now) now.given now.read now.shown c.turn.new.self t (g.I.Inputs.taken c.turn.new.inputs) (g.I.Inputs.open_name c.turn.new.inputs) (g.O.Outputs.held c.loop-ended.outputs) (g.O.Outputs.held c.turn.new.outputs))
+      c.loop-ended.invariant.0
+      (c.in-Went.ensures.ran command (g.I.Inputs.taken c.args.inputs.now) now.given now.read now.shown now.at (subst (λ t. Behind (g.I.Inputs.taken c.args.inputs.now) now.given t (g.I.Inputs.taken c.loop-ended.inputs) (g.I.Inputs.open_name c.loop-ended.inputs)) (sym c.loop-ended.invariant.0) now.behind))),
 )
 
-pub returns-clause-run : goal.returns-clause-run
-returns-clause-run g c command begins =
-    out-of-turns g.S.Step.verb g.S.Step.stands command (g.I.Inputs.taken c.args.inputs.now) (g.I.Inputs.contents c.args.inputs.now)
-    (stopped-early c.source_laws.ensures.list c.source_laws.ensures.grows c.source_laws.ensures.fixed command (c.chain_laws.ensures.growth command.verbs)
-    (chained g.S.Step.verb g.S.Step.stands g.met.S.Step.orderly command [] [] [] c.args.self.now begins) c.source_laws.ensures.early (g.I.Inputs.taken c.args.inputs.now) (g.I.Inputs.contents c.args.inputs.now)) (c.chain_laws.ensures.growth command.verbs) (c.outlet_laws.ensures command.write)
-    (g.I.Inputs.taken c.loop.inputs) (g.I.Inputs.open_name c.loop.inputs) (g.O.Outputs.held c.args.outputs.now) (g.O.Outputs.held c.loop.outputs) c.loop.self (c.loop.invariant.4 command begins)
-
-pub returns-clause-contents : goal.returns-clause-contents
-returns-clause-contents g c = c.loop.invariant.0
-
-pub returns-clause-cause : goal.returns-clause-cause
-returns-clause-cause g c = c.loop.invariant.1
-
-pub returns-clause-counts : goal.returns-clause-counts
-returns-clause-counts g c = c.loop.invariant.2
-
-pub returns-clause-shortages : goal.returns-clause-shortages
-returns-clause-shortages g c = c.loop.invariant.3
-
-pub returns-clause-completes : goal.returns-clause-completes
-returns-clause-completes g c = λ command begins holds reads writes. tt
+-- the reader has less left
+pub loop-ended-smaller : goal.loop-ended-smaller
+loop-ended-smaller g c =
+    let command = c.requires.0 in
+    let now = c.loop-ended.invariant.4 command c.requires.1 in
+    let ran = c.in-Went.ensures.ran command (g.I.Inputs.taken c.args.inputs.now) now.given now.read now.shown now.at (subst (λ t. Behind (g.I.Inputs.taken c.args.inputs.now) now.given t (g.I.Inputs.taken c.loop-ended.inputs) (g.I.Inputs.open_name c.loop-ended.inputs)) (sym c.loop-ended.invariant.0) now.behind) in
+    less-left command.origin now.given ran.given' now.read ran.outcome.put c.loop-ended.self.reader c.turn.new.self.reader now.at.reader ran.outcome.stand.reader ran.outcome.came_on

@@ -2,7 +2,7 @@
 ghost use Rattle.std.specs.Prelude.{◌≡◌, [], true, IfOk};
 ghost use Rattle.mlr_event.specs.Verb.{is_list};
 
-use crate::Stages;
+use crate::Chain;
 use mlr_event::models::{Cat, Tac};
 use mlr_event::{Ctx, Event, Events};
 use mlr_record::Record;
@@ -48,7 +48,7 @@ fn some_events(alloc: Global) -> Result<Events, NoMemory>
 #[test]
 fn events_pass(rt: HostRuntime) -> Result<(), NoMemory> {
     let alloc = rt.alloc();
-    let mut stages: Stages<Cat> = Stages::new(alloc);
+    let mut stages: Chain<Cat> = Chain::new(alloc);
     let mut made = Events::new(alloc);
     stages.push(Cat::new(), Events::new(alloc), &mut made)?;
     stages.push(Cat::new(), Events::new(alloc), &mut made)?;
@@ -64,13 +64,13 @@ fn events_pass(rt: HostRuntime) -> Result<(), NoMemory> {
 #[test]
 fn records_are_turned_twice(rt: HostRuntime) -> Result<(), NoMemory> {
     let alloc = rt.alloc();
-    let mut stages: Stages<Tac> = Stages::new(alloc);
+    let mut stages: Chain<Tac> = Chain::new(alloc);
     let mut made = Events::new(alloc);
     stages.push(Tac::new(alloc), Events::new(alloc), &mut made)?;
     let mut events = some_events(alloc)?;
     stages.take_all(&mut events)?;
     assert_eq!(rt; numbers(&events), [0, 2, 1, 9]);
-    let mut stages: Stages<Tac> = Stages::new(alloc);
+    let mut stages: Chain<Tac> = Chain::new(alloc);
     stages.push(Tac::new(alloc), Events::new(alloc), &mut made)?;
     stages.push(Tac::new(alloc), Events::new(alloc), &mut made)?;
     let mut events = some_events(alloc)?;

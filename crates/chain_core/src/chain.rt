@@ -13,7 +13,7 @@ use std::alloc::Global;
 
 /// Verbs one behind the other, of any kind. It stands for the list of events that it was given.
 #[derive(Drop)]
-pub struct Stages<S> {
+pub struct Chain<S> {
     alloc: Global,
     stages: Vec<Stage<S>>,
     /// No verb of it has effects.
@@ -22,13 +22,13 @@ pub struct Stages<S> {
     room: Events,
 }
 
-impl<S: Step + Drop> Stages<S> {
+impl<S: Step + Drop> Chain<S> {
     /// No verbs: each event comes out as it is. It takes no memory.
     pub fn new(alloc: Global) -> Self
         ensures verbs { verbs_in S.verb result ≡ [] }
         ensures stands { StandsFor S.verb S.stands [] result }
     {
-        Stages {
+        Chain {
             alloc,
             stages: Vec::new(alloc),
             quiet: true,

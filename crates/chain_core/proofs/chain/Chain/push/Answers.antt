@@ -4,8 +4,8 @@ use Rattle.chain_core.specs.Chain.{chain_from}
 use Rattle.chain_core.specs.Standing.{GateStands, StagesStand, all_quiet, made_at, verbs_of}
 use Rattle.chain_core.proofs.Chains.{chain-list, quiet-all, quiet-last}
 use Rattle.chain_core.proofs.InOrder.{chain-append, quiet_behind, stand-append, verbs-last}
-use Rattle.chain_core.proofs.stages.Stages.push.Goals as goal
-use Rattle.chain_core.proofs.stages.Stages.push.Goals.{then-self, else-self}
+use Rattle.chain_core.proofs.chain.Chain.push.Goals as goal
+use Rattle.chain_core.proofs.chain.Chain.push.Goals.{then-self, else-self}
 
 pub begun-requires-clause-list : goal.begun-requires-clause-list
 begun-requires-clause-list g c = ap is_list c.requires.made ∙ chain-list g.S.Step.verb g.S.Step.stands g.met.S.Step.orderly true c.args.self.now.stages.items [] refl

@@ -5,7 +5,7 @@ use Rattle.mlr_event.specs.Verb.{is_list}
 use Rattle.mlr_event.proofs.Ordered.{open-list}
 use Rattle.chain_core.specs.Chain.{chain_from}
 use Rattle.chain_core.specs.Standing.{StagesStand, all_quiet, verbs_of}
-use Rattle.chain_core.proofs.stages.Stages.step.Goals as goal
+use Rattle.chain_core.proofs.chain.Chain.step.Goals as goal
 
 pub pass-requires : goal.pass-requires
 pass-requires g c =

@@ -1,7 +1,7 @@
 use Rattle.std.proofs.Common.{true, ap, ◌∙◌}
 use Rattle.std.specs.List.{list_any}
 use Rattle.chain_core.proofs.Chains.{shut-stopped}
-use Rattle.chain_core.proofs.stages.Stages.stopped.Goals as goal
+use Rattle.chain_core.proofs.chain.Chain.stopped.Goals as goal
 
 pub returns : goal.returns
 returns g c given at =

@@ -3,7 +3,7 @@ use Rattle.std.specs.Vec.{with_items}
 use Rattle.std.proofs.lemmas.List.{with_items_is}
 use Rattle.chain_core.specs.Chain.{chain_from}
 use Rattle.chain_core.specs.Standing.{StagesStand, all_quiet, verbs_of}
-use Rattle.chain_core.proofs.stages.Stages.take_all.Goals as goal
+use Rattle.chain_core.proofs.chain.Chain.take_all.Goals as goal
 
 pub pass-requires : goal.pass-requires
 pass-requires g c =
