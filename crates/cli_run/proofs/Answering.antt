@@ -1,30 +1,105 @@
--- What a run says of a command line that is accepted, and what it leaves with its message.
-use Rattle.std.proofs.Common.{◌≡◌, ℕ, List, Option, Some, None, ap, sym, subst, ◌∙◌}
+-- What a run says of words, by what they were read as, and what it leaves with its message.
+use Rattle.std.proofs.Common.{◌≡◌, ℕ, true, List, [], ◌++◌, Option, Some, None, refl, ap, sym, subst, ◌∙◌, arith}
+use Rattle.std.specs.Prelude.{IfSome}
+use Rattle.std.specs.Option.{option_map}
+use Rattle.std.proofs.lemmas.Bool.{false≢true}
+use Rattle.read_files.specs.Given.{AreFrontsTaken}
 use Rattle.mlr_event.specs.declared.names.InputName.{InputName}
 use Rattle.mlr_event.specs.declared.names.Target.TheVariants.{Stdout, Stderr}
 use Rattle.mlr_world.specs.Inputs.{Contents}
 use Rattle.mlr_world.specs.Outputs.{Held, ChangesAt}
 use Rattle.mlr_world.specs.Taken.{Take}
 use Rattle.mlr_world.specs.declared.outputs.Done.{Done}
+use Rattle.mlr_world.proofs.Changes.{ChangesAt-none}
 use Rattle.serial_core.specs.declared.answer.Ended.{Ended}
 use Rattle.serial_core.specs.declared.answer.Ended.TheVariants as answer
+use Rattle.serial_core.specs.declared.answer.Refusal.{Refusal}
+use Rattle.serial_core.specs.declared.answer.Why.TheVariants as why
+use Rattle.serial_core.specs.Answer.{is_refused}
 use Rattle.serial_core.specs.Command as serial
+use Rattle.serial_core.proofs.Running.{behind-none}
 use Rattle.serial_core.specs.Run.{HoldsAll}
-use Rattle.serial_core.specs.Run.{Completes as Complete}
+use Rattle.serial_core.specs.Run.{Completes as Complete, Run as SerialRun}
 use Rattle.serial_core.specs.Standing as standing
-use Rattle.cli_run.specs.declared.command.Command.{Command}
-use Rattle.cli_run.specs.declared.command.Line.{Line}
-use Rattle.cli_run.specs.declared.command.Line.TheVariants.{Accepted}
-use Rattle.cli_run.specs.Meaning.{command_in, command_of}
+use Rattle.cli_words.specs.declared.flags.Formats.{Formats}
+use Rattle.cli_words.specs.declared.verbs.Asked.{Asked}
+use Rattle.cli_words.specs.Grammar.{IsLine, IsRefusedAt}
+use Rattle.cli_words.proofs.Readings.{one-place, one-reading}
+use Rattle.cli_run.specs.Answer.{RefusesWhere}
+use Rattle.cli_run.specs.Meaning.{IsCommandLine, command_of}
 use Rattle.cli_run.specs.Message.{Puts}
-use Rattle.cli_run.specs.Run.{Completes, WhereTold}
+use Rattle.cli_run.specs.Run.{Completes, Ran, Stops, WhereTold}
 
-some-inside : {A : Type 0} (x y : A) → Some x ≡ Some y → x ≡ y
-some-inside x y e = cc
+-- Refused comes with the one word at which words are refused
+refusal-is : (number : ℕ) (refusal : Refusal) → answer.Refused (record { word = number; why = why.NotBuilt }) ≡ answer.Refused refusal → number ≡ refusal.word
+refusal-is number refusal is = ap (λ r. r.word) (let e : record { word = number; why = why.NotBuilt } ≡ refusal = cc in e)
 
--- the meaning of a line that is accepted
-pub command-is : (words : List (List ℕ)) (line : Line) (accepted : Command) (command : serial.Command) → Accepted accepted ≡ line → command_in line words ≡ Some command → command_of accepted words ≡ command
-command-is words line accepted command is given = some-inside (command_of accepted words) command (ap (λ l. command_in l words) is ∙ given)
+pub refused-there : (words : List (List ℕ)) (number : ℕ) → IsRefusedAt words number → RefusesWhere words (answer.Refused (record { word = number; why = why.NotBuilt }))
+refused-there words number at = record {
+  only = λ refusal is. subst (IsRefusedAt words) (refusal-is number refusal is) at;
+  always = λ other there. ap (λ n. answer.Refused (record { word = n; why = why.NotBuilt })) (one-place words number other at there);
+}
+
+-- where a command was run the answer isn't Refused
+pub never-refused : (ended : Ended) (command : serial.Command) (given : List Take) → standing.Says ended command given → is_refused ended ≡ true → ⊥
+never-refused answer.Done command given says is = false≢true is
+never-refused (answer.Refused refusal) command given says is = says
+never-refused (answer.Data fault) command given says is = false≢true is
+never-refused (answer.Read name) command given says is = false≢true is
+never-refused (answer.Written target) command given says is = false≢true is
+never-refused answer.TooLong command given says is = false≢true is
+never-refused answer.NoMemory command given says is = false≢true is
+
+pub not-refused : (words : List (List ℕ)) (formats : Formats) (verbs : List Asked) (names : List (List ℕ)) → IsLine words formats verbs names
+    → (ended : Ended) (command : serial.Command) (given : List Take) → standing.Says ended command given → RefusesWhere words ended
+not-refused words formats verbs names line ended command given says = record {
+  only = λ refusal is. absurd (subst (λ e. standing.Says e command given) is says);
+  always = λ number at. absurd (at.none formats verbs names line);
+}
+
+-- a run of words that are refused: nothing was taken or written
+told-nothing : (contents : Option Contents) (taken : Option (List Take)) → IfSome contents (λ told. IfSome taken (λ _. Stops None told []))
+told-nothing None taken = tt
+told-nothing (Some told) None = tt
+told-nothing (Some told) (Some takes) = tt
+
+pub ran-refused : (words : List (List ℕ)) (number : ℕ) → IsRefusedAt words number → (contents : Option Contents) (taken : Option (List Take)) (name : Option InputName) (held : Option Held)
+    → Ran words [] (answer.Refused (record { word = number; why = why.NotBuilt })) contents taken taken held held
+ran-refused words number at contents taken name held =
+    let none = behind-none contents taken name in
+    record {
+      meant = None;
+      means = (number, at, refl);
+      given = [];
+      takes = record { order = tt; few = omega arith; entries = none.entries; fronts = none.fronts; says = refl; early = told-nothing contents taken };
+      leaves = ChangesAt-none Stdout (standing.Leaves (answer.Refused (record { word = number; why = why.NotBuilt })) []) (λ before. refl) held;
+    }
+
+-- what holds where takes are told, before and now
+told-before : (contents : Option Contents) (taken taken' : Option (List Take)) (given : List Take) (P : Contents → Type 0) → taken' ≡ option_map (λ before. before ++ given) taken
+    → IfSome contents (λ told. IfSome taken' (λ _. P told)) → IfSome contents (λ told. IfSome taken (λ _. P told))
+told-before None taken taken' given P is holds = tt
+told-before (Some told) None taken' given P is holds = tt
+told-before (Some told) (Some before) taken' given P is holds = subst (λ t. IfSome t (λ _. P told)) is holds
+
+-- a run of a command line
+pub ran-line : (words names : List (List ℕ)) (command : serial.Command) → IsCommandLine words names command
+    → (ended : Ended) (contents : Option Contents) (taken taken' : Option (List Take)) (name' : Option InputName) (held held' : Option Held) → SerialRun ended command contents taken taken' name' held held'
+    → Ran words names ended contents taken taken' held held'
+ran-line words names command is ended contents taken taken' name' held held' r = record {
+  meant = Some command;
+  means = is;
+  given = r.given;
+  takes = record { order = r.order; few = r.few; entries = r.behind.entries; fronts = told-before contents taken taken' r.given (λ told. AreFrontsTaken told r.given) r.behind.entries r.behind.fronts; says = r.says; early = r.early };
+  leaves = r.leaves;
+}
+
+-- the one command that a line means
+pub command-is : (words : List (List ℕ)) (formats : Formats) (verbs : List Asked) (names names' : List (List ℕ)) (command : serial.Command) → IsLine words formats verbs names → IsCommandLine words names' command
+    → command_of formats verbs names words ≡ command
+command-is words formats verbs names names' command line is =
+    let same = one-reading words formats is.formats verbs is.verbs names names' line is.line in
+    ap (λ f. command_of f verbs names words) same.0 ∙ ap (λ vs. command_of is.formats vs names words) same.1 ∙ ap (λ ns. command_of is.formats is.verbs ns words) same.2 ∙ sym is.command_is
 
 -- where these hold, the answer is that of all that the inputs hold
 abbrev pub CompletesAs : Type 0 → Ended → Option Contents → Option (List Take) → Option Held → Option Held → serial.Command → Type 0

@@ -2,4 +2,3 @@ pub mod Sound
 pub mod Answering
 pub mod Top
 pub mod Messages
-pub mod Rows

@@ -13,10 +13,9 @@ use Rattle.serial_core.specs.declared.answer.Ended.TheVariants as answer
 use Rattle.serial_core.specs.Answer.{has_failed}
 use Rattle.serial_core.specs.Command as serial
 use Rattle.serial_core.specs.Standing as standing
-use Rattle.cli_run.specs.declared.command.Line.{Line}
-use Rattle.cli_run.specs.declared.command.Line.TheVariants.{Accepted, Refused}
-use Rattle.cli_run.specs.Answer.{IsRefusedWhere, refused_in}
-use Rattle.cli_run.specs.Meaning.{command_in, command_of, text_given}
+use Rattle.serial_core.specs.declared.answer.Why.TheVariants as why
+use Rattle.cli_run.specs.Answer.{RefusesWhere}
+use Rattle.cli_run.specs.Meaning.{Means, text_for}
 use Rattle.cli_run.specs.Message.{Puts, message_of}
 use Rattle.cli_run.specs.Run.{Says, Leaves, LeavesMessage, WhereTold, OutputCause}
 
@@ -45,19 +44,19 @@ message_left message done.Ok before now f0 f1 f2 s0 s1 s2 ff ss counted tallied 
 message_left message done.Failed before now f0 f1 f2 s0 s1 s2 ff ss counted tallied puts = inr (inl (Rose-earlier (f0 Stderr) (f1 Stderr) (f2 Stderr) ff counted.1), puts)
 message_left message done.NoMemory before now f0 f1 f2 s0 s1 s2 ff ss counted tallied puts = inr (inr (Rose-earlier s0 s1 s2 ss tallied.1), puts)
 
-pub leaves_all : (words : List (List ℕ)) (ended : Ended) (given : List Take) (result : Done) (h0 h1 h2 : Option Held) (f0 f1 f2 : Target → ℕ) (s0 s1 s2 : ℕ)
+pub leaves_all : (words names : List (List ℕ)) (meant : Option serial.Command) (ended : Ended) (given : List Take) (result : Done) (h0 h1 h2 : Option Held) (f0 f1 f2 : Target → ℕ) (s0 s1 s2 : ℕ)
     → f0 Stderr ≤ f1 Stderr → s0 ≤ s1 → Counted (call_failed result) f1 f2 Stderr → Tallied (lacked_memory result) s1 s2
-    → ChangesAt Stdout (standing.Leaves ended (text_given words given)) h0 h1 → ChangesAt Stderr (Puts (message_of words ended) result) h1 h2
-    → WhereTold (Leaves words ended given (Rose (f0 Stderr) (f2 Stderr) ⊎ Rose s0 s2)) h0 h2
-leaves_all words ended given result None None None f0 f1 f2 s0 s1 s2 ff ss counted tallied out err = tt
-leaves_all words ended given result None None (Some c) f0 f1 f2 s0 s1 s2 ff ss counted tallied out err = err
-leaves_all words ended given result None (Some b) h2 f0 f1 f2 s0 s1 s2 ff ss counted tallied out err = absurd out
-leaves_all words ended given result (Some a) None h2 f0 f1 f2 s0 s1 s2 ff ss counted tallied out err = absurd out
-leaves_all words ended given result (Some a) (Some b) None f0 f1 f2 s0 s1 s2 ff ss counted tallied out err = err
-leaves_all words ended given result (Some a) (Some b) (Some c) f0 f1 f2 s0 s1 s2 ff ss counted tallied out err = record {
-  out = subst (standing.Leaves ended (text_given words given) (a Stdout)) (sym (err.elsewhere Stdout apart)) out.here;
-  err = subst (λ before. LeavesMessage (message_of words ended) (Rose (f0 Stderr) (f2 Stderr) ⊎ Rose s0 s2) before (c Stderr)) (out.elsewhere Stderr apart')
-      (message_left (message_of words ended) result (b Stderr) (c Stderr) f0 f1 f2 s0 s1 s2 ff ss counted tallied err.here);
+    → ChangesAt Stdout (standing.Leaves ended (text_for meant given)) h0 h1 → ChangesAt Stderr (Puts (message_of words names ended) result) h1 h2
+    → WhereTold (Leaves words names meant ended given (Rose (f0 Stderr) (f2 Stderr) ⊎ Rose s0 s2)) h0 h2
+leaves_all words names meant ended given result None None None f0 f1 f2 s0 s1 s2 ff ss counted tallied out err = tt
+leaves_all words names meant ended given result None None (Some c) f0 f1 f2 s0 s1 s2 ff ss counted tallied out err = err
+leaves_all words names meant ended given result None (Some b) h2 f0 f1 f2 s0 s1 s2 ff ss counted tallied out err = absurd out
+leaves_all words names meant ended given result (Some a) None h2 f0 f1 f2 s0 s1 s2 ff ss counted tallied out err = absurd out
+leaves_all words names meant ended given result (Some a) (Some b) None f0 f1 f2 s0 s1 s2 ff ss counted tallied out err = err
+leaves_all words names meant ended given result (Some a) (Some b) (Some c) f0 f1 f2 s0 s1 s2 ff ss counted tallied out err = record {
+  out = subst (standing.Leaves ended (text_for meant given) (a Stdout)) (sym (err.elsewhere Stdout apart)) out.here;
+  err = subst (λ before. LeavesMessage (message_of words names ended) (Rose (f0 Stderr) (f2 Stderr) ⊎ Rose s0 s2) before (c Stderr)) (out.elsewhere Stderr apart')
+      (message_left (message_of words names ended) result (b Stderr) (c Stderr) f0 f1 f2 s0 s1 s2 ff ss counted tallied err.here);
   others = λ target not_out not_err. err.elsewhere target not_err ∙ out.elsewhere target not_out;
 }
 
@@ -75,7 +74,8 @@ cause answer.TooLong command given result f0 f1 f2 says silent first second = tt
 cause answer.NoMemory command given result f0 f1 f2 says silent first second = tt
 
 -- the same of words: those that are refused have the answer Refused
-pub cause_given : (ended : Ended) (line : Line) (words : List (List ℕ)) (given : List Take) (result : Done) (f0 f1 f2 : Target → ℕ)
-    → IsRefusedWhere (refused_in line) ended → Says ended (command_in line words) given → (ended ≡ answer.Done → result ≡ done.Ok) → Counted (has_failed ended) f0 f1 Stdout → Counted (call_failed result) f1 f2 Stderr → OutputCause ended f0 f2
-cause_given ended (Accepted command) words given result f0 f1 f2 refused says silent first second = cause ended (command_of command words) given result f0 f1 f2 says silent first second
-cause_given ended (Refused word) words given result f0 f1 f2 refused says silent first second = subst (λ e. OutputCause e f0 f2) (sym refused) tt
+pub cause_given : (ended : Ended) (words names : List (List ℕ)) (meant : Option serial.Command) (given : List Take) (result : Done) (f0 f1 f2 : Target → ℕ)
+    → RefusesWhere words ended → Means words names meant → Says ended meant given → (ended ≡ answer.Done → result ≡ done.Ok) → Counted (has_failed ended) f0 f1 Stdout → Counted (call_failed result) f1 f2 Stderr → OutputCause ended f0 f2
+cause_given ended words names (Some command) given result f0 f1 f2 refused means says silent first second = cause ended command given result f0 f1 f2 says silent first second
+cause_given ended words names None given result f0 f1 f2 refused means says silent first second =
+    subst (λ e. OutputCause e f0 f2) (sym (refused.always means.0 means.1)) tt

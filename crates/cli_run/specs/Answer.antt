@@ -1,22 +1,12 @@
--- Which command lines are refused.
-use Rattle.std.specs.Prelude.{◌≡◌, ℕ, false, List, Option, Some, None}
-use Rattle.serial_core.specs.declared.answer.Why.TheVariants as why
+-- Which words are refused.
+use Rattle.std.specs.Prelude.{◌≡◌, ℕ, List}
 use Rattle.serial_core.specs.declared.answer.Ended.{Ended}
 use Rattle.serial_core.specs.declared.answer.Ended.TheVariants.{Refused}
-use Rattle.serial_core.specs.Answer.{is_refused}
-use Rattle.cli_run.specs.declared.command.Line.{Line}
-use Rattle.cli_run.specs.declared.command.Line.TheVariants as line
-use Rattle.cli_run.specs.Command.{line_of}
+use Rattle.serial_core.specs.declared.answer.Refusal.{Refusal}
+use Rattle.serial_core.specs.declared.answer.Why.TheVariants as why
+use Rattle.cli_words.specs.Grammar.{IsRefusedAt}
 
--- the word at which no command line that is built can go on
-abbrev pub refused_in : Line → Option ℕ
-refused_in (line.Accepted command) = None
-refused_in (line.Refused word) = Some word
-
-abbrev pub refused_word : List (List ℕ) → Option ℕ
-refused_word words = refused_in (line_of words)
-
--- refused exactly where the command line isn't one that is built, at that word
-abbrev pub IsRefusedWhere : Option ℕ → Ended → Type 0
-IsRefusedWhere None ended = is_refused ended ≡ false
-IsRefusedWhere (Some word) ended = ended ≡ Refused (record { word = word; why = why.NotBuilt })
+-- Refused comes only with a word at which the words are refused, and always where there is one.
+pub record RefusesWhere (words : List (List ℕ)) (ended : Ended) : Type 0 where
+  pub only : (refusal : Refusal) → ended ≡ Refused refusal → IsRefusedAt words refusal.word
+  pub always : (number : ℕ) → IsRefusedAt words number → ended ≡ Refused (record { word = number; why = why.NotBuilt })

@@ -1,7 +1,5 @@
-pub mod Verbs
-pub mod Command
 pub mod Options
 pub mod Meaning
-pub mod Message
 pub mod Answer
+pub mod Message
 pub mod Run

@@ -1,5 +1,5 @@
 -- The message of each answer, one line on standard error.
-use Rattle.std.specs.Prelude.{◌≡◌, ℕ, ◌-◌, ◌==◌, if◌then◌else◌, List, [], ◌∷◌, codes, Option, slice_index_or}
+use Rattle.std.specs.Prelude.{◌≡◌, ℕ, List, [], ◌∷◌, codes, Option}
 use Rattle.std.specs.List.{flat_map}
 use Rattle.std.specs.Fmt.{decimal}
 use Rattle.mlr_event.specs.declared.fault.Fault.{Fault}
@@ -15,10 +15,7 @@ use Rattle.mlr_world.specs.declared.outputs.Done.TheVariants as done
 use Rattle.mlr_world.specs.Outputs.{IsFrontOf, with_bytes}
 use Rattle.serial_core.specs.declared.answer.Ended.{Ended}
 use Rattle.serial_core.specs.declared.answer.Ended.TheVariants as answer
-use Rattle.cli_run.specs.declared.command.Line.{Line}
-use Rattle.cli_run.specs.declared.command.Line.TheVariants.{Accepted, Refused}
-use Rattle.cli_run.specs.Command.{line_of, names_of}
-use Rattle.cli_run.specs.Verbs.{word_at}
+use Rattle.cli_run.specs.Meaning.{word_at}
 
 abbrev pub input_text : InputName → List ℕ
 input_text input.Stdin = codes "(stdin)"
@@ -34,13 +31,9 @@ abbrev pub named : List (List ℕ) → ℕ → List ℕ
 named [] number = codes "(stdin)"
 named (name ∷ names) number = word_at (name ∷ names) number
 
-abbrev pub name_in : Line → List (List ℕ) → FileRef → List ℕ
-name_in (Accepted command) words (Main number) = named (names_of command words) number
-name_in (Accepted command) words (Left verb) = []
-name_in (Refused word) words file = []
-
 abbrev pub file_text : List (List ℕ) → FileRef → List ℕ
-file_text words file = name_in (line_of words) words file
+file_text names (Main number) = named names number
+file_text names (Left verb) = []
 
 -- a fault in an input
 abbrev pub line_pieces : List ℕ → ℕ → List ℕ → List (List ℕ)
@@ -54,25 +47,25 @@ length_pieces file line want have =
     codes "mlr: " ∷ file ∷ codes ": line " ∷ decimal line ∷ codes ": data length " ∷ decimal have ∷ codes ", header length " ∷ decimal want ∷ codes "\n" ∷ []
 
 abbrev pub fault_pieces : List (List ℕ) → Fault → List (List ℕ)
-fault_pieces words (fault.Length file line want have) = length_pieces (file_text words file) line want have
-fault_pieces words (fault.Quote file line) = line_pieces (file_text words file) line (codes ": unclosed quote\n")
-fault_pieces words (fault.Table file line) = line_pieces (file_text words file) line (codes ": bad table line\n")
-fault_pieces words (fault.JsonSyntax file byte) = byte_pieces (file_text words file) byte (codes ": bad JSON\n")
-fault_pieces words (fault.JsonDeep file byte) = byte_pieces (file_text words file) byte (codes ": nested deeper than 100\n")
-fault_pieces words (fault.JsonKind file byte) = byte_pieces (file_text words file) byte (codes ": not a map\n")
+fault_pieces names (fault.Length file line want have) = length_pieces (file_text names file) line want have
+fault_pieces names (fault.Quote file line) = line_pieces (file_text names file) line (codes ": unclosed quote\n")
+fault_pieces names (fault.Table file line) = line_pieces (file_text names file) line (codes ": bad table line\n")
+fault_pieces names (fault.JsonSyntax file byte) = byte_pieces (file_text names file) byte (codes ": bad JSON\n")
+fault_pieces names (fault.JsonDeep file byte) = byte_pieces (file_text names file) byte (codes ": nested deeper than 100\n")
+fault_pieces names (fault.JsonKind file byte) = byte_pieces (file_text names file) byte (codes ": not a map\n")
 
--- the pieces of a message
-abbrev pub pieces_of : List (List ℕ) → Ended → List (List ℕ)
-pieces_of words answer.Done = []
-pieces_of words (answer.Refused refusal) = codes "mlr: word " ∷ decimal refusal.word ∷ codes ": not built: " ∷ word_at words refusal.word ∷ codes "\n" ∷ []
-pieces_of words (answer.Data fault) = fault_pieces words fault
-pieces_of words (answer.Read name) = codes "mlr: cannot read " ∷ input_text name ∷ codes "\n" ∷ []
-pieces_of words (answer.Written target) = codes "mlr: cannot write " ∷ target_text target ∷ codes "\n" ∷ []
-pieces_of words answer.TooLong = codes "mlr: input too long\n" ∷ []
-pieces_of words answer.NoMemory = codes "mlr: out of memory\n" ∷ []
+-- the pieces of a message, by the words and the file names of a command line
+abbrev pub pieces_of : List (List ℕ) → List (List ℕ) → Ended → List (List ℕ)
+pieces_of words names answer.Done = []
+pieces_of words names (answer.Refused refusal) = codes "mlr: word " ∷ decimal refusal.word ∷ codes ": not built: " ∷ word_at words refusal.word ∷ codes "\n" ∷ []
+pieces_of words names (answer.Data fault) = fault_pieces names fault
+pieces_of words names (answer.Read name) = codes "mlr: cannot read " ∷ input_text name ∷ codes "\n" ∷ []
+pieces_of words names (answer.Written target) = codes "mlr: cannot write " ∷ target_text target ∷ codes "\n" ∷ []
+pieces_of words names answer.TooLong = codes "mlr: input too long\n" ∷ []
+pieces_of words names answer.NoMemory = codes "mlr: out of memory\n" ∷ []
 
-abbrev pub message_of : List (List ℕ) → Ended → List ℕ
-message_of words ended = flat_map (λ piece. piece) (pieces_of words ended)
+abbrev pub message_of : List (List ℕ) → List (List ℕ) → Ended → List ℕ
+message_of words names ended = flat_map (λ piece. piece) (pieces_of words names ended)
 
 -- a target after a text was written to it in pieces: all of it, or a front where a call couldn't write
 abbrev pub Puts : List ℕ → Done → Option (List ℕ) → Option (List ℕ) → Type 0

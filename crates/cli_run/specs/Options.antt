@@ -5,7 +5,7 @@ use Rattle.mlr_event.specs.declared.options.Format.{Format}
 use Rattle.mlr_event.specs.declared.options.Format.TheVariants.{Json, Jsonl, Tsv, Nidx}
 use Rattle.mlr_event.specs.declared.options.ReadOpts.{ReadOpts}
 use Rattle.writers.specs.declared.options.WriteOpts.{WriteOpts}
-use Rattle.cli_run.specs.declared.command.Command.{Command}
+use Rattle.cli_words.specs.declared.flags.Formats.{Formats}
 
 -- what stands between two fields where nothing is given
 abbrev pub default_separator : Format → List ℕ
@@ -32,17 +32,17 @@ is_json Jsonl = true
 is_json _ = false
 
 -- records are flattened for a format without nested values, and unflattened from one without into one with them
-abbrev pub write_options : Command → WriteOpts
-write_options command = record {
-  format = command.output;
-  ofs = default_separator command.output;
+abbrev pub write_options : Formats → WriteOpts
+write_options formats = record {
+  format = formats.output;
+  ofs = default_separator formats.output;
   ops = codes "=";
   headerless = false;
   quote_all = false;
   barred = false;
   stacked = true;
   listwrap = true;
-  flatten = not (is_json command.output);
-  unflatten = is_json command.output && not (is_json command.input);
+  flatten = not (is_json formats.output);
+  unflatten = is_json formats.output && not (is_json formats.input);
   flatsep = codes ".";
 }

@@ -14,10 +14,10 @@ use Rattle.serial_core.specs.declared.answer.Ended.TheVariants as answer
 use Rattle.serial_core.specs.Command as serial
 use Rattle.serial_core.specs.Run.{StopsEarly}
 use Rattle.serial_core.specs.Standing as standing
-use Rattle.cli_run.specs.Meaning.{command_given, inputs_for, text_given}
+use Rattle.cli_run.specs.Meaning.{Means, inputs_for, text_for}
 use Rattle.cli_run.specs.Message.{message_of}
 
--- what an answer says of what was taken of the inputs: nothing where the command line isn't accepted
+-- what an answer says of what was taken of the inputs: nothing was, where the words are refused
 abbrev pub Says : Ended → Option serial.Command → List Take → Type 0
 Says ended None given = given ≡ []
 Says ended (Some command) given = standing.Says ended command given
@@ -32,9 +32,9 @@ abbrev pub LeavesMessage : List ℕ → Type 0 → Option (List ℕ) → Option 
 LeavesMessage message Unwritten before now = (now ≡ with_bytes message before) ⊎ (Unwritten × PutsFront message before now)
 
 -- What a run leaves in each target.
-pub record Leaves (words : List (List ℕ)) (ended : Ended) (given : List Take) (Unwritten : Type 0) (before now : Held) : Type 0 where
-  pub out : standing.Leaves ended (text_given words given) (before Stdout) (now Stdout)
-  pub err : LeavesMessage (message_of words ended) Unwritten (before Stderr) (now Stderr)
+pub record Leaves (words names : List (List ℕ)) (meant : Option serial.Command) (ended : Ended) (given : List Take) (Unwritten : Type 0) (before now : Held) : Type 0 where
+  pub out : standing.Leaves ended (text_for meant given) (before Stdout) (now Stdout)
+  pub err : LeavesMessage (message_of words names ended) Unwritten (before Stderr) (now Stderr)
   pub others : (target : Target) → (target ≡ Stdout → ⊥) → (target ≡ Stderr → ⊥) → now target ≡ before target
 
 -- a relation of what is held before and after, where it is told
@@ -46,25 +46,30 @@ WhereTold step (Some before) (Some now) = step before now
 
 -- What was taken, and what the answer says of it: the inputs were opened and read in their order, no more than 2^60 bytes
 -- together, and what was taken is told by the inputs where they tell it.
-pub record Takes (words : List (List ℕ)) (ended : Ended) (given : List Take) (contents : Option Contents) (taken taken' : Option (List Take)) : Type 0 where
-  pub order : InOrder (inputs_for (command_given words)) given
+pub record Takes (meant : Option serial.Command) (ended : Ended) (given : List Take) (contents : Option Contents) (taken taken' : Option (List Take)) : Type 0 where
+  pub order : InOrder (inputs_for meant) given
   pub few : total given ≤ 2 ^ 60
   pub entries : taken' ≡ option_map (λ before. before ++ given) taken
   pub fronts : IfSome contents (λ told. IfSome taken (λ _. AreFrontsTaken told given))
-  pub says : Says ended (command_given words) given
-  pub early : IfSome contents (λ told. IfSome taken (λ _. Stops (command_given words) told given))
+  pub says : Says ended meant given
+  pub early : IfSome contents (λ told. IfSome taken (λ _. Stops meant told given))
 
--- A run: what was taken, and what it leaves.
+-- A run: what the words mean, what was taken, and what it leaves.
 pub record Run (words : List (List ℕ)) (ended : Ended) (contents : Option Contents) (taken taken' : Option (List Take)) (held held' : Option Held) (Unwritten : Type 0) : Type 0 where
+  pub names : List (List ℕ)
+  pub meant : Option serial.Command
+  pub means : Means words names meant
   pub given : List Take
-  pub takes : Takes words ended given contents taken taken'
-  pub leaves : WhereTold (Leaves words ended given Unwritten) held held'
+  pub takes : Takes meant ended given contents taken taken'
+  pub leaves : WhereTold (Leaves words names meant ended given Unwritten) held held'
 
 -- The same before its message.
-pub record Ran (words : List (List ℕ)) (ended : Ended) (contents : Option Contents) (taken taken' : Option (List Take)) (held held' : Option Held) : Type 0 where
+pub record Ran (words names : List (List ℕ)) (ended : Ended) (contents : Option Contents) (taken taken' : Option (List Take)) (held held' : Option Held) : Type 0 where
+  pub meant : Option serial.Command
+  pub means : Means words names meant
   pub given : List Take
-  pub takes : Takes words ended given contents taken taken'
-  pub leaves : ChangesAt Stdout (standing.Leaves ended (text_given words given)) held held'
+  pub takes : Takes meant ended given contents taken taken'
+  pub leaves : ChangesAt Stdout (standing.Leaves ended (text_for meant given)) held held'
 
 -- what each answer says of the counts of the outputs
 abbrev pub OutputCause : Ended → (Target → ℕ) → (Target → ℕ) → Type 0

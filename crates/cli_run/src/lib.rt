@@ -1,9 +1,7 @@
 //! The top call of `mlr`: it takes the words of the command line and the inputs and outputs, runs the command, and
-//! says how the run ended. So far it accepts the flags of formats, then `cat`, `nothing`, `head` and, first of all,
-//! `seqgen`, joined by `then`, and then file names.
+//! says how the run ended. What it makes of the words is the grammar of cli_words.
 #![tactic(auto)]
 
-mod command;
 mod message;
 mod options;
 mod planning;
@@ -12,7 +10,6 @@ mod run;
 mod tests;
 #[cfg(test)]
 mod verb_tests;
-mod verbs;
 
 pub use run::run_mlr;
 pub use serial_core::{Ended, Refusal, Why};

@@ -4,16 +4,13 @@ ghost use Rattle.mlr_event.specs.declared.names.Target.TheVariants.{Stderr};
 ghost use Rattle.mlr_world.specs.Counts.{Counted, Tallied};
 ghost use Rattle.mlr_world.specs.Outputs.{ChangesAt, call_failed, lacked_memory};
 ghost use Rattle.cli_run.specs.Message.{Puts, message_of, fault_pieces, length_pieces, line_pieces, byte_pieces, file_text, named, input_text, target_text};
-ghost use Rattle.cli_run.specs.Verbs.{word_at};
+ghost use Rattle.cli_run.specs.Meaning.{word_at};
 
-use crate::command::{Line, line_of};
-use crate::options::names_of;
 use itoa::Buffer;
 use mlr_event::{Fault, FileRef, InputName, Target};
 use mlr_value::Bytes;
 use mlr_world::{Done, Outputs};
 use serial_core::Ended;
-use std::alloc::Global;
 
 /// Room for the numbers of one message.
 #[derive(Drop)]
@@ -24,16 +21,16 @@ pub(crate) struct Digits {
 }
 
 /// Writes the message of an answer to standard error, in pieces from where they stand. Numbers go by way of the
-/// buffer, so that a message takes no memory.
+/// buffer, so that a message takes no memory. A message names a word, or a file by its place among the file names.
 pub(crate) fn write_message<O: Outputs>(
-    alloc: Global,
     words: &[Bytes],
+    names: &[Bytes],
     ended: &Ended,
     digits: &mut Digits,
     outputs: &mut O,
 ) -> Done
     ensures none { ended.now ≡ Ended.Done → result ≡ Done.Ok }
-    ensures bytes { ChangesAt Stderr (Puts (message_of words.now ended.now) result) (O.held outputs.old) (O.held outputs.new) }
+    ensures bytes { ChangesAt Stderr (Puts (message_of words.now names.now ended.now) result) (O.held outputs.old) (O.held outputs.new) }
     ensures counts { Counted (call_failed result) (O.faults outputs.old) (O.faults outputs.new) Stderr }
     ensures memory { Tallied (lacked_memory result) (O.shortages outputs.old) (O.shortages outputs.new) }
 {
@@ -55,7 +52,7 @@ pub(crate) fn write_message<O: Outputs>(
                 b"",
             )
         }
-        Ended::Data(fault) => write_fault(alloc, words, fault, digits, outputs),
+        Ended::Data(fault) => write_fault(names, fault, digits, outputs),
         Ended::Read(name) => say(
             outputs,
             b"mlr: cannot read ",
@@ -109,13 +106,12 @@ pub(crate) fn write_message<O: Outputs>(
 
 /// Writes the message of a fault.
 fn write_fault<O: Outputs>(
-    alloc: Global,
-    words: &[Bytes],
+    names: &[Bytes],
     fault: &Fault,
     digits: &mut Digits,
     outputs: &mut O,
 ) -> Done
-    ensures bytes { ChangesAt Stderr (Puts (flat_map (λ piece. piece) (fault_pieces words.now fault.now)) result) (O.held outputs.old) (O.held outputs.new) }
+    ensures bytes { ChangesAt Stderr (Puts (flat_map (λ piece. piece) (fault_pieces names.now fault.now)) result) (O.held outputs.old) (O.held outputs.new) }
     ensures counts { Counted (call_failed result) (O.faults outputs.old) (O.faults outputs.new) Stderr }
     ensures memory { Tallied (lacked_memory result) (O.shortages outputs.old) (O.shortages outputs.new) }
 {
@@ -126,7 +122,7 @@ fn write_fault<O: Outputs>(
             want,
             have,
         } => write_length(
-            file_text(alloc, words, *file),
+            file_text(names, *file),
             *line,
             *want,
             *have,
@@ -134,35 +130,35 @@ fn write_fault<O: Outputs>(
             outputs,
         ),
         Fault::Quote { file, line } => say_line(
-            file_text(alloc, words, *file),
+            file_text(names, *file),
             *line,
             b": unclosed quote\n",
             digits,
             outputs,
         ),
         Fault::Table { file, line } => say_line(
-            file_text(alloc, words, *file),
+            file_text(names, *file),
             *line,
             b": bad table line\n",
             digits,
             outputs,
         ),
         Fault::JsonSyntax { file, byte } => say_byte(
-            file_text(alloc, words, *file),
+            file_text(names, *file),
             *byte,
             b": bad JSON\n",
             digits,
             outputs,
         ),
         Fault::JsonDeep { file, byte } => say_byte(
-            file_text(alloc, words, *file),
+            file_text(names, *file),
             *byte,
             b": nested deeper than 100\n",
             digits,
             outputs,
         ),
         Fault::JsonKind { file, byte } => say_byte(
-            file_text(alloc, words, *file),
+            file_text(names, *file),
             *byte,
             b": not a map\n",
             digits,
@@ -303,16 +299,13 @@ fn word_at(words: &[Bytes], number: u64) -> &[u8]
     }
 }
 
-/// The name of an input of a command line, by its number from 1; no bytes if there is none.
-fn file_text(alloc: Global, words: &[Bytes], file: FileRef) -> &[u8]
-    ensures { result.now ≡ file_text words.now file }
+/// The name of an input of a command line; no bytes if it has none.
+fn file_text(names: &[Bytes], file: FileRef) -> &[u8]
+    ensures { result.now ≡ file_text names.now file }
 {
-    match line_of(alloc, words) {
-        Line::Accepted(command) => match file {
-            FileRef::Main(number) => named(names_of(words, command), number),
-            FileRef::Left(_) => b"",
-        },
-        Line::Refused(_) => b"",
+    match file {
+        FileRef::Main(number) => named(names, number),
+        FileRef::Left(_) => b"",
     }
 }
 

@@ -1,8 +1,8 @@
 ghost use Rattle.std.specs.Prelude.{◌≡◌, ◌≤◌, ◌^◌, length, IfOk};
-ghost use Rattle.cli_run.specs.Command.{inputs_of, names_of};
+ghost use Rattle.cli_run.specs.Meaning.{inputs_of};
 ghost use Rattle.cli_run.specs.Options.{default_separator, is_json, read_options, write_options};
 
-use crate::command::Command;
+use cli_words::Formats;
 use mlr_event::{Comments, Format, InputName, ReadOpts};
 use mlr_spec::{InferOpts, NoMemory};
 use mlr_value::Bytes;
@@ -26,20 +26,20 @@ pub(crate) fn read_options(alloc: Global, format: Format) -> Result<ReadOpts, No
 }
 
 /// How a command writes.
-pub(crate) fn write_options(alloc: Global, command: Command) -> Result<WriteOpts, NoMemory>
-    ensures { IfOk result (λ opts. opts ≡ write_options command) }
+pub(crate) fn write_options(alloc: Global, formats: Formats) -> Result<WriteOpts, NoMemory>
+    ensures { IfOk result (λ opts. opts ≡ write_options formats) }
 {
     Ok(WriteOpts {
-        format: command.output,
-        ofs: Bytes::copy_of(alloc, default_separator(command.output))?,
+        format: formats.output,
+        ofs: Bytes::copy_of(alloc, default_separator(formats.output))?,
         ops: Bytes::copy_of(alloc, b"=")?,
         headerless: false,
         quote_all: false,
         barred: false,
         stacked: true,
         listwrap: true,
-        flatten: !is_json(command.output),
-        unflatten: is_json(command.output) && !is_json(command.input),
+        flatten: !is_json(formats.output),
+        unflatten: is_json(formats.output) && !is_json(formats.input),
         flatsep: Bytes::copy_of(alloc, b".")?,
     })
 }
@@ -60,13 +60,6 @@ fn is_json(format: Format) -> bool
     ensures { result ≡ is_json format }
 {
     matches!(format, Format::Json | Format::Jsonl)
-}
-
-/// The names of the files that a command reads.
-pub(crate) fn names_of(words: &[Bytes], command: Command) -> &[Bytes]
-    ensures { result.now ≡ names_of command words.now }
-{
-    words.get(command.names..).unwrap_or(&[])
 }
 
 /// More inputs than any memory holds.

@@ -1,12 +1,12 @@
 //! The plan of a command line.
-ghost use Rattle.std.specs.Prelude.{◌≡◌, ◌++◌, ◌∷◌, [], None, false, map, IfOk, OnOk};
+ghost use Rattle.std.specs.Prelude.{◌≡◌, ◌++◌, ◌∷◌, [], None, false, ℕ, List, IfOk, OnOk};
+ghost use Rattle.cli_words.specs.declared.verbs.Asked.{Asked as SpecAsked};
+ghost use Rattle.cli_words.specs.Grammar.{IsLine, names_of};
 ghost use Rattle.mlr_plan.specs.Plans.{IsCommandOf, IsSound};
-ghost use Rattle.cli_run.specs.Command.{ended};
 ghost use Rattle.cli_run.specs.Meaning.{command_of, field_of, spec_of, specs_of};
 
-use crate::command::{Command, Next, Place, after, plain};
-use crate::options::{inputs_of, names_of, read_options, write_options};
-use crate::verbs::{Asked, Numbers, may_end, numbers_of};
+use crate::options::{inputs_of, read_options, write_options};
+use cli_words::{Asked, Command, Numbers, names_of, numbers_of, verbs_of};
 use mlr_plan::{Plan, VerbSpec};
 use mlr_spec::NoMemory;
 use mlr_value::Bytes;
@@ -19,18 +19,21 @@ const PER_BATCH: u64 = 500;
 /// A loop of the language takes at most so many turns, where no word says it.
 const TURNS: u64 = 1_000_000_000;
 
-/// The plan of a command line that is accepted.
+/// The plan of a command line.
 pub(crate) fn plan_of(alloc: Global, words: &[Bytes], command: Command) -> Result<Plan, NoMemory>
+    requires { (verbs : List SpecAsked) × IsLine words.now command.formats verbs (names_of command words.now) }
     ensures sound { IfOk result (λ plan. IsSound plan) }
-    ensures command { IfOk result (λ plan. IsCommandOf plan (command_of command words.now)) }
+    ensures command { IfOk result (λ plan. (verbs : List SpecAsked) → IsLine words.now command.formats verbs (names_of command words.now)
+        → IsCommandOf plan (command_of command.formats verbs (names_of command words.now) words.now)) }
 {
     let mut styles = Vec::new(alloc);
-    styles.push(write_options(alloc, command)?)?;
+    styles.push(write_options(alloc, command.formats)?)?;
+    let verbs = verbs_of(alloc, words)?;
     Ok(Plan {
-        read: read_options(alloc, command.input)?,
+        read: read_options(alloc, command.formats.input)?,
         inputs: inputs_of(alloc, names_of(words, command))?,
         no_input: false,
-        verbs: specs_of(alloc, words)?,
+        verbs: specs_of(alloc, words, &verbs)?,
         styles,
         per_batch: PER_BATCH,
         turns: TURNS,
@@ -38,49 +41,15 @@ pub(crate) fn plan_of(alloc: Global, words: &[Bytes], command: Command) -> Resul
     })
 }
 
-/// The verbs that the words of a command line ask for.
-fn specs_of(alloc: Global, words: &[Bytes]) -> Result<Vec<VerbSpec>, NoMemory>
-    ensures { IfOk result (λ specs. specs.items ≡ specs_of words.now) }
+/// The verbs of a command line with their options.
+fn specs_of(alloc: Global, words: &[Bytes], verbs: &[Asked]) -> Result<Vec<VerbSpec>, NoMemory>
+    ensures { IfOk result (λ specs. specs.items ≡ specs_of words.now verbs.now) }
 {
     let mut specs = Vec::new(alloc);
-    let mut command = plain();
-    let mut place = Place::Flags;
-    for (before, word) in words.iter().enumerate() {
-        let next = after(alloc, before + 1, command, place, word.as_slice());
-        match next {
-            Next::Word(then, at) => {
-                if let Place::Verb = at {
-                    push_ended(alloc, words, place, &mut specs)?;
-                }
-                command = then;
-                place = at;
-            }
-            Next::Names => {
-                push_ended(alloc, words, place, &mut specs)?;
-                return Ok(specs);
-            }
-            Next::Refuse => return Ok(specs),
-        }
+    for asked in verbs {
+        push_spec(alloc, words, *asked, &mut specs)?;
     }
-    push_ended(alloc, words, place, &mut specs)?;
     Ok(specs)
-}
-
-/// Puts the verb last whose options were read, where it may end.
-fn push_ended(
-    alloc: Global,
-    words: &[Bytes],
-    place: Place,
-    specs: &mut Vec<VerbSpec>,
-) -> Result<(), NoMemory>
-    ensures { OnOk result (specs.new.items ≡ specs.old.items ++ map (spec_of words.now) (ended place)) }
-{
-    if let Place::Options(asked) = place {
-        if may_end(alloc, asked) {
-            return push_spec(alloc, words, asked, specs);
-        }
-    }
-    Ok(())
 }
 
 /// Puts a verb with its options last.

@@ -1,4 +1,4 @@
-ghost use Rattle.std.specs.Prelude.{◌≡◌, ◌⊎◌, ◌≤◌, Some, true};
+ghost use Rattle.std.specs.Prelude.{◌≡◌, ◌⊎◌, ◌≤◌, ℕ, List, true};
 ghost use Rattle.mlr_event.specs.declared.names.InputName.{InputName};
 ghost use Rattle.mlr_event.specs.declared.names.Target.{Target};
 ghost use Rattle.mlr_event.specs.declared.names.Target.TheVariants.{Stdout, Stderr};
@@ -7,13 +7,15 @@ ghost use Rattle.serial_core.specs.Answer.{has_failed, is_refused};
 ghost use Rattle.serial_core.specs.Command as serial;
 ghost use Rattle.serial_core.specs.Run.{Completes as Complete, HoldsAll, Run as SerialRun};
 ghost use Rattle.serial_core.specs.Standing.{InputCause};
-ghost use Rattle.cli_run.specs.Answer.{IsRefusedWhere, refused_word};
-ghost use Rattle.cli_run.specs.Meaning.{command_given, command_of};
+ghost use Rattle.cli_words.specs.declared.verbs.Asked.{Asked};
+ghost use Rattle.cli_words.specs.Grammar.{IsLine, Reads, names_of};
+ghost use Rattle.cli_run.specs.Answer.{RefusesWhere};
+ghost use Rattle.cli_run.specs.Meaning.{IsCommandLine, command_of, names_in};
 ghost use Rattle.cli_run.specs.Run.{Completes, OutputCause, Ran, Run};
 
-use crate::command::{Command, Line, line_of};
 use crate::message::{Digits, write_message};
 use crate::planning::plan_of;
+use cli_words::{Command, Line, line_of, names_of};
 use itoa::Buffer;
 use mlr_plan::run_serial;
 use mlr_value::Bytes;
@@ -37,12 +39,13 @@ pub fn run_mlr<
     inputs: I,
     outputs: &mut O,
 ) -> (Ended, I)
-    // Refused comes exactly where the words aren't flags of formats, then verbs that are built with their options, each
-    // behind `then` but the first, then file names, at the first word at which no such line can go on; nothing is read.
-    ensures refused { IsRefusedWhere (refused_word words.now) result.0 }
+    // Refused comes exactly where the words aren't a command line, which is flags of formats, then verbs that are built with
+    // their options, each behind `then` but the first, then file names, at the first word with which none goes on; nothing
+    // is read.
+    ensures refused { RefusesWhere words.now result.0 }
     ensures untouched { is_refused result.0 ≡ true → result.1 ≡ inputs }
 
-    // What was taken, what the answer says of it, and what stands in each output.
+    // What the words mean, what was taken, what the answer says of it, and what stands in each output.
     ensures run { Run words.now result.0 (I.contents inputs) (I.taken inputs) (I.taken result.1) (O.held outputs.old) (O.held outputs.new)
         (Rose (O.faults outputs.old Stderr) (O.faults outputs.new Stderr) ⊎ Rose (O.shortages outputs.old) (O.shortages outputs.new)) }
     ensures contents { I.contents result.1 ≡ I.contents inputs }
@@ -53,7 +56,7 @@ pub fn run_mlr<
     ensures output_cause { OutputCause result.0 (O.faults outputs.old) (O.faults outputs.new) }
 
     // Where no call fails, the answer is that of all that the inputs hold, and standard output has its text.
-    ensures completes { (command : serial.Command) → command_given words.now ≡ Some command → (holds : HoldsAll command (I.contents inputs) (I.taken inputs))
+    ensures completes { (names : List (List ℕ)) (command : serial.Command) → IsCommandLine words.now names command → (holds : HoldsAll command (I.contents inputs) (I.taken inputs))
         → ((name : InputName) → ¬ Rose (I.faults inputs name) (I.faults result.1 name))
         → ¬ Rose (O.faults outputs.old Stdout) (O.faults outputs.new Stdout)
         → Completes result.0 command holds.whole (O.held outputs.old) (O.held outputs.new) }
@@ -66,30 +69,43 @@ pub fn run_mlr<
         third: Buffer::new(),
     };
     let mut inputs = inputs;
-    let ended = run_command(alloc, words, &mut inputs, outputs);
-    let _ = write_message(alloc, words, &ended, &mut digits, outputs);
+    let line = line_of(alloc, words);
+    let ended = run_line(alloc, words, line, &mut inputs, outputs);
+    let _ = write_message(words, names_in(words, line), &ended, &mut digits, outputs);
     (ended, inputs)
 }
 
-/// Runs a command line without its message.
-fn run_command<I: Inputs, O: Outputs>(
+/// The file names of words that were read as this.
+fn names_in(words: &[Bytes], line: Line) -> &[Bytes]
+    ensures { result.now ≡ names_in words.now line }
+{
+    match line {
+        Line::Accepted(command) => names_of(words, command),
+        Line::Refused(_) => &[],
+    }
+}
+
+/// Runs what words were read as, without its message.
+fn run_line<I: Inputs, O: Outputs>(
     alloc: Global,
     words: &[Bytes],
+    line: Line,
     inputs: &mut I,
     outputs: &mut O,
 ) -> Ended
-    ensures refused { IsRefusedWhere (refused_word words.now) result }
+    requires { Reads words.now line }
+    ensures refused { RefusesWhere words.now result }
     ensures untouched { is_refused result ≡ true → inputs.new ≡ inputs.old }
-    ensures run { Ran words.now result (I.contents inputs.old) (I.taken inputs.old) (I.taken inputs.new) (O.held outputs.old) (O.held outputs.new) }
+    ensures run { Ran words.now (names_in words.now line) result (I.contents inputs.old) (I.taken inputs.old) (I.taken inputs.new) (O.held outputs.old) (O.held outputs.new) }
     ensures contents { I.contents inputs.new ≡ I.contents inputs.old }
     ensures input_cause { InputCause result (I.faults inputs.old) (I.faults inputs.new) }
     ensures output_counts { Counted (has_failed result) (O.faults outputs.old) (O.faults outputs.new) Stdout }
     ensures shortages { O.shortages outputs.old ≤ O.shortages outputs.new }
-    ensures completes { (command : serial.Command) → command_given words.now ≡ Some command → (holds : HoldsAll command (I.contents inputs.old) (I.taken inputs.old))
+    ensures completes { (names : List (List ℕ)) (command : serial.Command) → IsCommandLine words.now names command → (holds : HoldsAll command (I.contents inputs.old) (I.taken inputs.old))
         → ((name : InputName) → ¬ Rose (I.faults inputs.old name) (I.faults inputs.new name)) → ¬ Rose (O.faults outputs.old Stdout) (O.faults outputs.new Stdout)
         → Complete result command holds.whole (O.held outputs.old) (O.held outputs.new) }
 {
-    match line_of(alloc, words) {
+    match line {
         Line::Refused(word) => Ended::Refused(Refusal {
             word,
             why: Why::NotBuilt,
@@ -98,7 +114,7 @@ fn run_command<I: Inputs, O: Outputs>(
     }
 }
 
-/// Runs a command line that is accepted.
+/// Runs a command line.
 fn run_accepted<I: Inputs, O: Outputs>(
     alloc: Global,
     words: &[Bytes],
@@ -106,14 +122,17 @@ fn run_accepted<I: Inputs, O: Outputs>(
     inputs: &mut I,
     outputs: &mut O,
 ) -> Ended
-    ensures run { SerialRun result (command_of command words.now) (I.contents inputs.old) (I.taken inputs.old) (I.taken inputs.new) (I.open_name inputs.new) (O.held outputs.old) (O.held outputs.new) }
+    requires { (verbs : List Asked) × IsLine words.now command.formats verbs (names_of command words.now) }
+    ensures run { (verbs : List Asked) → IsLine words.now command.formats verbs (names_of command words.now)
+        → SerialRun result (command_of command.formats verbs (names_of command words.now) words.now) (I.contents inputs.old) (I.taken inputs.old) (I.taken inputs.new) (I.open_name inputs.new) (O.held outputs.old) (O.held outputs.new) }
     ensures contents { I.contents inputs.new ≡ I.contents inputs.old }
     ensures input_cause { InputCause result (I.faults inputs.old) (I.faults inputs.new) }
     ensures output_counts { Counted (has_failed result) (O.faults outputs.old) (O.faults outputs.new) Stdout }
     ensures shortages { O.shortages outputs.old ≤ O.shortages outputs.new }
-    ensures completes { (holds : HoldsAll (command_of command words.now) (I.contents inputs.old) (I.taken inputs.old))
+    ensures completes { (verbs : List Asked) → IsLine words.now command.formats verbs (names_of command words.now)
+        → (holds : HoldsAll (command_of command.formats verbs (names_of command words.now) words.now) (I.contents inputs.old) (I.taken inputs.old))
         → ((name : InputName) → ¬ Rose (I.faults inputs.old name) (I.faults inputs.new name)) → ¬ Rose (O.faults outputs.old Stdout) (O.faults outputs.new Stdout)
-        → Complete result (command_of command words.now) holds.whole (O.held outputs.old) (O.held outputs.new) }
+        → Complete result (command_of command.formats verbs (names_of command words.now) words.now) holds.whole (O.held outputs.old) (O.held outputs.new) }
 {
     match plan_of(alloc, words, command) {
         Ok(plan) => run_serial(alloc, &plan, inputs, outputs),

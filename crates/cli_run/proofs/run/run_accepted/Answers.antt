@@ -1,7 +1,19 @@
+use Rattle.cli_words.specs.Grammar.{names_of}
 use Rattle.mlr_plan.proofs.Runs.{unread}
 use Rattle.cli_run.specs.Meaning.{command_of}
 use Rattle.cli_run.proofs.run.run_accepted.Goals as goal
 
+pub returns-in-Ok-clause-run : goal.returns-in-Ok-clause-run
+returns-in-Ok-clause-run g c = λ verbs line.
+    let words = c.args.words.now in
+    c.run_serial.ensures.run (command_of c.args.command.formats verbs (names_of c.args.command words) words) (c.in-Ok.ensures.command verbs line)
+
+pub returns-in-Ok-clause-completes : goal.returns-in-Ok-clause-completes
+returns-in-Ok-clause-completes g c = λ verbs line.
+    let words = c.args.words.now in
+    c.run_serial.ensures.completes (command_of c.args.command.formats verbs (names_of c.args.command words) words) (c.in-Ok.ensures.command verbs line)
+
 pub returns-in-Err-clause-run : goal.returns-in-Err-clause-run
-returns-in-Err-clause-run g c =
-    unread (command_of c.args.command c.args.words.now) (g.I.Inputs.contents c.args.inputs.now) (g.I.Inputs.taken c.args.inputs.now) (g.I.Inputs.open_name c.args.inputs.now) (g.O.Outputs.held c.args.outputs.now)
+returns-in-Err-clause-run g c = λ verbs line.
+    let words = c.args.words.now in
+    unread (command_of c.args.command.formats verbs (names_of c.args.command words) words) (g.I.Inputs.contents c.args.inputs.now) (g.I.Inputs.taken c.args.inputs.now) (g.I.Inputs.open_name c.args.inputs.now) (g.O.Outputs.held c.args.outputs.now)

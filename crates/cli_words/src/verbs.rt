@@ -2,16 +2,16 @@
 ghost use Rattle.std.specs.Prelude.{◌≡◌, nat_lt};
 ghost use Rattle.std.specs.List.{list_all};
 ghost use Rattle.mlr_spec.specs.Infer.{are_digits, digit, unsigned};
-ghost use Rattle.cli_run.specs.Verbs.{first_verb, int_in, is_dashed, may_end, option_named, verb_named, with_option};
+ghost use Rattle.cli_words.specs.Verbs.{first_verb, int_in, is_dashed, may_end, option_named, verb_named, with_option};
 
 use mlr_spec::{InferOpts, Kind};
 use mlr_value::{Bytes, infer};
 use std::alloc::Global;
 use verbs_seq::SeqSpec;
 
-/// A verb that words ask for.
+/// A verb that words ask for, with its options.
 #[derive(Clone, Copy, Debug, PartialEq, Eq)]
-pub(crate) enum Asked {
+pub enum Asked {
     Cat,
     Nothing,
     /// `head`, of so many records.
@@ -22,12 +22,12 @@ pub(crate) enum Asked {
 
 /// The numbers of `seqgen`.
 #[derive(Clone, Copy, Debug, PartialEq, Eq)]
-pub(crate) struct Numbers {
-    /// The number of the word that names the field, or 0 where none does.
-    pub(crate) field: usize,
-    pub(crate) start: i64,
-    pub(crate) stop: i64,
-    pub(crate) step: i64,
+pub struct Numbers {
+    /// The number of the word that names the field, from 1, or 0 where none does.
+    pub field: usize,
+    pub start: i64,
+    pub stop: i64,
+    pub step: i64,
 }
 
 /// An option of a verb, which takes the next word.
@@ -199,8 +199,8 @@ pub(crate) fn may_end(alloc: Global, asked: Asked) -> bool
     }
 }
 
-/// The options of `seqgen` with the name of their field.
-pub(crate) fn numbers_of(field: Bytes, numbers: Numbers) -> SeqSpec
+/// The options of `seqgen` with the name of their field. It takes no memory.
+pub fn numbers_of(field: Bytes, numbers: Numbers) -> SeqSpec
     ensures { result ≡ (record { field = field; start = numbers.start; stop = numbers.stop; step = numbers.step }) }
 {
     SeqSpec {

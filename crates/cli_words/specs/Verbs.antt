@@ -1,16 +1,16 @@
 -- The verbs that words ask for, and their options.
-use Rattle.std.specs.Prelude.{ℕ, ℤ, pos, negsuc, ◌-◌, ◌^◌, ◌==◌, nat_le, Bool, true, false, not, ◌&&◌, if◌then◌else◌, List, [], ◌∷◌, map, codes, Option, Some, None, slice_index_or}
+use Rattle.std.specs.Prelude.{ℕ, ℤ, pos, negsuc, ◌^◌, ◌==◌, nat_le, Bool, true, false, not, ◌&&◌, if◌then◌else◌, List, [], ◌∷◌, map, codes, Option, Some, None}
 use Rattle.std.specs.Option.{option_map}
 use Rattle.std.specs.Str.{bytes_eq}
 use Rattle.mlr_spec.specs.Infer.{are_digits, kind_of, unsigned}
 use Rattle.mlr_spec.specs.declared.infer.Kind.{Kind}
 use Rattle.mlr_spec.specs.declared.infer.Kind.TheVariants.{Empty, Str, Int, Frac, Wide}
 use Rattle.verbs_seq.specs.Seq.{count_between}
-use Rattle.cli_run.specs.declared.verbs.Asked.{Asked}
-use Rattle.cli_run.specs.declared.verbs.Asked.TheVariants.{Cat, Nothing, Head, Seq}
-use Rattle.cli_run.specs.declared.verbs.Numbers.{Numbers}
-use Rattle.cli_run.specs.declared.verbs.VerbOption.{VerbOption}
-use Rattle.cli_run.specs.declared.verbs.VerbOption.TheVariants.{Count, Field, Start, Stop, Step}
+use Rattle.cli_words.specs.declared.verbs.Asked.{Asked}
+use Rattle.cli_words.specs.declared.verbs.Asked.TheVariants.{Cat, Nothing, Head, Seq}
+use Rattle.cli_words.specs.declared.verbs.Numbers.{Numbers}
+use Rattle.cli_words.specs.declared.verbs.VerbOption.{VerbOption}
+use Rattle.cli_words.specs.declared.verbs.VerbOption.TheVariants.{Count, Field, Start, Stop, Step}
 
 -- the verbs by their words
 abbrev pub verb_named : List ℕ → Option Asked
@@ -70,7 +70,3 @@ may_end _ = true
 abbrev pub is_dashed : List ℕ → Bool
 is_dashed [] = false
 is_dashed (b ∷ word) = b == 45
-
--- the word with this number from 1; none of number 0 or past the last
-abbrev pub word_at : List (List ℕ) → ℕ → List ℕ
-word_at words number = if number == 0 then [] else slice_index_or words (number - 1) []

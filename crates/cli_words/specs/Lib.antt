@@ -1,0 +1,4 @@
+pub mod Flags
+pub mod Verbs
+pub mod Grammar
+pub mod Walk
