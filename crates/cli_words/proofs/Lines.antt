@@ -5,7 +5,7 @@ use Rattle.std.proofs.Math.Seq.{drop-append_seam}
 use Rattle.std.proofs.lemmas.List.{length-append}
 use Rattle.cli_words.specs.declared.flags.Formats.{Formats}
 use Rattle.cli_words.specs.declared.line.Command.{Command}
-use Rattle.cli_words.specs.declared.line.Line.TheVariants.{Accepted, Refused}
+use Rattle.cli_words.specs.declared.line.Line.TheVariants.{Accepted}
 use Rattle.cli_words.specs.declared.line.Next.TheVariants.{Word}
 use Rattle.cli_words.specs.declared.line.Place.TheVariants.{Flags, Options}
 use Rattle.cli_words.specs.declared.verbs.Asked.{Asked}

@@ -9,11 +9,11 @@ use Rattle.cli_words.specs.declared.line.Place.TheVariants.{Flags}
 use Rattle.cli_words.specs.declared.verbs.Asked.{Asked}
 use Rattle.cli_words.specs.Flags.{plain}
 use Rattle.cli_words.specs.Grammar.{CanGoOn, IsLine, IsRefusedAt, Reads, behind_then}
-use Rattle.cli_words.specs.Walk.{asked, line_from, walked}
+use Rattle.cli_words.specs.Walk.{asked, walked}
 use Rattle.cli_words.proofs.Lines.{accepted-line, line-names}
 use Rattle.cli_words.proofs.Refusals.{refusal}
 use Rattle.cli_words.proofs.Rests.{refused-not}
-use Rattle.cli_words.proofs.Walks.{accepted, line-walk, walk}
+use Rattle.cli_words.proofs.Walks.{line-walk}
 
 -- no walk through a command line is refused
 line-not : {A : Type 0} (words : List (List ℕ)) (formats : Formats) (verbs : List Asked) (names : List (List ℕ)) (number : ℕ)

@@ -1,9 +1,9 @@
 -- What the words behind a place make of a command line: the walk finds what the grammar says.
-use Rattle.std.proofs.Common.{◌≡◌, ℕ, ◌+◌, Bool, true, false, List, [], ◌∷◌, ◌++◌, Option, Some, None, refl, ap, sym, subst, ◌∙◌, append_assoc, arith}
+use Rattle.std.proofs.Common.{◌≡◌, ℕ, ◌+◌, Bool, true, false, List, [], ◌∷◌, ◌++◌, Option, Some, None, refl, ap, sym, subst, ◌∙◌, arith}
 use Rattle.std.specs.Prelude.{◌&&◌, ◌||◌, not, codes, length, if◌then◌else◌}
 use Rattle.std.specs.Option.{option_map}
 use Rattle.std.specs.Str.{bytes_eq}
-use Rattle.std.proofs.lemmas.Bool.{true≢false, false≢true}
+use Rattle.std.proofs.lemmas.Bool.{true≢false}
 use Rattle.std.proofs.lemmas.List.{length-append}
 use Rattle.std.proofs.lemmas.Slice.Eq.{bytes_eq-Decides}
 use Rattle.cli_words.specs.declared.flags.Formats.{Formats}
@@ -16,10 +16,10 @@ use Rattle.cli_words.specs.declared.line.Place.{Place}
 use Rattle.cli_words.specs.declared.line.Place.TheVariants.{Flags, Verb, Options, Argument}
 use Rattle.cli_words.specs.declared.verbs.Asked.{Asked}
 use Rattle.cli_words.specs.declared.verbs.VerbOption.{VerbOption}
-use Rattle.cli_words.specs.Flags.{flagged, plain}
-use Rattle.cli_words.specs.Grammar.{are_names, behind_then, formats_by, options_in, verb_in, verbs_in}
-use Rattle.cli_words.specs.Verbs.{first_verb, is_dashed, may_end, option_named, verb_named, with_option}
-use Rattle.cli_words.specs.Walk.{after, asked_from, behind_options, behind_verb, ended, ended_by, line_from, may_stop}
+use Rattle.cli_words.specs.Flags.{plain}
+use Rattle.cli_words.specs.Grammar.{are_names, behind_then, options_in, verb_in, verbs_in}
+use Rattle.cli_words.specs.Verbs.{is_dashed, may_end, option_named, verb_named, with_option}
+use Rattle.cli_words.specs.Walk.{asked_from, behind_options, behind_verb, ended_by, line_from}
 
 -- what an option lacks, and then more options
 abbrev pub argument_in : ℕ → Asked → VerbOption → List (List ℕ) → Option Asked

@@ -1,7 +1,7 @@
 -- Worked command lines: how the grammar reads them, and where it refuses them.
-use Rattle.std.proofs.Common.{◌≡◌, ℕ, List, [], ◌∷◌, pos, negsuc, refl}
+use Rattle.std.proofs.Common.{[], ◌∷◌, pos, negsuc, refl}
 use Rattle.std.specs.Prelude.{codes}
-use Rattle.mlr_event.specs.declared.options.Format.TheVariants.{Csv, Dkvp, Pprint}
+use Rattle.mlr_event.specs.declared.options.Format.TheVariants.{Csv, Pprint}
 use Rattle.mlr_spec.specs.Infer.{kind_behind_sign}
 use Rattle.cli_words.specs.declared.verbs.Asked.TheVariants.{Cat, Head, Nothing, Seq}
 use Rattle.cli_words.specs.Flags.{plain}

@@ -4,7 +4,7 @@ use Rattle.std.specs.Prelude.{◌&&◌, ◌||◌, not, codes, length, if◌then�
 use Rattle.std.specs.Option.{option_map}
 use Rattle.std.specs.Str.{bytes_eq}
 use Rattle.std.proofs.lemmas.Bool.{true≢false, false≢true}
-use Rattle.std.proofs.lemmas.List.{append-nil, length-append}
+use Rattle.std.proofs.lemmas.List.{length-append}
 use Rattle.std.proofs.lemmas.Slice.Eq.{bytes_eq-Decides}
 use Rattle.cli_words.specs.declared.flags.Formats.{Formats}
 use Rattle.cli_words.specs.declared.line.Line.{Line}
@@ -19,7 +19,7 @@ use Rattle.cli_words.specs.declared.verbs.VerbOption.{VerbOption}
 use Rattle.cli_words.specs.Flags.{flagged, plain}
 use Rattle.cli_words.specs.Grammar.{IsLine, are_names, behind_then, formats_by, options_in, verb_in, verbs_in}
 use Rattle.cli_words.specs.Verbs.{first_verb, is_dashed, may_end, option_named, verb_named, with_option}
-use Rattle.cli_words.specs.Walk.{after, asked_from, behind_options, behind_verb, ended, ended_by, line_from}
+use Rattle.cli_words.specs.Walk.{after, asked_from, behind_options, behind_verb, line_from}
 use Rattle.cli_words.proofs.Rests.{line_by, verbs_by}
 
 -- the line and the verbs of a walk

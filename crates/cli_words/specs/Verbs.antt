@@ -1,14 +1,13 @@
 -- The verbs that words ask for, and their options.
-use Rattle.std.specs.Prelude.{ℕ, ℤ, pos, negsuc, ◌^◌, ◌==◌, nat_le, Bool, true, false, not, ◌&&◌, if◌then◌else◌, List, [], ◌∷◌, map, codes, Option, Some, None}
+use Rattle.std.specs.Prelude.{ℕ, ℤ, pos, negsuc, ◌^◌, ◌==◌, nat_le, Bool, true, false, not, ◌&&◌, if◌then◌else◌, List, [], ◌∷◌, codes, Option, Some, None}
 use Rattle.std.specs.Option.{option_map}
 use Rattle.std.specs.Str.{bytes_eq}
 use Rattle.mlr_spec.specs.Infer.{are_digits, kind_of, unsigned}
 use Rattle.mlr_spec.specs.declared.infer.Kind.{Kind}
-use Rattle.mlr_spec.specs.declared.infer.Kind.TheVariants.{Empty, Str, Int, Frac, Wide}
+use Rattle.mlr_spec.specs.declared.infer.Kind.TheVariants.{Int}
 use Rattle.verbs_seq.specs.Seq.{count_between}
 use Rattle.cli_words.specs.declared.verbs.Asked.{Asked}
 use Rattle.cli_words.specs.declared.verbs.Asked.TheVariants.{Cat, Nothing, Head, Seq}
-use Rattle.cli_words.specs.declared.verbs.Numbers.{Numbers}
 use Rattle.cli_words.specs.declared.verbs.VerbOption.{VerbOption}
 use Rattle.cli_words.specs.declared.verbs.VerbOption.TheVariants.{Count, Field, Start, Stop, Step}
 

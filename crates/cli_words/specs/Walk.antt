@@ -1,5 +1,5 @@
 -- How the words are read, one behind the other. What that comes to is the grammar, in Grammar.
-use Rattle.std.specs.Prelude.{ℕ, ◌+◌, Bool, true, false, not, ◌||◌, if◌then◌else◌, List, [], ◌∷◌, ◌++◌, codes, Option, Some, None}
+use Rattle.std.specs.Prelude.{ℕ, ◌+◌, Bool, false, not, ◌||◌, if◌then◌else◌, List, [], ◌∷◌, ◌++◌, codes, Option, Some, None}
 use Rattle.std.specs.Str.{bytes_eq}
 use Rattle.cli_words.specs.declared.flags.Formats.{Formats}
 use Rattle.cli_words.specs.declared.line.Line.{Line}
