@@ -1,5 +1,5 @@
 -- The verbs of a command line can be run: only the first may be `seqgen`, and its numbers are sound.
-use Rattle.std.proofs.Common.{◌≡◌, ℕ, ◌+◌, ◌≤◌, ◌^◌, ℤ, pos, Bool, true, false, List, [], ◌∷◌, ◌++◌, map, refl, sym, subst, ap, ◌∙◌}
+use Rattle.std.proofs.Common.{◌≡◌, ℕ, ◌+◌, ◌^◌, ℤ, pos, Bool, true, false, List, [], ◌∷◌, ◌++◌, refl, sym, subst, ap, ◌∙◌}
 use Rattle.std.specs.Prelude.{◌≢◌, ◌&&◌, not, nat_le, length}
 use Rattle.std.proofs.lemmas.Bool.{false≢true, leb-true}
 use Rattle.mlr_event.specs.declared.names.InputName.{InputName}

@@ -13,7 +13,6 @@ use Rattle.serial_core.specs.declared.answer.Ended.TheVariants as answer
 use Rattle.serial_core.specs.Answer.{has_failed}
 use Rattle.serial_core.specs.Command as serial
 use Rattle.serial_core.specs.Standing as standing
-use Rattle.serial_core.specs.declared.answer.Why.TheVariants as why
 use Rattle.cli_run.specs.Answer.{RefusesWhere}
 use Rattle.cli_run.specs.Meaning.{Means, text_for}
 use Rattle.cli_run.specs.Message.{Puts, message_of}

@@ -1,4 +1,4 @@
-use Rattle.std.proofs.Common.{ap, subst}
+use Rattle.std.proofs.Common.{subst}
 use Rattle.mlr_event.specs.declared.names.Target.TheVariants.{Stderr, Stdout}
 use Rattle.mlr_world.specs.Outputs.{ChangesAt, call_failed}
 use Rattle.serial_core.specs.Answer.{has_failed}
