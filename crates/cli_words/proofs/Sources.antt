@@ -10,7 +10,7 @@ use Rattle.cli_words.specs.declared.verbs.VerbOption.TheVariants.{Count, Field, 
 use Rattle.cli_words.specs.Flags.{plain}
 use Rattle.cli_words.specs.Grammar.{options_in, verb_in, verbs_in}
 use Rattle.cli_words.specs.Verbs.{count_of, first_verb, int_in, may_end, option_named, verb_named, with_option}
-use Rattle.cli_words.proofs.Walks.{verb-walk}
+use Rattle.cli_words.proofs.Walks.{none-some, verb-walk}
 
 abbrev pub NotSeq : Asked → Type 0
 NotSeq Cat = Unit {0}
@@ -83,9 +83,6 @@ options-keep (word ∷ argument ∷ words) n asked is_not = keep-named words (op
 later-verb : (n : ℕ) (verb : List (List ℕ)) → IfSomeNot (verb_in n verb_named verb)
 later-verb n [] = tt
 later-verb n (name ∷ options) = keep-given options (options-keep options) (n + 1) (verb_named name) (named name)
-
-none-some : {A B : Type 0} (x : A) → None ≡ Some x → B
-none-some x is = absurd (let e = is in cc)
 
 later-more : (o : Option (List Asked)) (verb : Asked) (more : List Asked) → NotSeq verb → ((rest : List Asked) → o ≡ Some rest → NoneSeq rest) → option_map (λ rest. verb ∷ rest) o ≡ Some more → NoneSeq more
 later-more None verb more is_not go is = none-some more is

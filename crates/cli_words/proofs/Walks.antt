@@ -38,7 +38,7 @@ step n formats place word words next is = ap (λ x. (line_by n formats (λ f p. 
 some-same : {A : Type 0} (x y : A) → Some x ≡ Some y → x ≡ y
 some-same x y is = cc
 
-none-some : {A B : Type 0} (x : A) → None ≡ Some x → B
+pub none-some : {A B : Type 0} (x : A) → None ≡ Some x → B
 none-some x is = absurd (let e = is in cc)
 
 -- a verb that may end is the same behind no options

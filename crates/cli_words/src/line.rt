@@ -144,7 +144,8 @@ fn walk(alloc: Global, words: &[Bytes]) -> Line
     Line::Refused(words.len() as u64 + 1)
 }
 
-/// The verbs of a command line in their order.
+/// The verbs of a command line in their order. It takes memory for the list alone. What it gives of words that are refused
+/// is open.
 pub fn verbs_of(alloc: Global, words: &[Bytes]) -> Result<Vec<Asked>, NoMemory>
     ensures { IfOk result (λ verbs. (formats : SpecFormats) (all : List SpecAsked) (names : List (List ℕ)) → IsLine words.now formats all names → verbs.items ≡ all) }
 {
@@ -197,7 +198,8 @@ pub fn names_of(words: &[Bytes], command: Command) -> &[Bytes]
     words.get(command.names..).unwrap_or(&[])
 }
 
-/// Laws of the grammar: a command line has one reading, words are refused at one place, and no words are both.
+/// Laws of the grammar: a command line has one reading, words are refused at one place, and all words are the one or the
+/// other.
 pub fn grammar_laws()
     ensures one { (words : List (List ℕ)) (formats other : SpecFormats) (verbs more : List SpecAsked) (names rest : List (List ℕ)) → IsLine words formats verbs names → IsLine words other more rest
         → (formats ≡ other) × (verbs ≡ more) × (names ≡ rest) }
