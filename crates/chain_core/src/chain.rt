@@ -12,7 +12,6 @@ use mlr_spec::NoMemory;
 use std::alloc::Global;
 
 /// Verbs one behind the other, of any kind. It stands for the list of events that it was given.
-#[derive(Drop)]
 pub struct Chain<S> {
     alloc: Global,
     stages: Vec<Stage<S>>,
@@ -20,6 +19,15 @@ pub struct Chain<S> {
     quiet: bool,
     /// The events at hand.
     room: Events,
+}
+
+// Written out, so that the crates above call it and don't go into the fields.
+impl<S: Drop> Drop for Chain<S> {
+    fn drop(self) {
+        let Chain { alloc: _, stages, quiet: _, room } = self;
+        drop(stages);
+        drop(room);
+    }
 }
 
 impl<S: Step + Drop> Chain<S> {

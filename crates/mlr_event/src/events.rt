@@ -7,9 +7,17 @@ use std::alloc::Global;
 use std::marker::Model;
 
 /// A list of events, in order.
-#[derive(Drop)]
 pub struct Events {
     events: Vec<Event>,
+}
+
+// Written out, so that the crates above call it and don't go into the fields.
+impl Drop for Events {
+    #[inline]
+    fn drop(self) {
+        let Events { events } = self;
+        drop(events);
+    }
 }
 
 impl Model for Events {

@@ -8,10 +8,17 @@ use std::alloc::Global;
 use std::marker::Model;
 
 /// Names of fields, in order, as the options of verbs have them. A name may repeat.
-#[derive(Drop)]
 pub struct Names {
     alloc: Global,
     names: Vec<Bytes>,
+}
+
+// Written out, so that the crates above call it and don't go into the fields.
+impl Drop for Names {
+    fn drop(self) {
+        let Names { alloc: _, names } = self;
+        drop(names);
+    }
 }
 
 impl Model for Names {
@@ -67,7 +74,8 @@ impl Names {
     pub fn into_vec(self) -> Vec<Bytes>
         ensures { result.items ≡ self }
     {
-        self.names
+        let Names { alloc: _, names } = self;
+        names
     }
 
     /// Whether this name is among them. It takes no memory.

@@ -8,12 +8,20 @@ use std::alloc::Global;
 use std::marker::Model;
 
 /// The names of the fields of rows. They are made distinct once, for all rows under them.
-#[derive(Drop)]
 pub struct Header {
     /// As they stand in the file.
     names: Vec<Bytes>,
     /// Each made distinct from those before it.
     keys: Vec<Bytes>,
+}
+
+// Written out, so that the crates above call it and don't go into the fields.
+impl Drop for Header {
+    fn drop(self) {
+        let Header { names, keys } = self;
+        drop(names);
+        drop(keys);
+    }
 }
 
 impl Model for Header {

@@ -52,7 +52,7 @@ impl Comments {
 }
 
 /// How a file is read. What another format means has no effect.
-#[derive(Debug, PartialEq, Eq, Drop)]
+#[derive(Debug, PartialEq, Eq)]
 pub struct ReadOpts {
     pub format: Format,
     /// What stands between two fields (CSV, TSV, DKVP, NIDX): 1 to 16 bytes.
@@ -67,6 +67,25 @@ pub struct ReadOpts {
     pub dedupe: bool,
     pub comments: Comments,
     pub infer: InferOpts,
+}
+
+// Written out, so that the crates above call it and don't go into the fields.
+impl Drop for ReadOpts {
+    fn drop(self) {
+        let ReadOpts {
+            format: _,
+            ifs,
+            ips,
+            implicit: _,
+            ragged: _,
+            dedupe: _,
+            comments,
+            infer: _,
+        } = self;
+        drop(ifs);
+        drop(ips);
+        drop(comments);
+    }
 }
 
 impl ReadOpts {

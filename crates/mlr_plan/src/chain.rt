@@ -37,7 +37,7 @@ fn without_source(verbs: &[VerbSpec]) -> &[VerbSpec]
     ensures verbs { verbs_of result.now ≡ verbs_of verbs.now }
 {
     match verbs {
-        [VerbSpec::Seq(_), behind @ ..] => behind,
+        [VerbSpec::Seq(..), behind @ ..] => behind,
         _ => verbs,
     }
 }

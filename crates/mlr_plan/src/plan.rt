@@ -8,7 +8,6 @@ use std::alloc::Global;
 use writers::WriteOpts;
 
 /// What a command reads, through which verbs its records go, and how they are written.
-#[derive(Drop)]
 pub struct Plan {
     /// How the main inputs are read.
     pub read: ReadOpts,
@@ -26,6 +25,26 @@ pub struct Plan {
     pub turns: u64,
     /// The run goes one after the other, without threads.
     pub serial: bool,
+}
+
+// Written out, so that the crates above call it and don't go into the parts.
+impl Drop for Plan {
+    fn drop(self) {
+        let Plan {
+            read,
+            inputs,
+            no_input: _,
+            verbs,
+            styles,
+            per_batch: _,
+            turns: _,
+            serial: _,
+        } = self;
+        drop(read);
+        drop(inputs);
+        drop(verbs);
+        drop(styles);
+    }
 }
 
 impl Plan {

@@ -8,10 +8,18 @@ use std::alloc::Global;
 use verbs_stream::StreamVerb;
 
 /// A verb of a chain, of any kind.
-#[derive(Drop)]
 pub enum Verb {
     /// A streaming verb.
     Stream(StreamVerb),
+}
+
+// Written out, so that the crates above call it.
+impl Drop for Verb {
+    fn drop(self) {
+        match self {
+            Verb::Stream(verb) => drop(verb),
+        }
+    }
 }
 
 impl Verb {

@@ -7,12 +7,21 @@ use verbs_seq::SeqSpec;
 use verbs_stream::Spec;
 
 /// A verb of a plan, with its options.
-#[derive(Drop)]
 pub enum VerbSpec {
     /// A streaming verb.
     Stream(Spec),
     /// The source `seqgen`.
     Seq(SeqSpec),
+}
+
+// Written out, so that the crates above call it.
+impl Drop for VerbSpec {
+    fn drop(self) {
+        match self {
+            VerbSpec::Stream(spec) => drop(spec),
+            VerbSpec::Seq(seq) => drop(seq),
+        }
+    }
 }
 
 impl VerbSpec {

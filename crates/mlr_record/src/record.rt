@@ -21,10 +21,18 @@ pub struct Field {
 }
 
 /// A record: fields in order, no two of one name. A search goes over the fields, since records are short.
-#[derive(Drop)]
 pub struct Record {
     alloc: Global,
     fields: Vec<Field>,
+}
+
+// Written out, so that the crates above call it and don't go into the fields.
+impl Drop for Record {
+    #[inline]
+    fn drop(self) {
+        let Record { alloc: _, fields } = self;
+        drop(fields);
+    }
 }
 
 impl Model for Record {
@@ -148,7 +156,8 @@ impl Record {
         ensures fields { pairs_of result.items ≡ self }
         ensures distinct { are_distinct (keys_of self) ≡ true }
     {
-        self.fields
+        let Record { alloc: _, fields } = self;
+        fields
     }
 
     /// Gives the field at this place another value, and answers the one that it had. It takes no memory.

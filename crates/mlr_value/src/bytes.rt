@@ -7,10 +7,18 @@ use std::fmt;
 use std::marker::Model;
 
 /// A byte text, which need not be UTF-8. Up to 16 bytes lie in the value itself and take no memory.
-#[derive(Drop)]
 pub struct Bytes {
     room: Room,
     alloc: Global,
+}
+
+// Written out, so that the crates above call it and don't go into the fields.
+impl Drop for Bytes {
+    #[inline]
+    fn drop(self) {
+        let Bytes { room, alloc: _ } = self;
+        drop(room);
+    }
 }
 
 /// Where a text lies.

@@ -43,7 +43,6 @@ pub(crate) struct Reading {
 
 /// Inputs in memory, for tests: they give what they are told to hold, in pieces of the sizes that they are told,
 /// and fail at the calls that they are told.
-#[derive(Drop)]
 pub struct MemInputs {
     contents: Vec<(InputName, Bytes)>,
     pieces: Vec<usize>,
@@ -52,6 +51,25 @@ pub struct MemInputs {
     readings: Vec<Reading>,
     is_open: bool,
     faults: u64,
+}
+
+// Written out, so that the crates above call it and don't go into the fields.
+impl Drop for MemInputs {
+    fn drop(self) {
+        let MemInputs {
+            contents,
+            pieces,
+            given: _,
+            failing,
+            readings,
+            is_open: _,
+            faults: _,
+        } = self;
+        drop(contents);
+        drop(pieces);
+        drop(failing);
+        drop(readings);
+    }
 }
 
 impl Model for MemInputs {

@@ -24,7 +24,6 @@ pub(crate) struct HeldText {
 
 /// Outputs in memory, for tests: they keep what is written, have room for so many bytes, and fail at the calls
 /// that they are told.
-#[derive(Drop)]
 pub struct MemOutputs {
     alloc: Global,
     held: Vec<HeldText>,
@@ -32,6 +31,22 @@ pub struct MemOutputs {
     failing: Failing,
     faults: u64,
     shortages: u64,
+}
+
+// Written out, so that the crates above call it and don't go into the fields.
+impl Drop for MemOutputs {
+    fn drop(self) {
+        let MemOutputs {
+            alloc: _,
+            held,
+            room: _,
+            failing,
+            faults: _,
+            shortages: _,
+        } = self;
+        drop(held);
+        drop(failing);
+    }
 }
 
 impl Model for MemOutputs {

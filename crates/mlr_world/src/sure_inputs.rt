@@ -17,7 +17,6 @@ use std::alloc::Global;
 use std::marker::Model;
 
 /// Inputs in memory that never fail. A name that isn't listed is empty.
-#[derive(Drop)]
 pub struct SureInputs {
     alloc: Global,
     /// What was given, and behind it an empty entry for each other name that was opened.
@@ -25,6 +24,21 @@ pub struct SureInputs {
     given: usize,
     readings: Vec<Reading>,
     is_open: bool,
+}
+
+// Written out, so that the crates above call it and don't go into the fields.
+impl Drop for SureInputs {
+    fn drop(self) {
+        let SureInputs {
+            alloc: _,
+            entries,
+            given: _,
+            readings,
+            is_open: _,
+        } = self;
+        drop(entries);
+        drop(readings);
+    }
 }
 
 impl Model for SureInputs {

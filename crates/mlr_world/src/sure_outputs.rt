@@ -15,11 +15,18 @@ use std::alloc::Global;
 use std::marker::Model;
 
 /// Outputs in memory that never fail. They grow as they are written.
-#[derive(Drop)]
 pub struct SureOutputs {
     alloc: Global,
     held: Vec<HeldText>,
     shortages: u64,
+}
+
+// Written out, so that the crates above call it and don't go into the fields.
+impl Drop for SureOutputs {
+    fn drop(self) {
+        let SureOutputs { alloc: _, held, shortages: _ } = self;
+        drop(held);
+    }
 }
 
 impl Model for SureOutputs {

@@ -33,11 +33,19 @@ pub enum Let {
 
 /// The end of a chain: it writes what standard output gets of the events that come. It stands for the list of events that
 /// it was given.
-#[derive(Drop)]
 pub struct Outlet {
     writer: Writer,
     /// What is to be written next.
     text: Bytes,
+}
+
+// Written out, so that the crates above call it and don't go into the writers.
+impl Drop for Outlet {
+    fn drop(self) {
+        let Outlet { writer, text } = self;
+        drop(writer);
+        drop(text);
+    }
 }
 
 impl Outlet {

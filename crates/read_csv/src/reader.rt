@@ -15,9 +15,16 @@ use mlr_spec::NoMemory;
 use std::alloc::Global;
 
 /// Reads one file in CSV or TSV, whose bytes come in pieces that are cut anywhere.
-#[derive(Drop)]
 pub struct CsvReader {
     lines: Lines<RowRules>,
+}
+
+// Written out, so that the crates above call it and don't go into the fields.
+impl Drop for CsvReader {
+    fn drop(self) {
+        let CsvReader { lines } = self;
+        drop(lines);
+    }
 }
 
 /// Whether a reader can read by these options: CSV or TSV, with a separator that has bytes.

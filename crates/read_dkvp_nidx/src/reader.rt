@@ -15,9 +15,16 @@ use mlr_spec::NoMemory;
 use std::alloc::Global;
 
 /// Reads one file in DKVP, NIDX or Markdown, whose bytes come in pieces that are cut anywhere.
-#[derive(Drop)]
 pub struct LineReader {
     lines: Lines<LineRules>,
+}
+
+// Written out, so that the crates above call it and don't go into the fields.
+impl Drop for LineReader {
+    fn drop(self) {
+        let LineReader { lines } = self;
+        drop(lines);
+    }
 }
 
 /// Whether a reader can read by these options: a format of lines, whose separators have bytes.

@@ -42,7 +42,6 @@ pub enum ReadTurn {
 }
 
 /// Reads inputs one after another. It stands for what was taken of them.
-#[derive(Drop)]
 pub struct FileReader {
     alloc: Global,
     opts: ReadOpts,
@@ -56,6 +55,25 @@ pub struct FileReader {
     at: Ctx,
     /// How many bytes were taken of all inputs.
     taken: u64,
+}
+
+// Written out, so that the crates above call it and don't go into the readers.
+impl Drop for FileReader {
+    fn drop(self) {
+        let FileReader {
+            alloc: _,
+            opts,
+            names,
+            current,
+            piece,
+            at: _,
+            taken: _,
+        } = self;
+        drop(opts);
+        drop(names);
+        drop(current);
+        drop(piece);
+    }
 }
 
 /// Whether a file can be read so.

@@ -28,12 +28,21 @@ pub(crate) enum Stage {
 }
 
 /// Reads one file of JSON or JSON Lines, whose bytes come in pieces that are cut anywhere.
-#[derive(Drop)]
 pub struct JsonReader {
     /// How many bytes of the byte order mark have come, as long as nothing else has.
     mark: Option<usize>,
     stream: Stream,
     stage: Stage,
+}
+
+// Written out, so that the crates above call it and don't go into the fields.
+impl Drop for JsonReader {
+    fn drop(self) {
+        let JsonReader { mark, stream, stage } = self;
+        drop(mark);
+        drop(stream);
+        drop(stage);
+    }
 }
 
 /// Whether a reader can read by these options: JSON or JSON Lines.

@@ -16,9 +16,16 @@ use std::alloc::Global;
 
 /// Reads one file in XTAB or PPRINT, whose bytes come in pieces that are cut anywhere. In XTAB it keeps the record
 /// that has begun and the comments in it until an empty line or the end comes.
-#[derive(Drop)]
 pub struct BlockReader {
     lines: Lines<BlockRules>,
+}
+
+// Written out, so that the crates above call it and don't go into the fields.
+impl Drop for BlockReader {
+    fn drop(self) {
+        let BlockReader { lines } = self;
+        drop(lines);
+    }
 }
 
 /// Whether a reader can read by these options: XTAB or PPRINT.

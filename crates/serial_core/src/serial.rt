@@ -34,13 +34,28 @@ pub enum SerialTurn {
 }
 
 /// A run that goes from turn to turn. It stands for what was taken of the inputs.
-#[derive(Drop)]
 pub struct Serial<S> {
     reader: Reader,
     stages: Chain<S>,
     outlet: Outlet,
     /// What the verbs have made, and what of it isn't written.
     events: Events,
+}
+
+// Written out, so that the crates above call it and don't go into the parts.
+impl<S: Drop> Drop for Serial<S> {
+    fn drop(self) {
+        let Serial {
+            reader,
+            stages,
+            outlet,
+            events,
+        } = self;
+        drop(reader);
+        drop(stages);
+        drop(outlet);
+        drop(events);
+    }
 }
 
 impl<S: Step + Drop> Serial<S> {

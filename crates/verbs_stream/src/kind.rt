@@ -2,11 +2,9 @@ ghost use Rattle.std.specs.Prelude.{◌≡◌, [], IfOk};
 ghost use Rattle.verbs_stream.specs.Each.{IsSound, streaming_of};
 
 use crate::each::Each;
-use crate::spec::Spec;
 use mlr_event::{Ctx, Events};
 use mlr_record::Record;
 use mlr_spec::NoMemory;
-use std::alloc::Global;
 use verbs_state::{CatVerb, DecimateVerb, FillDownVerb, GapVerb, HeadVerb, RegularizeVerb, Stream};
 
 /// A streaming verb, by what it keeps from record to record.
@@ -19,25 +17,6 @@ pub enum Kind {
     Gap(GapVerb),
     Head(HeadVerb),
     Regularize(RegularizeVerb),
-}
-
-impl Kind {
-    /// The verb of these options, which was given nothing.
-    pub fn new(alloc: Global, spec: Spec) -> Result<Kind, NoMemory>
-        requires { IsSound spec }
-        ensures meaning { IfOk result (λ made. ⟦<Kind as Stream>⟧.meaning made ≡ streaming_of spec) }
-        ensures stands { IfOk result (λ made. ⟦<Kind as Stream>⟧.stands made []) }
-    {
-        match spec {
-            Spec::Cat(options) => Ok(Kind::Cat(CatVerb::new(alloc, options)?)),
-            Spec::Decimate(options) => Ok(Kind::Decimate(DecimateVerb::new(alloc, options)?)),
-            Spec::FillDown(options) => Ok(Kind::FillDown(FillDownVerb::new(alloc, options)?)),
-            Spec::Gap(options) => Ok(Kind::Gap(GapVerb::new(alloc, options))),
-            Spec::Head(options) => Ok(Kind::Head(HeadVerb::new(alloc, options)?)),
-            Spec::Regularize => Ok(Kind::Regularize(RegularizeVerb::new(alloc))),
-            spec => Ok(Kind::Each(Each { alloc, spec })),
-        }
-    }
 }
 
 impl Stream for Kind {

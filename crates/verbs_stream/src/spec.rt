@@ -1,14 +1,23 @@
+ghost use Rattle.std.specs.Prelude.{◌≡◌, [], IfOk};
+ghost use Rattle.verbs_stream.specs.Each.{IsSound, streaming_of};
+
+use crate::each::Each;
+use crate::kind::Kind;
 use mlr_event::Names;
 use mlr_pattern::{Pattern, Patterns};
+use mlr_spec::NoMemory;
 use mlr_value::Bytes;
+use std::alloc::Global;
 use std::sync::Arc;
 use verbs_fields::{Renaming, Unspace};
 use verbs_pattern::{Grep, Gsub, RenamePatterns, Ssub, Sub};
-use verbs_state::{Cat, Decimate, FillDown, Gap, Head};
+use verbs_state::{
+    Cat, CatVerb, Decimate, DecimateVerb, FillDown, FillDownVerb, Gap, GapVerb, Head, HeadVerb,
+    RegularizeVerb, Stream,
+};
 use verbs_values::{FillEmpty, Flatten, JsonParse, JsonStringify, Sec2Gmt, Sec2GmtDate, Unflatten};
 
 /// Which verb, with its options as its words give them.
-#[derive(Drop)]
 pub enum Spec {
     /// Values in turn are keys and values.
     Altkv,
@@ -68,6 +77,43 @@ pub enum Spec {
     Unflatten(Unflatten),
     /// Replaces spaces in names and values.
     Unspace(Unspace),
+}
+
+// Written out, so that the crates above call it and don't go into the options.
+impl Drop for Spec {
+    fn drop(self) {
+        match self {
+            Spec::Altkv => {}
+            Spec::Cat(options) => drop(options),
+            Spec::Cut(options) => drop(options),
+            Spec::Decimate(options) => drop(options),
+            Spec::FillDown(options) => drop(options),
+            Spec::FillEmpty(options) => drop(options),
+            Spec::Flatten(options) => drop(options),
+            Spec::Gap(options) => drop(options),
+            Spec::Grep(options) => drop(options),
+            Spec::Gsub(options) => drop(options),
+            Spec::HavingFields(options) => drop(options),
+            Spec::Head(options) => drop(options),
+            Spec::JsonParse(options) => drop(options),
+            Spec::JsonStringify(options) => drop(options),
+            Spec::Label(options) => drop(options),
+            Spec::Nothing => {}
+            Spec::Regularize => {}
+            Spec::Rename(options) => drop(options),
+            Spec::Reorder(options) => drop(options),
+            Spec::Repeat(options) => drop(options),
+            Spec::Sec2Gmt(options) => drop(options),
+            Spec::Sec2GmtDate(options) => drop(options),
+            Spec::SortWithinRecords(options) => drop(options),
+            Spec::Sparsify(options) => drop(options),
+            Spec::Ssub(options) => drop(options),
+            Spec::Sub(options) => drop(options),
+            Spec::Template(options) => drop(options),
+            Spec::Unflatten(options) => drop(options),
+            Spec::Unspace(options) => drop(options),
+        }
+    }
 }
 
 /// The options of `cut`.
@@ -158,4 +204,23 @@ pub struct Template {
     pub names: Names,
     /// What a missing field holds.
     pub fill: Bytes,
+}
+
+impl Spec {
+    /// The verb of these options, which was given nothing.
+    pub(crate) fn kind(self, alloc: Global) -> Result<Kind, NoMemory>
+        requires { IsSound self }
+        ensures meaning { IfOk result (λ made. ⟦<Kind as Stream>⟧.meaning made ≡ streaming_of self) }
+        ensures stands { IfOk result (λ made. ⟦<Kind as Stream>⟧.stands made []) }
+    {
+        match self {
+            Spec::Cat(options) => Ok(Kind::Cat(CatVerb::new(alloc, options)?)),
+            Spec::Decimate(options) => Ok(Kind::Decimate(DecimateVerb::new(alloc, options)?)),
+            Spec::FillDown(options) => Ok(Kind::FillDown(FillDownVerb::new(alloc, options)?)),
+            Spec::Gap(options) => Ok(Kind::Gap(GapVerb::new(alloc, options))),
+            Spec::Head(options) => Ok(Kind::Head(HeadVerb::new(alloc, options)?)),
+            Spec::Regularize => Ok(Kind::Regularize(RegularizeVerb::new(alloc))),
+            spec => Ok(Kind::Each(Each { alloc, spec })),
+        }
+    }
 }

@@ -10,10 +10,17 @@ use std::alloc::Global;
 use verbs_state::{Stream, step};
 
 /// A streaming verb in a chain.
-#[derive(Drop)]
 pub struct StreamVerb {
     verb: Kind,
     broken: bool,
+}
+
+// Written out, so that the crates above call it and don't go into the verbs.
+impl Drop for StreamVerb {
+    fn drop(self) {
+        let StreamVerb { verb, broken: _ } = self;
+        drop(verb);
+    }
 }
 
 impl StreamVerb {
@@ -24,7 +31,7 @@ impl StreamVerb {
         ensures stands { IfOk result (λ made. ⟦<StreamVerb as Step>⟧.stands made []) }
     {
         Ok(StreamVerb {
-            verb: Kind::new(alloc, spec)?,
+            verb: spec.kind(alloc)?,
             broken: false,
         })
     }

@@ -6,7 +6,7 @@ use mlr_value::Bytes;
 use std::alloc::Global;
 
 /// How records are written. What another format means has no effect.
-#[derive(Debug, PartialEq, Eq, Drop)]
+#[derive(Debug, PartialEq, Eq)]
 pub struct WriteOpts {
     pub format: Format,
     /// What stands between two fields (CSV, TSV, DKVP, NIDX).
@@ -29,6 +29,28 @@ pub struct WriteOpts {
     pub unflatten: bool,
     /// What joins the names on a path of a flattened name.
     pub flatsep: Bytes,
+}
+
+// Written out, so that the crates above call it and don't go into the fields.
+impl Drop for WriteOpts {
+    fn drop(self) {
+        let WriteOpts {
+            format: _,
+            ofs,
+            ops,
+            headerless: _,
+            quote_all: _,
+            barred: _,
+            stacked: _,
+            listwrap: _,
+            flatten: _,
+            unflatten: _,
+            flatsep,
+        } = self;
+        drop(ofs);
+        drop(ops);
+        drop(flatsep);
+    }
 }
 
 impl WriteOpts {

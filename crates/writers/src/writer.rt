@@ -25,7 +25,6 @@ use std::alloc::Global;
 
 /// Writes one output: records and texts come one after another, and their text is put behind a buffer as soon as it is
 /// known. It keeps the keys of the last record, and in PPRINT the records of the open block.
-#[derive(Drop)]
 pub struct Writer {
     alloc: Global,
     opts: WriteOpts,
@@ -33,6 +32,23 @@ pub struct Writer {
     /// A buffer for what one value prints.
     scratch: Bytes,
     stage: Stage,
+}
+
+// Written out, so that the crates above call it and don't go into the fields.
+impl Drop for Writer {
+    fn drop(self) {
+        let Writer {
+            alloc: _,
+            opts,
+            state,
+            scratch,
+            stage,
+        } = self;
+        drop(opts);
+        drop(state);
+        drop(scratch);
+        drop(stage);
+    }
 }
 
 impl Writer {

@@ -4,12 +4,12 @@ use Rattle.mlr_spec.proofs.Pairs.{are_distinct-remove}
 use Rattle.mlr_record.specs.Fields.{IsPlaceOf, pairs_of}
 use Rattle.mlr_record.proofs.Edits.{value_at-found, remove_at-found, remove_at-absent}
 use Rattle.mlr_record.proofs.record.Record.remove.Goals as goal
-use Rattle.mlr_record.proofs.record.Record.remove.Goals.{Joined-remove-2, In-None}
+use Rattle.mlr_record.proofs.record.Record.remove.Goals.{Joined-remove, In-None}
 
-abbrev found : (c : Joined-remove-2) → IsPlaceOf c.args.key.now c.self.inside.fields.items (Some c.in-Some.place)
+abbrev found : (c : Joined-remove) → IsPlaceOf c.args.key.now c.self.inside.fields.items (Some c.in-Some.place)
 found c = subst (λ fields. IsPlaceOf c.args.key.now fields (Some c.in-Some.place)) c.deref.ensures.value c.in-Some.ensures
 
-abbrev removed : (c : Joined-remove-2) → pairs_of c.remove.new.self.items ≡ remove_at c.args.key.now (pairs_of c.self.inside.fields.items)
+abbrev removed : (c : Joined-remove) → pairs_of c.remove.new.self.items ≡ remove_at c.args.key.now (pairs_of c.self.inside.fields.items)
 removed c = ap pairs_of c.remove.ensures.items ∙ sym (remove_at-found c.args.key.now c.self.inside.fields.items c.in-Some.place (found c))
 
 abbrev absent : (c : In-None) → IsPlaceOf c.args.key.now c.self.inside.fields.items None
