@@ -13,17 +13,17 @@ use mlr_value::{Bytes, Value};
 use std::alloc::Global;
 use std::process::Abort;
 
-/// The names, with a semicolon after each.
-fn joined(alloc: Global, names: &[Bytes]) -> Result<Bytes, NoMemory> {
+/// Whether the names with a semicolon after each are this text.
+fn are(alloc: Global, names: &[Bytes], text: &str) -> Result<bool, NoMemory> {
     let mut all = Bytes::new(alloc);
     for name in names {
         all.append(name.as_slice())?;
         all.append(b";")?;
     }
-    Ok(all)
+    Ok(all.as_slice() == text.as_bytes())
 }
 
-/// The names of a record, joined so.
+/// The names of a record with a semicolon after each.
 fn names_of(alloc: Global, record: &Record) -> Result<Bytes, NoMemory> {
     let mut all = Bytes::new(alloc);
     for place in 0..record.len() {
@@ -66,39 +66,23 @@ fn equal_names_are_kept_or_made_distinct(rt: HostRuntime) -> Result<(), NoMemory
             "{same}"
         );
         let copy = names.copy()?;
-        assert_eq!(rt; copy.len(), texts.len(), "{same}");
-        assert!(rt; copy.at(texts.len()).is_none() && !copy.has(b"c"), "{same}");
+        assert!(rt;
+            copy.len() == texts.len() && copy.at(texts.len()).is_none(),
+            "{same}"
+        );
+        assert!(rt; !copy.has(b"c"), "{same}");
         for (place, text) in texts.iter().enumerate() {
+            let found = copy.at(place).map(|name| name.as_slice());
+            assert_eq!(rt; found, Some(text.as_bytes()), "{same}");
             assert!(rt; copy.has(text.as_bytes()), "{text} of {same}");
-            assert_eq!(rt;
-                copy.at(place).map(|name| name.as_slice()),
-                Some(text.as_bytes()),
-                "{same}"
-            );
         }
-        assert_eq!(rt;
-            joined(alloc, copy.as_slice())?.as_slice(),
-            same.as_bytes(),
-            "{same}"
-        );
+        assert!(rt; are(alloc, copy.as_slice(), same)?, "{same}");
         let made = distinct_names(alloc, copy.as_slice())?;
-        assert_eq!(rt;
-            joined(alloc, made.as_slice())?.as_slice(),
-            distinct.as_bytes(),
-            "{same}"
-        );
+        assert!(rt; are(alloc, made.as_slice(), distinct)?, "{same}");
         let header = Header::new(alloc, names.into_vec())?;
         assert_eq!(rt; header.len(), texts.len(), "{same}");
-        assert_eq!(rt;
-            joined(alloc, header.names())?.as_slice(),
-            same.as_bytes(),
-            "{same}"
-        );
-        assert_eq!(rt;
-            joined(alloc, header.keys())?.as_slice(),
-            distinct.as_bytes(),
-            "{same}"
-        );
+        assert!(rt; are(alloc, header.names(), same)?, "{same}");
+        assert!(rt; are(alloc, header.keys(), distinct)?, "{same}");
     }
     Ok(())
 }
@@ -190,7 +174,7 @@ fn put_fields(rt: &impl Abort, alloc: Global) -> Result<(), NoMemory> {
     Ok(())
 }
 
-/// Comments are known by their prefix, and passed on where the options say so.
+/// Comments are known by their prefix and passed on where the options say so, and contexts are counted.
 fn pass_comments(rt: &impl Abort, alloc: Global) -> Result<(), NoMemory> {
     let pass = Comments::Pass(Bytes::copy_of(alloc, b"//")?);
     assert!(rt; is_comment(&pass, b"//a"));
@@ -203,6 +187,17 @@ fn pass_comments(rt: &impl Abort, alloc: Global) -> Result<(), NoMemory> {
     assert!(rt;
         matches!(out.at(0), Some(Event::Text(text)) if text.as_slice() == b"//a\n".as_slice())
     );
+    let second = Ctx {
+        nr: 4,
+        fnr: 0,
+        filenum: 2,
+    };
+    let next = Ctx {
+        nr: 5,
+        fnr: 1,
+        filenum: 2,
+    };
+    assert_eq!(rt; next_ctx(second), next);
     Ok(())
 }
 
@@ -257,16 +252,5 @@ fn events_and_fields_come_in_their_order(rt: HostRuntime) -> Result<(), NoMemory
     take_events(&rt, alloc)?;
     pass_comments(&rt, alloc)?;
     put_fields(&rt, alloc)?;
-    let second = Ctx {
-        nr: 4,
-        fnr: 0,
-        filenum: 2,
-    };
-    let next = Ctx {
-        nr: 5,
-        fnr: 1,
-        filenum: 2,
-    };
-    assert_eq!(rt; next_ctx(second), next);
     Ok(())
 }
