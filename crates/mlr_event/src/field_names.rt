@@ -100,29 +100,3 @@ impl Names {
         })
     }
 }
-
-#[cfg(test)]
-mod tests {
-    use super::*;
-
-    #[test]
-    fn names_kept_in_order(rt: HostRuntime) -> Result<(), NoMemory> {
-        let alloc = rt.alloc();
-        let mut names = Names::new(alloc);
-        for name in [b"b".as_slice(), b"a", b"", b"a", b"a name past 16 bytes"] {
-            names.push(Bytes::copy_of(alloc, name)?)?;
-        }
-        let copy = names.copy()?;
-        assert_eq!(rt; copy.len(), 5);
-        assert!(rt; copy.has(b"") && copy.has(b"a name past 16 bytes") && !copy.has(b"c"));
-        assert_eq!(rt;
-            copy.at(1).map(|name| name.as_slice()),
-            Some(b"a".as_slice())
-        );
-        assert!(rt; copy.at(5).is_none());
-        assert_eq!(rt; copy.as_slice()[0].as_slice(), b"b".as_slice());
-        let names = names.into_vec();
-        assert_eq!(rt; names[4].as_slice(), b"a name past 16 bytes".as_slice());
-        Ok(())
-    }
-}

@@ -12,11 +12,9 @@ pub mod models;
 mod names;
 mod options;
 pub mod rows;
-#[cfg(test)]
-mod rows_tests;
 mod step;
 #[cfg(test)]
-mod step_tests;
+mod tests;
 
 pub use event::{Body, Ctx, Event, Piece};
 pub use events::Events;

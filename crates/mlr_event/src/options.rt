@@ -105,33 +105,3 @@ impl ReadOpts {
         })
     }
 }
-
-#[cfg(test)]
-mod tests {
-    use super::*;
-
-    #[test]
-    fn options_copied(rt: HostRuntime) -> Result<(), NoMemory> {
-        let alloc = rt.alloc();
-        let prefixes: [&[u8]; 2] = [b"%", b"-- a prefix of more bytes than lie inline"];
-        for prefix in prefixes {
-            let opts = ReadOpts {
-                format: Format::Dkvp,
-                ifs: Bytes::copy_of(alloc, b";")?,
-                ips: Bytes::copy_of(alloc, b"::")?,
-                implicit: false,
-                ragged: true,
-                dedupe: true,
-                comments: Comments::Pass(Bytes::copy_of(alloc, prefix)?),
-                infer: InferOpts::plain(),
-            };
-            let copy = opts.copy(alloc)?;
-            assert!(rt; copy == opts);
-            let skip = Comments::Skip(Bytes::copy_of(alloc, prefix)?);
-            assert!(rt; skip.copy(alloc)? == skip);
-            assert!(rt; skip != opts.comments);
-        }
-        assert!(rt; Comments::Keep.copy(alloc)? == Comments::Keep);
-        Ok(())
-    }
-}

@@ -118,32 +118,3 @@ fn digit_of(number: u8) -> u8
         b'a' + (number - 10)
     }
 }
-
-#[cfg(test)]
-mod tests {
-    use super::*;
-
-    #[test]
-    fn strings_with_escapes(rt: HostRuntime) -> Result<(), NoMemory> {
-        let table: [(&[u8], &[u8]); 11] = [
-            (b"", br#""""#),
-            (b"a/b", br#""a/b""#),
-            (b"\"", br#""\"""#),
-            (b"\\", br#""\\""#),
-            (b"a\tb\nc\rd", br#""a\tb\nc\rd""#),
-            (&[8, 12], br#""\b\f""#),
-            (&[0, 1], br#""\u0000\u0001""#),
-            (&[27, 31], br#""\u001b\u001f""#),
-            (b" \x7f", b"\" \x7f\""),
-            (&[195, 169], b"\"\xc3\xa9\""),
-            (&[255, b'"', 255], b"\"\xff\\\"\xff\""),
-        ];
-        for (i, row) in table.iter().enumerate() {
-            let (text, want) = *row;
-            let mut json = Bytes::copy_of(rt.alloc(), b"[")?;
-            append_json_string(text, &mut json)?;
-            assert_eq!(rt; &json.as_slice()[1..], want, "at {i}");
-        }
-        Ok(())
-    }
-}

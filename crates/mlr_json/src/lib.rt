@@ -8,10 +8,10 @@ mod laws;
 mod lexeme;
 mod machine;
 mod read;
-#[cfg(test)]
-mod read_tests;
 mod steps;
 mod string;
+#[cfg(test)]
+mod tests;
 mod token;
 mod word;
 mod write;

@@ -5,9 +5,9 @@ mod flatten;
 mod laws;
 mod node;
 mod record;
-#[cfg(test)]
-mod record_tests;
 pub mod split;
+#[cfg(test)]
+mod tests;
 mod unflatten;
 
 pub use laws::flattened_again;

@@ -79,39 +79,3 @@ pub fn count_parts(separator: &[u8], text: &[u8]) -> usize
     }
     count
 }
-
-#[cfg(test)]
-mod tests {
-    use super::*;
-
-    #[test]
-    fn parts_in_order(rt: HostRuntime) {
-        let table: [(&[u8], &[u8], &[u8], Option<&[u8]>); 7] = [
-            (b".", b"a.b.c", b"a", Some(b"b.c")),
-            (b".", b".b", b"", Some(b"b")),
-            (b".", b"a.", b"a", Some(b"")),
-            (b".", b"", b"", None),
-            (b"::", b"a::b", b"a", Some(b"b")),
-            (b"::", b"a:b", b"a:b", None),
-            (b"::", b"a:::b", b"a", Some(b":b")),
-        ];
-        for (i, row) in table.iter().enumerate() {
-            let (separator, text, part, rest) = *row;
-            if separator.len() == 0 {
-                continue;
-            }
-            let (first, left) = next_part(separator, text);
-            assert_eq!(rt; first, part, "at {i}");
-            assert_eq!(rt; left, rest, "at {i}");
-        }
-    }
-
-    #[test]
-    fn parts_counted(rt: HostRuntime) {
-        assert_eq!(rt; count_parts(b".", b"a.b..c"), 4);
-        assert_eq!(rt; count_parts(b"..", b"a.b...c"), 2);
-        assert_eq!(rt; count_parts(b".", b""), 1);
-        assert_eq!(rt; separator_place(b"bc", b"abcbc"), Some(1));
-        assert_eq!(rt; separator_place(b"bd", b"abcbc"), None);
-    }
-}

@@ -7,6 +7,8 @@ mod bytes;
 mod inference;
 mod map_value;
 mod short;
+#[cfg(test)]
+mod tests;
 mod value;
 
 pub use array_value::ArrayValue;

@@ -1,40 +1,20 @@
-//! Which value JSON texts are read as, and where they have their first fault.
-use crate::{JsonRead, json_text, read_json_value, word_value};
+//! Which value JSON texts are read as, where they have their first fault, and what values are written as.
+
+use crate::{
+    JsonRead, append_json_field, append_json_string, append_json_value, json_text, read_json_value,
+    word_value,
+};
 use mlr_spec::{InferOpts, JsonStyle, NoMemory};
-use mlr_value::{Bytes, Value};
+use mlr_value::{Bytes, IntValue, Value, from_data};
 use std::alloc::Global;
 use std::test::Fail;
 
-/// The value that a text is read as, on one line, or its fault with the place.
-fn answer(alloc: Global, text: &[u8]) -> Result<Bytes, NoMemory> {
-    match read_json_value(alloc, text) {
-        JsonRead::Ok(value) => json_text(alloc, &value, JsonStyle::Single),
-        JsonRead::Syntax(place) => fault(alloc, b"syntax ", place),
-        JsonRead::Deep(place) => fault(alloc, b"deep ", place),
-        JsonRead::NoMemory => Err(NoMemory),
-    }
-}
-
-fn fault(alloc: Global, kind: &[u8], place: u64) -> Result<Bytes, NoMemory> {
-    let mut text = Bytes::copy_of(alloc, kind)?;
-    text.append(format!(in alloc; "{place}")?.as_bytes())?;
-    Ok(text)
-}
-
-/// A text and its answer.
+/// A text, and what is wanted of it.
 type Row = (&'static [u8], &'static [u8]);
 
-/// The first row whose text has another answer.
-fn first_wrong(alloc: Global, rows: &[Row]) -> Result<Option<usize>, NoMemory> {
-    for (i, row) in rows.iter().enumerate() {
-        if answer(alloc, row.0)?.as_slice() != row.1 {
-            return Ok(Some(i));
-        }
-    }
-    Ok(None)
-}
-
-const VALUES: [Row; 29] = [
+/// JSON texts with their values on one line, or with their fault and its place.
+const READ: [Row; 192] = [
+    // Values of each kind.
     (b"null", br#""""#),
     (b"true", b"true"),
     (b"false", b"false"),
@@ -64,9 +44,7 @@ const VALUES: [Row; 29] = [
     (b"[[],{}]", b"[[], {}]"),
     (b"[null]", br#"[""]"#),
     (br#"["a","b"]"#, br#"["a", "b"]"#),
-];
-
-const COLLECTIONS: [Row; 13] = [
+    // Maps and arrays.
     (br#"{"a":1}"#, br#"{"a": 1}"#),
     (br#"{ "a" : 1 }"#, br#"{"a": 1}"#),
     (br#"{"a":1,"b":[2]}"#, br#"{"a": 1, "b": [2]}"#),
@@ -86,9 +64,7 @@ const COLLECTIONS: [Row; 13] = [
         br#"{"a":[],"b":{},"c":[{}]}"#,
         br#"{"a": [], "b": {}, "c": [{}]}"#,
     ),
-];
-
-const STRINGS: [Row; 29] = [
+    // Strings are decoded.
     (br#""\"""#, br#""\"""#),
     (br#""\\""#, br#""\\""#),
     (br#""\/""#, br#""/""#),
@@ -124,9 +100,7 @@ const STRINGS: [Row; 29] = [
     (b"\"\x01\n\"", br#""\u0001\n""#),
     (b"\"\xff\xc3\"", b"\"\xff\xc3\""),
     (b"\"\xc3\xa9\"", b"\"\xc3\xa9\""),
-];
-
-const WORDS: [Row; 19] = [
+    // Words without a value.
     (b"tru", b"syntax 1"),
     (b"nul", b"syntax 1"),
     (b"True", b"syntax 1"),
@@ -146,9 +120,7 @@ const WORDS: [Row; 19] = [
     (b"Infinity", b"syntax 1"),
     (b"a", b"syntax 1"),
     (b"_", b"syntax 1"),
-];
-
-const BYTES: [Row; 15] = [
+    // Bytes that begin no token.
     (b"", b"syntax 1"),
     (b" ", b"syntax 2"),
     (b"\n\n", b"syntax 3"),
@@ -164,9 +136,7 @@ const BYTES: [Row; 15] = [
     (b"#", b"syntax 1"),
     (b"[1;2]", b"syntax 3"),
     (b"[\xff]", b"syntax 2"),
-];
-
-const BEHIND: [Row; 14] = [
+    // Texts that follow a value.
     (b"1 2", b"syntax 3"),
     (b"1,", b"syntax 2"),
     (b"[]]", b"syntax 3"),
@@ -181,9 +151,7 @@ const BEHIND: [Row; 14] = [
     (b"{}:", b"syntax 3"),
     (br#""a" "b"#, b"syntax 5"),
     (br#"1 "\x"#, b"syntax 3"),
-];
-
-const IN_ARRAYS: [Row; 20] = [
+    // Faults in arrays.
     (b"[", b"syntax 2"),
     (b"[1", b"syntax 3"),
     (b"[1 ", b"syntax 4"),
@@ -204,9 +172,7 @@ const IN_ARRAYS: [Row; 20] = [
     (b"[1 x]", b"syntax 4"),
     (b"[[1]", b"syntax 5"),
     (b"[[1]1", b"syntax 5"),
-];
-
-const IN_MAPS: [Row; 31] = [
+    // Faults in maps.
     (b"{", b"syntax 2"),
     (br#"{"a""#, b"syntax 5"),
     (br#"{"a":"#, b"syntax 6"),
@@ -238,9 +204,7 @@ const IN_MAPS: [Row; 31] = [
     (br#"{"a":1,,"#, b"syntax 8"),
     (br#"{"a":nul}"#, b"syntax 6"),
     (br#"{"a":1}x"#, b"syntax 8"),
-];
-
-const IN_STRINGS: [Row; 22] = [
+    // Faults in strings.
     (br#"""#, b"syntax 2"),
     (br#""a"#, b"syntax 3"),
     (br#""\"#, b"syntax 3"),
@@ -265,59 +229,75 @@ const IN_STRINGS: [Row; 22] = [
     (br#""ab\qc""#, b"syntax 5"),
 ];
 
-#[test]
-fn values_are_read(rt: HostRuntime) -> Result<(), NoMemory> {
-    assert_eq!(rt; first_wrong(rt.alloc(), &VALUES)?, None);
-    Ok(())
+struct Nested {
+    start: &'static [u8],
+    count: usize,
+    open: &'static [u8],
+    inner: &'static [u8],
+    close: &'static [u8],
+    /// What the text is read as, or nothing where that is the text itself.
+    want: Option<&'static [u8]>,
 }
 
-#[test]
-fn maps_and_arrays_are_read(rt: HostRuntime) -> Result<(), NoMemory> {
-    assert_eq!(rt; first_wrong(rt.alloc(), &COLLECTIONS)?, None);
-    Ok(())
-}
-
-#[test]
-fn strings_are_decoded(rt: HostRuntime) -> Result<(), NoMemory> {
-    assert_eq!(rt; first_wrong(rt.alloc(), &STRINGS)?, None);
-    Ok(())
-}
-
-#[test]
-fn words_without_a_value(rt: HostRuntime) -> Result<(), NoMemory> {
-    assert_eq!(rt; first_wrong(rt.alloc(), &WORDS)?, None);
-    Ok(())
-}
-
-#[test]
-fn bytes_that_begin_no_token(rt: HostRuntime) -> Result<(), NoMemory> {
-    assert_eq!(rt; first_wrong(rt.alloc(), &BYTES)?, None);
-    Ok(())
-}
-
-#[test]
-fn texts_behind_a_value(rt: HostRuntime) -> Result<(), NoMemory> {
-    assert_eq!(rt; first_wrong(rt.alloc(), &BEHIND)?, None);
-    Ok(())
-}
-
-#[test]
-fn faults_in_arrays(rt: HostRuntime) -> Result<(), NoMemory> {
-    assert_eq!(rt; first_wrong(rt.alloc(), &IN_ARRAYS)?, None);
-    Ok(())
-}
-
-#[test]
-fn faults_in_maps(rt: HostRuntime) -> Result<(), NoMemory> {
-    assert_eq!(rt; first_wrong(rt.alloc(), &IN_MAPS)?, None);
-    Ok(())
-}
-
-#[test]
-fn faults_in_strings(rt: HostRuntime) -> Result<(), NoMemory> {
-    assert_eq!(rt; first_wrong(rt.alloc(), &IN_STRINGS)?, None);
-    Ok(())
-}
+/// Texts with so many copies of `open` and of `close`.
+const NESTED: [Nested; 7] = [
+    Nested {
+        start: b"",
+        count: 100,
+        open: b"[",
+        inner: b"",
+        close: b"]",
+        want: None,
+    },
+    Nested {
+        start: b"",
+        count: 100,
+        open: br#"{"a": "#,
+        inner: b"7",
+        close: b"}",
+        want: None,
+    },
+    Nested {
+        start: b"",
+        count: 100,
+        open: b"[",
+        inner: b"nul",
+        close: b"]",
+        want: Some(b"syntax 101"),
+    },
+    Nested {
+        start: b"",
+        count: 101,
+        open: b"[",
+        inner: b"",
+        close: b"]",
+        want: Some(b"deep 101"),
+    },
+    Nested {
+        start: b"",
+        count: 100,
+        open: b"[",
+        inner: b" {",
+        close: b"",
+        want: Some(b"deep 102"),
+    },
+    Nested {
+        start: b"",
+        count: 100,
+        open: b"[",
+        inner: b"}",
+        close: b"",
+        want: Some(b"syntax 101"),
+    },
+    Nested {
+        start: br#"""#,
+        count: 10_000,
+        open: b"0123456789",
+        inner: br#"""#,
+        close: b"",
+        want: None,
+    },
+];
 
 /// The examples of RFC 8259, section 13.
 const IMAGE: &[u8] = br#"{
@@ -384,25 +364,13 @@ const CITIES_ON_LINES: &[u8] = br#"[
   }
 ]"#;
 
-/// A text read and written on lines; no text where it has a fault.
-fn on_lines(alloc: Global, text: &[u8]) -> Result<Bytes, NoMemory> {
-    match read_json_value(alloc, text) {
-        JsonRead::Ok(value) => json_text(alloc, &value, JsonStyle::Stacked),
-        _ => Ok(Bytes::new(alloc)),
-    }
-}
-
-#[test]
-fn examples_on_lines(rt: HostRuntime) -> Result<(), NoMemory> {
-    assert_eq!(rt; on_lines(rt.alloc(), IMAGE)?.as_slice(), IMAGE_ON_LINES);
-    assert_eq!(rt; on_lines(rt.alloc(), CITIES)?.as_slice(), CITIES_ON_LINES);
-    Ok(())
-}
-
-#[test]
-fn arrays_on_lines(rt: HostRuntime) -> Result<(), NoMemory> {
-    let text = br#"{"a":[1,[2,[]],{}],"b":[[],3]}"#;
-    let want = br#"{
+/// Texts with their values on lines.
+const ON_LINES: [Row; 3] = [
+    (IMAGE, IMAGE_ON_LINES),
+    (CITIES, CITIES_ON_LINES),
+    (
+        br#"{"a":[1,[2,[]],{}],"b":[[],3]}"#,
+        br#"{
   "a": [
     1,
     [
@@ -415,94 +383,113 @@ fn arrays_on_lines(rt: HostRuntime) -> Result<(), NoMemory> {
     [],
     3
   ]
-}"#;
-    assert_eq!(rt; on_lines(rt.alloc(), text)?.as_slice(), want.as_slice());
-    Ok(())
-}
+}"#,
+    ),
+];
 
-/// So many copies of a text, another text, and so many copies of a third.
-fn nested(
-    alloc: Global,
-    count: usize,
-    open: &[u8],
-    inner: &[u8],
-    close: &[u8],
-) -> Result<Bytes, NoMemory> {
-    let mut text = Bytes::new(alloc);
-    for _ in 0..count {
-        text.append(open)?;
-    }
-    text.append(inner)?;
-    for _ in 0..count {
-        text.append(close)?;
-    }
+/// Texts as JSON strings.
+const QUOTED: [Row; 11] = [
+    (b"", br#""""#),
+    (b"a/b", br#""a/b""#),
+    (b"\"", br#""\"""#),
+    (b"\\", br#""\\""#),
+    (b"a\tb\nc\rd", br#""a\tb\nc\rd""#),
+    (&[8, 12], br#""\b\f""#),
+    (&[0, 1], br#""\u0000\u0001""#),
+    (&[27, 31], br#""\u001b\u001f""#),
+    (b" \x7f", b"\" \x7f\""),
+    (&[195, 169], b"\"\xc3\xa9\""),
+    (&[255, b'"', 255], b"\"\xff\\\"\xff\""),
+];
+
+/// Texts from data as JSON values.
+const WRITTEN: [Row; 6] = [
+    (b"", br#""""#),
+    (b"abc", br#""abc""#),
+    (br#"say "hi""#, br#""say \"hi\"""#),
+    (b"0x0F", b"0x0F"),
+    (b"0.50", b"0.50"),
+    (b"9223372036854775808", b"9223372036854775808"),
+];
+
+/// The value that a text is read as, or its fault with the place.
+fn outcome(alloc: Global, text: &[u8], style: JsonStyle) -> Result<Bytes, NoMemory> {
+    let (kind, place) = match read_json_value(alloc, text) {
+        JsonRead::Ok(value) => return json_text(alloc, &value, style),
+        JsonRead::Syntax(place) => (b"syntax ".as_slice(), place),
+        JsonRead::Deep(place) => (b"deep ".as_slice(), place),
+        JsonRead::NoMemory => return Err(NoMemory),
+    };
+    let mut text = Bytes::copy_of(alloc, kind)?;
+    text.append(format!(in alloc; "{place}")?.as_bytes())?;
     Ok(text)
 }
 
 #[test]
-fn a_hundred_levels(rt: HostRuntime) -> Result<(), NoMemory> {
-    let arrays = nested(rt.alloc(), 100, b"[", b"", b"]")?;
-    assert_eq!(rt; answer(rt.alloc(), arrays.as_slice())?, arrays);
-    let maps = nested(rt.alloc(), 100, br#"{"a": "#, b"7", b"}")?;
-    assert_eq!(rt; answer(rt.alloc(), maps.as_slice())?, maps);
-    let words = nested(rt.alloc(), 100, b"[", b"nul", b"]")?;
-    assert_eq!(rt;
-        answer(rt.alloc(), words.as_slice())?.as_slice(),
-        b"syntax 101".as_slice()
-    );
+fn texts_are_read_as_their_values_or_have_a_fault(rt: HostRuntime) -> Result<(), Fail> {
+    let alloc = rt.alloc();
+    for (i, (text, want)) in READ.iter().enumerate() {
+        let got = outcome(alloc, *text, JsonStyle::Single)?;
+        assert_eq!(rt; got.as_slice(), *want, "at {i}");
+    }
+    for (i, row) in NESTED.iter().enumerate() {
+        let mut text = Bytes::copy_of(alloc, row.start)?;
+        text.append(row.open.repeat(alloc, row.count)?.as_slice())?;
+        text.append(row.inner)?;
+        text.append(row.close.repeat(alloc, row.count)?.as_slice())?;
+        let got = outcome(alloc, text.as_slice(), JsonStyle::Single)?;
+        let want = row.want.unwrap_or(text.as_slice());
+        assert_eq!(rt; got.as_slice(), want, "nested at {i}");
+    }
+    for (i, (text, want)) in ON_LINES.iter().enumerate() {
+        let got = outcome(alloc, *text, JsonStyle::Stacked)?;
+        assert_eq!(rt; got.as_slice(), *want, "on lines at {i}");
+    }
     Ok(())
 }
 
 #[test]
-fn a_hundred_and_one_levels(rt: HostRuntime) -> Result<(), NoMemory> {
-    let arrays = nested(rt.alloc(), 101, b"[", b"", b"]")?;
-    assert_eq!(rt;
-        answer(rt.alloc(), arrays.as_slice())?.as_slice(),
-        b"deep 101".as_slice()
-    );
-    let map = nested(rt.alloc(), 100, b"[", b" {", b"")?;
-    assert_eq!(rt;
-        answer(rt.alloc(), map.as_slice())?.as_slice(),
-        b"deep 102".as_slice()
-    );
-    let end = nested(rt.alloc(), 100, b"[", b"}", b"")?;
-    assert_eq!(rt;
-        answer(rt.alloc(), end.as_slice())?.as_slice(),
-        b"syntax 101".as_slice()
-    );
+fn values_are_written_bare_or_in_quotes(rt: HostRuntime) -> Result<(), Fail> {
+    let alloc = rt.alloc();
+    for (i, (text, want)) in QUOTED.iter().enumerate() {
+        let mut json = Bytes::copy_of(alloc, b"[")?;
+        append_json_string(*text, &mut json)?;
+        assert_eq!(rt; &json.as_slice()[1..], *want, "at {i}");
+    }
+    for (i, (text, want)) in WRITTEN.iter().enumerate() {
+        let value = from_data(alloc, *text, InferOpts::plain())?;
+        let json = json_text(alloc, &value, JsonStyle::Stacked)?;
+        assert_eq!(rt; json.as_slice(), *want, "from data at {i}");
+    }
+    let int = Value::Int(IntValue {
+        n: -7,
+        spelling: Bytes::new(alloc),
+    });
+    let mut json = Bytes::new(alloc);
+    append_json_field(b"a", &int, JsonStyle::Single, &mut json)?;
+    append_json_value(&Value::Bool(false), JsonStyle::Single, &mut json)?;
+    append_json_value(&Value::Absent, JsonStyle::Single, &mut json)?;
+    append_json_value(&Value::Error, JsonStyle::Single, &mut json)?;
+    assert_eq!(rt; json.as_slice(), b"\"a\": -7false\"\"(error)".as_slice());
     Ok(())
 }
 
 #[test]
-fn a_long_string(rt: HostRuntime) -> Result<(), NoMemory> {
-    let digits = nested(rt.alloc(), 10_000, b"0123456789", b"", b"")?;
-    let mut text = Bytes::copy_of(rt.alloc(), b"\"")?;
-    text.append(digits.as_slice())?;
-    text.append(b"\"")?;
-    assert_eq!(rt; text.len(), 100_002);
-    assert_eq!(rt; answer(rt.alloc(), text.as_slice())?, text);
-    Ok(())
-}
-
-#[test]
-fn words_under_the_flags(rt: HostRuntime) -> Result<(), Fail> {
+fn words_are_inferred_under_the_flags(rt: HostRuntime) -> Result<(), Fail> {
+    let alloc = rt.alloc();
     let octal = InferOpts {
         none: false,
         octal: true,
     };
-    let eight = word_value(rt.alloc(), b"010", octal)?.ok_or("no value")?;
-    assert!(rt; matches!(&eight, Value::Int(int) if int.n == 8));
     let strings = InferOpts {
         none: true,
         octal: true,
     };
-    let text = word_value(rt.alloc(), b"010", strings)?.ok_or("no value")?;
-    assert!(rt; matches!(text, Value::Str(_)));
-    assert!(rt;
-        matches!(
-            word_value(rt.alloc(), b"true", strings)?,
-            Some(Value::Bool(true))
-        )
-    );
+    let eight = word_value(alloc, b"010", octal)?;
+    assert!(rt; matches!(eight, Some(Value::Int(int)) if int.n == 8));
+    let text = word_value(alloc, b"010", strings)?;
+    assert!(rt; matches!(text, Some(Value::Str(_))));
+    let truth = word_value(alloc, b"true", strings)?;
+    assert!(rt; matches!(truth, Some(Value::Bool(true))));
     Ok(())
 }

@@ -1,5 +1,5 @@
 use Rattle.std.proofs.Common.{[], refl}
-use Rattle.mlr_event.proofs.step_tests.events_come_as_they_are.Goals as goal
+use Rattle.mlr_event.proofs.tests.events_and_fields_come_in_their_order.Goals as goal
 
 pub step-requires-2 : goal.step-requires-2
 step-requires-2 g c = ([], c.in_ok-step.ensures.stands [] c.new-cat.ensures refl, refl)

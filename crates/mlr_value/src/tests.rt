@@ -1,0 +1,370 @@
+//! What texts, values and collections become, by tables.
+
+use crate::{ArrayValue, Bytes, IntValue, MapValue, Value, append_text, from_data, infer, text_of};
+use mlr_spec::{InferOpts, Kind, NoMemory};
+use std::alloc::Global;
+use std::test::Fail;
+
+const PLAIN: InferOpts = InferOpts {
+    none: false,
+    octal: false,
+};
+
+const OCTAL: InferOpts = InferOpts {
+    none: false,
+    octal: true,
+};
+
+const NONE: InferOpts = InferOpts {
+    none: true,
+    octal: true,
+};
+
+/// A text from data, how it is read, and its kind.
+const DATA: [(&str, InferOpts, Kind); 52] = [
+    ("", NONE, Kind::Empty),
+    ("", PLAIN, Kind::Empty),
+    ("7", NONE, Kind::Str),
+    ("abc", PLAIN, Kind::Str),
+    ("+5", PLAIN, Kind::Int(5)),
+    ("-0", PLAIN, Kind::Int(0)),
+    ("007", PLAIN, Kind::Int(7)),
+    ("-007", PLAIN, Kind::Int(-7)),
+    ("0", OCTAL, Kind::Int(0)),
+    ("-010", OCTAL, Kind::Int(-8)),
+    ("08", OCTAL, Kind::Int(8)),
+    ("010", PLAIN, Kind::Int(10)),
+    ("9223372036854775807", PLAIN, Kind::Int(i64::MAX)),
+    ("9223372036854775808", PLAIN, Kind::Wide),
+    ("-9223372036854775808", PLAIN, Kind::Int(i64::MIN)),
+    ("-9223372036854775809", PLAIN, Kind::Wide),
+    ("18446744073709551616", PLAIN, Kind::Wide),
+    ("18446744073709551616x", PLAIN, Kind::Str),
+    ("0x0F", PLAIN, Kind::Int(15)),
+    ("0x0000000000000000000F", PLAIN, Kind::Int(15)),
+    ("0XfF", PLAIN, Kind::Int(255)),
+    ("0b101", PLAIN, Kind::Int(5)),
+    ("0o17", PLAIN, Kind::Int(15)),
+    ("0x", PLAIN, Kind::Str),
+    ("0x1G", PLAIN, Kind::Str),
+    ("0b2", PLAIN, Kind::Str),
+    ("0xffffffffffffffff", PLAIN, Kind::Int(-1)),
+    ("0x8000000000000000", PLAIN, Kind::Int(i64::MIN)),
+    ("-0x8000000000000000", PLAIN, Kind::Int(i64::MIN)),
+    ("-0x8000000000000001", PLAIN, Kind::Wide),
+    ("-0xffffffffffffffff", PLAIN, Kind::Wide),
+    ("0x10000000000000000", PLAIN, Kind::Wide),
+    ("1e5", PLAIN, Kind::Frac),
+    ("1.e5", PLAIN, Kind::Frac),
+    ("-1.", PLAIN, Kind::Frac),
+    ("+.5E-3", PLAIN, Kind::Frac),
+    ("0.50", PLAIN, Kind::Frac),
+    ("0.25", OCTAL, Kind::Frac),
+    ("010.5", OCTAL, Kind::Frac),
+    (".", PLAIN, Kind::Str),
+    (".e5", PLAIN, Kind::Str),
+    ("1e", PLAIN, Kind::Str),
+    ("1e+", PLAIN, Kind::Str),
+    ("1.2.3", PLAIN, Kind::Str),
+    ("1e5.5", PLAIN, Kind::Str),
+    ("1_000", PLAIN, Kind::Str),
+    ("2023-01-01", PLAIN, Kind::Str),
+    ("Inf", PLAIN, Kind::Str),
+    ("-", PLAIN, Kind::Str),
+    ("--1", PLAIN, Kind::Str),
+    ("1 ", PLAIN, Kind::Str),
+    ("e5", PLAIN, Kind::Str),
+];
+
+/// A value that is made and not read.
+enum Made {
+    Absent,
+    Bool(bool),
+    Int(i64),
+    Error,
+}
+
+/// A value, and what it prints.
+const MADE: [(Made, &str); 8] = [
+    (Made::Absent, ""),
+    (Made::Bool(true), "true"),
+    (Made::Bool(false), "false"),
+    (Made::Error, "(error)"),
+    (Made::Int(0), "0"),
+    (Made::Int(-7), "-7"),
+    (Made::Int(i64::MAX), "9223372036854775807"),
+    (Made::Int(i64::MIN), "-9223372036854775808"),
+];
+
+/// The value.
+fn value_of(alloc: Global, made: &Made) -> Value {
+    match made {
+        Made::Absent => Value::Absent,
+        Made::Bool(b) => Value::Bool(*b),
+        Made::Error => Value::Error,
+        Made::Int(n) => Value::Int(IntValue {
+            n: *n,
+            spelling: Bytes::new(alloc),
+        }),
+    }
+}
+
+/// The kind of a value that data can have.
+fn kind(value: &Value) -> Option<Kind> {
+    match value {
+        Value::Empty => Some(Kind::Empty),
+        Value::Str(_) => Some(Kind::Str),
+        Value::Int(int) => Some(Kind::Int(int.n)),
+        Value::Frac(_) => Some(Kind::Frac),
+        Value::Wide(_) => Some(Kind::Wide),
+        _ => None,
+    }
+}
+
+#[test]
+fn values_print_as_they_were_read_or_made(rt: HostRuntime) -> Result<(), Fail> {
+    let alloc = rt.alloc();
+    for (text, opts, want) in &DATA {
+        assert_eq!(rt; infer(text.as_bytes(), *opts), *want, "{text}");
+        let value = from_data(alloc, text.as_bytes(), *opts)?;
+        let copy = value.copy(alloc)?;
+        for one in [&value, &copy] {
+            assert_eq!(rt; kind(one), Some(*want), "{text}");
+            let mut printed = Bytes::new(alloc);
+            append_text(one, &mut printed)?;
+            assert_eq!(rt; printed.as_slice(), text.as_bytes(), "{text}");
+        }
+    }
+    for (made, want) in &MADE {
+        let value = value_of(alloc, made);
+        if matches!(value, Value::Map(_) | Value::Array(_)) {
+            continue;
+        }
+        let mut text = text_of(alloc, &value)?;
+        assert_eq!(rt; text.as_slice(), want.as_bytes(), "{want}");
+        append_text(&value, &mut text)?;
+        assert_eq!(rt; &text.as_slice()[want.len()..], want.as_bytes(), "{want}");
+    }
+    Ok(())
+}
+
+/// More than the 16 bytes that take no memory.
+const LONG: &[u8] = b"0123456789abcdefghijklmnopqrstuvwxyz+-*/";
+
+struct Pair {
+    first: &'static [u8],
+    second: &'static [u8],
+    are_equal: bool,
+    /// The first text after the second one was appended to it.
+    joined: &'static [u8],
+}
+
+/// Two texts, compared and joined.
+const PAIRS: [Pair; 10] = [
+    Pair {
+        first: b"",
+        second: b"",
+        are_equal: true,
+        joined: b"",
+    },
+    Pair {
+        first: b"",
+        second: b"ab",
+        are_equal: false,
+        joined: b"ab",
+    },
+    Pair {
+        first: b"a",
+        second: b"b",
+        are_equal: false,
+        joined: b"ab",
+    },
+    Pair {
+        first: b"ab",
+        second: b"",
+        are_equal: false,
+        joined: b"ab",
+    },
+    Pair {
+        first: b"0123456789abcdef",
+        second: b"g",
+        are_equal: false,
+        joined: b"0123456789abcdefg",
+    },
+    Pair {
+        first: LONG,
+        second: LONG,
+        are_equal: true,
+        joined: b"0123456789abcdefghijklmnopqrstuvwxyz+-*/0123456789abcdefghijklmnopqrstuvwxyz+-*/",
+    },
+    Pair {
+        first: b"ab",
+        second: b"ab",
+        are_equal: true,
+        joined: b"abab",
+    },
+    Pair {
+        first: b"ab",
+        second: b"Ab",
+        are_equal: false,
+        joined: b"abAb",
+    },
+    Pair {
+        first: b"ab",
+        second: b"abc",
+        are_equal: false,
+        joined: b"ababc",
+    },
+    Pair {
+        first: LONG,
+        second: b"0123456789abcdefghijklmnopqrstuvwxyz+-*+",
+        are_equal: false,
+        joined: b"0123456789abcdefghijklmnopqrstuvwxyz+-*/0123456789abcdefghijklmnopqrstuvwxyz+-*+",
+    },
+];
+
+#[test]
+fn texts_are_compared_and_joined_at_each_length(rt: HostRuntime) -> Result<(), Fail> {
+    let alloc = rt.alloc();
+    for (i, pair) in PAIRS.iter().enumerate() {
+        let second = Bytes::copy_of(alloc, pair.second)?;
+        let mut text = Bytes::new(alloc);
+        assert!(rt; text.is_empty(), "at {i}");
+        text.append(pair.first)?;
+        assert_eq!(rt; text, Bytes::copy_of(alloc, pair.first)?, "at {i}");
+        assert_eq!(rt; text == second, pair.are_equal, "at {i}");
+        text.append(second.as_slice())?;
+        assert_eq!(rt; text.as_slice(), pair.joined, "at {i}");
+        let len = pair.joined.len();
+        assert!(rt;
+            text.len() == len && text.is_empty() == (len == 0),
+            "at {i}"
+        );
+        text.clear();
+        assert!(rt; text.is_empty(), "at {i}");
+    }
+    let mut pushed = Bytes::new(alloc);
+    for (len, byte) in LONG.iter().enumerate() {
+        let mut text = Bytes::copy_of(alloc, &LONG[..len])?;
+        assert_eq!(rt; text.as_slice(), &LONG[..len], "at {len}");
+        text.append(&LONG[len..])?;
+        assert_eq!(rt; text.as_slice(), LONG, "at {len}");
+        pushed.push(*byte)?;
+        assert_eq!(rt; pushed.as_slice(), &LONG[..len + 1], "at {len}");
+    }
+    let bytes = Bytes::copy_of(alloc, &[b'a', 195, 169])?;
+    assert_eq!(rt;
+        format!(in alloc; "{bytes:?}")?.as_str(),
+        "\"a\u{c3}\u{a9}\""
+    );
+    Ok(())
+}
+
+struct Collection {
+    puts: &'static [(&'static str, bool)],
+    removed: &'static str,
+    was_there: bool,
+    /// The map without the key, and the array.
+    shown: &'static str,
+}
+
+/// Booleans that are put into a map and an array, and a key that is then removed from the map.
+const COLLECTIONS: [Collection; 5] = [
+    Collection {
+        puts: &[("a", false), ("", true), ("b", true), ("a", true)],
+        removed: "ab",
+        was_there: false,
+        shown: "a=true,=true,b=true,end false=false,true=true,true=true,true=true,end",
+    },
+    Collection {
+        puts: &[("a", true), ("b", false)],
+        removed: "",
+        was_there: false,
+        shown: "a=true,b=false,end true=true,false=false,end",
+    },
+    Collection {
+        puts: &[("a", false), ("b", false), ("c", true)],
+        removed: "d",
+        was_there: false,
+        shown: "a=false,b=false,c=true,end false=false,false=false,true=true,end",
+    },
+    Collection {
+        puts: &[("a", false), ("b", false), ("c", true)],
+        removed: "b",
+        was_there: true,
+        shown: "a=false,c=true,end false=false,false=false,true=true,end",
+    },
+    Collection {
+        puts: &[("x", true)],
+        removed: "y",
+        was_there: false,
+        shown: "x=true,end true=true,end",
+    },
+];
+
+/// Appends the pairs of a map: the keys by their places, and the values by their keys.
+fn append_pairs(map: &MapValue, text: &mut Bytes) -> Result<(), NoMemory> {
+    for place in 0..map.len() {
+        if let Some((key, _)) = map.at(place) {
+            text.append(key)?;
+        }
+        text.append(b"=")?;
+        if let Some(value) = map.get(map.entry(place).0) {
+            append_text(value, text)?;
+        }
+        text.append(b",")?;
+    }
+    if map.at(map.len()).is_none() {
+        text.append(b"end ")?;
+    }
+    Ok(())
+}
+
+/// Appends the items of an array, each twice: as it is at a place that it may have, and at one that it has.
+fn append_items(array: &ArrayValue, text: &mut Bytes) -> Result<(), NoMemory> {
+    for place in 0..array.len() {
+        if let Some(value) = array.at(place) {
+            append_text(value, text)?;
+        }
+        text.append(b"=")?;
+        append_text(array.item(place), text)?;
+        text.append(b",")?;
+    }
+    if array.at(array.len()).is_none() {
+        text.append(b"end")?;
+    }
+    Ok(())
+}
+
+#[test]
+fn collections_and_their_copies_have_the_same_items(rt: HostRuntime) -> Result<(), Fail> {
+    let alloc = rt.alloc();
+    for (i, row) in COLLECTIONS.iter().enumerate() {
+        let mut map = MapValue::new(alloc)?;
+        let mut array = ArrayValue::new(alloc);
+        for (key, b) in row.puts {
+            map.put(key.as_bytes(), Value::Bool(*b))?;
+            array.push(Value::Bool(*b))?;
+        }
+        let removed = row.removed.as_bytes();
+        assert_eq!(rt; map.get(removed).is_some(), row.was_there, "at {i}");
+        assert_eq!(rt; map.remove(removed), row.was_there, "at {i}");
+        let mut arrays = ArrayValue::new(alloc);
+        arrays.push(Value::Array(array))?;
+        let mut outer = MapValue::new(alloc)?;
+        outer.put(b"map", Value::Map(map))?;
+        outer.put(b"arrays", Value::Array(arrays))?;
+        let copy = outer.copy(alloc)?;
+        outer.remove(b"map");
+        let mut shown = Bytes::new(alloc);
+        if let Some(Value::Map(map)) = copy.get(b"map")
+            && let Some(Value::Array(arrays)) = copy.get(b"arrays")
+            && let Some(Value::Array(array)) = arrays.at(0)
+        {
+            append_pairs(map, &mut shown)?;
+            append_items(array, &mut shown)?;
+        }
+        assert_eq!(rt; shown.as_slice(), row.shown.as_bytes(), "at {i}");
+    }
+    Ok(())
+}
