@@ -5,17 +5,15 @@ mod escapes;
 mod fields;
 mod given;
 mod heading;
-#[cfg(test)]
-mod hostile_tests;
 mod laws;
-#[cfg(test)]
-mod options_tests;
 mod quotes;
 mod reader;
 mod records;
 mod row;
 mod rules;
 mod take;
+#[cfg(test)]
+mod test_files;
 #[cfg(test)]
 mod tests;
 

@@ -1,12 +1,44 @@
 //! Files read whole and cut at each byte, and the events that they give, written out.
 
+use crate::test_files::{File, GROUPS, Opt};
 use crate::{CsvReader, can_read};
+use itoa::Buffer;
 use mlr_event::{Comments, Ctx, Event, Events, Fault, FileRef, Format, ReadOpts};
 use mlr_record::Record;
 use mlr_spec::{InferOpts, NoMemory};
 use mlr_value::{Bytes, Value, append_text};
 use std::alloc::Global;
 use std::process::Abort;
+
+/// The options of plain CSV, changed by these.
+fn options(alloc: Global, changes: &[Opt]) -> Result<ReadOpts, NoMemory> {
+    let mut opts = ReadOpts {
+        format: Format::Csv,
+        ifs: Bytes::copy_of(alloc, b",")?,
+        ips: Bytes::new(alloc),
+        implicit: false,
+        ragged: false,
+        dedupe: true,
+        comments: Comments::Keep,
+        infer: InferOpts::plain(),
+    };
+    for change in changes {
+        match change {
+            Opt::Tsv => {
+                opts.format = Format::Tsv;
+                opts.ifs = Bytes::copy_of(alloc, b"\t")?;
+            }
+            Opt::Dkvp => opts.format = Format::Dkvp,
+            Opt::Separator(text) => opts.ifs = Bytes::copy_of(alloc, text)?,
+            Opt::Implicit => opts.implicit = true,
+            Opt::Ragged => opts.ragged = true,
+            Opt::Repeats => opts.dedupe = false,
+            Opt::Skip(prefix) => opts.comments = Comments::Skip(Bytes::copy_of(alloc, prefix)?),
+            Opt::Pass(prefix) => opts.comments = Comments::Pass(Bytes::copy_of(alloc, prefix)?),
+        }
+    }
+    Ok(opts)
+}
 
 /// A record as its number and its fields, with `#` before a whole number: `2:a=#1;b=x;`.
 fn append_record(record: &Record, at: Ctx, into: &mut Bytes) -> Result<(), NoMemory> {
@@ -50,8 +82,8 @@ fn append_event(event: &Event, into: &mut Bytes) -> Result<(), NoMemory> {
     }
 }
 
-/// The events, each with a space behind it.
-pub(crate) fn shown(alloc: Global, events: &Events) -> Result<Bytes, NoMemory> {
+/// The events, each followed by a space.
+fn shown(alloc: Global, events: &Events) -> Result<Bytes, NoMemory> {
     let mut all = Bytes::new(alloc);
     for place in 0..events.len() {
         if let Some(event) = events.at(place) {
@@ -63,293 +95,214 @@ pub(crate) fn shown(alloc: Global, events: &Events) -> Result<Bytes, NoMemory> {
 }
 
 /// The events of a file that comes in two pieces.
-pub(crate) fn read(
-    alloc: Global,
-    opts: &ReadOpts,
-    front: &[u8],
-    rest: &[u8],
-) -> Result<Bytes, NoMemory> {
+fn read(alloc: Global, opts: &ReadOpts, prefix: &[u8], rest: &[u8]) -> Result<Bytes, NoMemory> {
     let mut out = Events::new(alloc);
     let start = Ctx {
         nr: 0,
         fnr: 0,
         filenum: 1,
     };
-    let small = front.len() < 1 << 40 && rest.len() < 1 << 40;
+    let small = prefix.len() < 1 << 40 && rest.len() < 1 << 40;
     if small && can_read(opts) {
         let mut reader = CsvReader::new(alloc, opts, FileRef::Main(1), start)?;
-        reader.feed(front, &mut out)?;
+        reader.feed(prefix, &mut out)?;
         reader.feed(rest, &mut out)?;
         reader.end(&mut out)?;
     }
     shown(alloc, &out)
 }
 
-pub(crate) fn options(
-    alloc: Global,
-    format: Format,
-    separator: &[u8],
-    comments: Comments,
-) -> Result<ReadOpts, NoMemory> {
-    Ok(ReadOpts {
-        format,
-        ifs: Bytes::copy_of(alloc, separator)?,
-        ips: Bytes::new(alloc),
-        implicit: false,
-        ragged: false,
-        dedupe: true,
-        comments,
-        infer: InferOpts::plain(),
-    })
-}
-
 /// Checks the events of each file, wherever it is cut.
-pub(crate) fn check_files(
+fn check_files(
     rt: &impl Abort,
     alloc: Global,
+    name: &str,
     opts: &ReadOpts,
-    files: &[(&[u8], &[u8])],
+    files: &[File],
 ) -> Result<(), NoMemory> {
     for (i, row) in files.iter().enumerate() {
         let (file, want) = *row;
         for cut in 0..file.len() + 1 {
             let shown = read(alloc, opts, &file[..cut], &file[cut..])?;
-            assert_eq!(rt; shown.as_slice(), want, "at {i}, cut at {cut}");
+            assert_eq!(rt; shown.as_slice(), want, "{name} at {i}, cut at {cut}");
         }
     }
     Ok(())
 }
 
-/// The examples of RFC 4180, alone and under a header.
-const RFC: [(&[u8], &[u8]); 9] = [
-    (
-        b"aaa,bbb,ccc\r\nzzz,yyy,xxx\r\n",
-        b"1:aaa=zzz;bbb=yyy;ccc=xxx; ",
-    ),
-    (
-        b"aaa,bbb,ccc\r\nzzz,yyy,xxx",
-        b"1:aaa=zzz;bbb=yyy;ccc=xxx; ",
-    ),
-    (
-        b"field_name,field_name,field_name\r\naaa,bbb,ccc\r\nzzz,yyy,xxx\r\n",
-        b"1:field_name=aaa;field_name_2=bbb;field_name_3=ccc; 2:field_name=zzz;field_name_2=yyy;field_name_3=xxx; ",
-    ),
-    (b"aaa,bbb,ccc", b""),
-    (
-        b"\"aaa\",\"bbb\",\"ccc\"\r\nzzz,yyy,xxx",
-        b"1:aaa=zzz;bbb=yyy;ccc=xxx; ",
-    ),
-    (
-        b"\"aaa\",\"b\r\nbb\",\"ccc\"\r\nzzz,yyy,xxx",
-        b"1:aaa=zzz;b\r\nbb=yyy;ccc=xxx; ",
-    ),
-    (
-        b"a,b,c\r\n\"aaa\",\"b\r\nbb\",\"ccc\"\r\nzzz,yyy,xxx",
-        b"1:a=aaa;b=b\r\nbb;c=ccc; 2:a=zzz;b=yyy;c=xxx; ",
-    ),
-    (b"\"aaa\",\"b\"\"bb\",\"ccc\"", b""),
-    (
-        b"a,b,c\r\n\"aaa\",\"b\"\"bb\",\"ccc\"",
-        b"1:a=aaa;b=b\"bb;c=ccc; ",
-    ),
-];
-
 #[test]
-fn examples_of_the_standard(rt: HostRuntime) -> Result<(), NoMemory> {
-    let alloc = rt.alloc();
-    let opts = options(alloc, Format::Csv, b",", Comments::Keep)?;
-    check_files(&rt, alloc, &opts, &RFC)
-}
-
-const QUOTES: [(&[u8], &[u8]); 23] = [
-    (b"a\nx\"y\"z\n", b"1:a=x\"y\"z; "),
-    (b"a,b\nx\"y,z\"w\n", b"1:a=x\"y;b=z\"w; "),
-    (b"a\n \"x\"\n", b"1:a= \"x\"; "),
-    (b"a,b\n\"x\"y,\"z\" \n", b"1:a=xy;b=z ; "),
-    (b"a\n\"x\"y\"z\"\n", b"1:a=xy\"z\"; "),
-    (b"a\n\"x\"\"\"\n", b"1:a=x\"; "),
-    (b"a\n\"\"x\n", b"1:a=x; "),
-    (b"a\n\"\"1\n", b"1:a=1; "),
-    (b"a\n\"1\"2\n", b"1:a=12; "),
-    (b"a\n\"\"\"\"\n", b"1:a=\"; "),
-    (b"a\n\"\"\n", b"1:a=; "),
-    (b"\"\"\n1\n", b"1:=#1; "),
-    (b"a,b\n1,\"1\"\n,\"\"\n", b"1:a=#1;b=1; 2:a=;b=; "),
-    (b"a,b\n\"1,2\",3\n", b"1:a=1,2;b=#3; "),
-    (b"a,b\n\"x\"\"y\",\"z\"\"\"\n", b"1:a=x\"y;b=z\"; "),
-    (b"a\n\"x\ny\"\n", b"1:a=x\ny; "),
-    (b"\"a\nb\"\n\"c\nd\"\n", b"1:a\nb=c\nd; "),
-    (b"a,b\n\"x\n\n\ny\",1\n", b"1:a=x\n\n\ny;b=#1; "),
-    (b"a\n\"x\n\"\"\n\"\"\"\n", b"1:a=x\n\"\n\"; "),
-    (
-        b"a,b\n\"1\n2\",\"3\n4\"\n5,6\n",
-        b"1:a=1\n2;b=3\n4; 2:a=#5;b=#6; ",
-    ),
-    (b"a\n\"x\n\"y\n", b"1:a=x\ny; "),
-    (
-        b"a\n\"a text of more than sixteen bytes\"\n",
-        b"1:a=a text of more than sixteen bytes; ",
-    ),
-    (
-        b"\"a name of more than sixteen bytes\"\nx\n",
-        b"1:a name of more than sixteen bytes=x; ",
-    ),
-];
-
-#[test]
-fn quotes_read_at_any_cut(rt: HostRuntime) -> Result<(), NoMemory> {
-    let alloc = rt.alloc();
-    let opts = options(alloc, Format::Csv, b",", Comments::Keep)?;
-    check_files(&rt, alloc, &opts, &QUOTES)
-}
-
-const LINES: [(&[u8], &[u8]); 26] = [
-    (b"", b""),
-    (b"\n\r\n\n", b""),
-    (b"a,b", b""),
-    (b"a,b\r\n", b""),
-    (b"\"a\nb\"\n", b""),
-    (b"a\n1", b"1:a=#1; "),
-    (b"a\nx\ry\r", b"1:a=x\ry\r; "),
-    (b"a\rb\nx\n", b"1:a\rb=x; "),
-    (b"a\nx\r\r\n", b"1:a=x\r; "),
-    (b"a\n\r", b"1:a=\r; "),
-    (b"a\n\r\r\n", b"1:a=\r; "),
-    (b"a\n\"\r\n\r\"\r\n", b"1:a=\r\n\r; "),
-    (b"a,b\r\n\"x\r\",\"y\r\n\"\r\n", b"1:a=x\r;b=y\r\n; "),
-    (b"\n\r\na\n\n1\n\r\n", b"1:a=#1; "),
-    (b"a\n\n\n1\n\n\n2\n\n", b"1:a=#1; 2:a=#2; "),
-    (b"a\n \n", b"1:a= ; "),
-    (b"a,b,c\n,,\n", b"1:a=;b=;c=; "),
-    (b"a,b\n1,\n,2\n", b"1:a=#1;b=; 2:a=;b=#2; "),
-    (b",\n1,2\n", b"1:=#1;_2=#2; "),
-    (b"a,\n1,2\n", b"1:a=#1;=#2; "),
-    (b"a,b,c\n-1,0x1f,1.5\n", b"1:a=#-1;b=#0x1f;c=1.5; "),
-    (b"a,b\n1_000,1 \n", b"1:a=1_000;b=1 ; "),
-    (b"\xff,\x00\n\x80,\x01\n", b"1:\xff=\x80;\x00=\x01; "),
-    (b"a,a,a\n1,2,3\n", b"1:a=#1;a_2=#2;a_3=#3; "),
-    (b"a,a_2,a\n1,2,3\n", b"1:a=#1;a_2=#2;a_3=#3; "),
-    (b"a,a,a_2\n1,2,3\n", b"1:a=#1;a_2=#2;a_2_2=#3; "),
-];
-
-#[test]
-fn lines_read_at_any_cut(rt: HostRuntime) -> Result<(), NoMemory> {
-    let alloc = rt.alloc();
-    let opts = options(alloc, Format::Csv, b",", Comments::Keep)?;
-    check_files(&rt, alloc, &opts, &LINES)
-}
-
-const MARKS: [(&[u8], &[u8]); 10] = [
-    (b"\xef\xbb\xbf", b""),
-    (b"\xef\xbb\xbfa\n1\n", b"1:a=#1; "),
-    (b"\xef\xbb\xbf\"a\"\n1\n", b"1:a=#1; "),
-    (b"\xef\xbb\xbf\na\n1\n", b"1:a=#1; "),
-    (b"\xef\xbb\xbf\"a\n", b"!1 "),
-    (b"\xef\xbb\n1", b"1:\xef\xbb=#1; "),
-    (b"\xef\xbb\xbf\xef\xbb\xbfa\nx\n", b"1:\xef\xbb\xbfa=x; "),
-    (b"\n\xef\xbb\xbfa\nx\n", b"1:\xef\xbb\xbfa=x; "),
-    (b"\"\xef\xbb\xbfa\"\n\"\"\"\"\n", b"1:\xef\xbb\xbfa=\"; "),
-    (b"a\n\xef\xbb\xbf1\n", b"1:a=\xef\xbb\xbf1; "),
-];
-
-#[test]
-fn byte_order_mark_at_the_start_alone(rt: HostRuntime) -> Result<(), NoMemory> {
-    let alloc = rt.alloc();
-    let opts = options(alloc, Format::Csv, b",", Comments::Keep)?;
-    check_files(&rt, alloc, &opts, &MARKS)
-}
-
-const FAULTS: [(&[u8], &[u8]); 18] = [
-    (b"a,b\n1\n", b"!2!2!1 "),
-    (b"a\n1,2\n", b"!2!1!2 "),
-    (b"a,b\n1,2,3\n", b"!2!2!3 "),
-    (b"a,b\n\n\r\n1\n", b"!4!2!1 "),
-    (b"a,b\n1,2\n3", b"1:a=#1;b=#2; !3!2!1 "),
-    (b"a,b\n1,2\n3\n4,5\n", b"1:a=#1;b=#2; !3!2!1 "),
-    (b"a,b\n1\n2\n\"", b"!2!2!1 "),
-    (b"a,b\n\"x\ny\"\n", b"!2!2!1 "),
-    (
-        b"a,b\n\"x\ny\",\"\n\"\n\"u\nv\"\n",
-        b"1:a=x\ny;b=\n; !5!2!1 ",
-    ),
-    (b"\"a\nb\",c\n1,\"\n\n\"\"\n\",3\n", b"!3!2!3 "),
-    (b"a\n1\n\n\"x\ny", b"1:a=#1; !4 "),
-    (b"a\n\"x\n", b"!2 "),
-    (b"\"", b"!1 "),
-    (b"a,b\n1,\"x", b"!2 "),
-    (b"a\n\"\"\"\n", b"!2 "),
-    (b"a\n\"\r\n", b"!2 "),
-    (b"a,b\n\"1\n2\",\"3\n4", b"!2 "),
-    (b"a,b\n\"1\n2\",3\n\n4,\"5\n", b"1:a=1\n2;b=#3; !5 "),
-];
-
-#[test]
-fn faults_name_the_line_of_their_row(rt: HostRuntime) -> Result<(), NoMemory> {
-    let alloc = rt.alloc();
-    let opts = options(alloc, Format::Csv, b",", Comments::Keep)?;
-    check_files(&rt, alloc, &opts, &FAULTS)
-}
-
-const TSV: [(&[u8], &[u8]); 20] = [
-    (b"", b""),
-    (b"a\tb", b""),
-    (b"a\tb\n1\tx\n", b"1:a=#1;b=x; "),
-    (
-        b"a\tb\r\nx\\ty\tz\\n\\\\\\q\\\n",
-        b"1:a=x\ty;b=z\n\\\\q\\; ",
-    ),
-    (b"a\n\"x\n\"\"\n", b"1:a=\"x; 2:a=\"\"; "),
-    (b"a\tb\n\"x\ty\"\n", b"1:a=\"x;b=y\"; "),
-    (b"a\n\"x", b"1:a=\"x; "),
-    (b"a\\tb\tc\n\t1\n", b"1:a\tb=;c=#1; "),
-    (b"a\n\\\\t\n", b"1:a=\\t; "),
-    (b"a\n\\\\\\t\n", b"1:a=\\\t; "),
-    (b"a\n\\r\\\"\n", b"1:a=\\r\\\"; "),
-    (b"a\n1\\n2\n", b"1:a=1\n2; "),
-    (b"a\n\\\r\n", b"1:a=\\; "),
-    (b"a\tb\n\t\n", b"1:a=;b=; "),
-    (b"a,b\nx,y\n", b"1:a,b=x,y; "),
-    (b"a\ta\n1\t2\n", b"1:a=#1;a_2=#2; "),
-    (b"\n\r\na\n\n1", b"1:a=#1; "),
-    (b"\xef\xbb\xbfa\n1\r", b"1:a=1\r; "),
-    (b"a\tb\n1\n", b"!2!2!1 "),
-    (b"a\n\n1\t2\n3\n", b"!3!1!2 "),
-];
-
-#[test]
-fn tsv_read_at_any_cut(rt: HostRuntime) -> Result<(), NoMemory> {
-    let alloc = rt.alloc();
-    let opts = options(alloc, Format::Tsv, b"\t", Comments::Keep)?;
-    check_files(&rt, alloc, &opts, &TSV)
-}
-
-#[test]
-fn options_that_cant_be_read(rt: HostRuntime) -> Result<(), NoMemory> {
-    let alloc = rt.alloc();
-    assert!(rt; !can_read(&options(alloc, Format::Csv, b"", Comments::Keep)?));
-    assert!(rt; !can_read(&options(alloc, Format::Dkvp, b",", Comments::Keep)?));
+fn files_give_these_events_wherever_they_are_cut(rt: HostRuntime) -> Result<(), NoMemory> {
+    for row in GROUPS.iter() {
+        let (name, changes, files) = *row;
+        let opts = options(rt.alloc(), changes)?;
+        assert_eq!(rt; can_read(&opts), !files.is_empty(), "{name}");
+        check_files(&rt, rt.alloc(), name, &opts, files)?;
+    }
     Ok(())
 }
 
+/// A step of a reader of the second file after five records, and the numbers of its last record then.
+const STEPS: [(Step, u64, u64); 3] = [
+    (Step::Begin, 5, 0),
+    (Step::Feed(b"a\n1\n2"), 6, 1),
+    (Step::End, 7, 2),
+];
+
+/// What a reader does next.
+enum Step {
+    Begin,
+    Feed(&'static [u8]),
+    End,
+}
+
 #[test]
-fn context_of_the_last_record(rt: HostRuntime) -> Result<(), NoMemory> {
-    let alloc = rt.alloc();
-    let opts = options(alloc, Format::Csv, b",", Comments::Keep)?;
+fn numbers_of_records_go_on_from_file_to_file(rt: HostRuntime) -> Result<(), NoMemory> {
+    let opts = options(rt.alloc(), &[])?;
     let start = Ctx {
         nr: 5,
         fnr: 0,
         filenum: 2,
     };
     if can_read(&opts) {
-        let mut out = Events::new(alloc);
-        let mut reader = CsvReader::new(alloc, &opts, FileRef::Main(2), start)?;
-        assert_eq!(rt; reader.ctx(), start);
-        reader.feed(b"a\n1\n2", &mut out)?;
-        assert_eq!(rt; reader.ctx().nr, 6);
-        reader.end(&mut out)?;
-        assert_eq!(rt; reader.ctx().nr, 7);
-        assert_eq!(rt; reader.ctx().fnr, 2);
+        let mut out = Events::new(rt.alloc());
+        let mut reader = CsvReader::new(rt.alloc(), &opts, FileRef::Main(2), start)?;
+        for (i, row) in STEPS.iter().enumerate() {
+            let (step, nr, fnr) = row;
+            match step {
+                Step::Begin => {}
+                Step::Feed(piece) => reader.feed(piece, &mut out)?,
+                Step::End => reader.end(&mut out)?,
+            }
+            let want = Ctx {
+                nr: *nr,
+                fnr: *fnr,
+                filenum: 2,
+            };
+            assert_eq!(rt; reader.ctx(), want, "at {i}");
+        }
         assert!(rt; !reader.is_broken());
+    }
+    Ok(())
+}
+
+/// Files in which each byte in turn takes each place.
+const CHANGED: [(&[Opt], &[u8]); 2] = [
+    (&[Opt::Pass(b"#")], b"a,b\r\n\"1\n\"\"\",2\n"),
+    (&[Opt::Tsv, Opt::Ragged], b"a\tb\n\\t\t2\r\n"),
+];
+
+/// A text as a start, a part that is repeated, in which `%` represents the number of the field, and an end.
+type Parts = (&'static [u8], &'static [u8], &'static [u8]);
+
+/// A file and its events, in parts that are repeated so many times.
+struct Long {
+    opts: &'static [Opt],
+    times: usize,
+    file: Parts,
+    events: Parts,
+}
+
+/// A row of 10000 columns, and a field of 20000 lines.
+const LONG: [Long; 2] = [
+    Long {
+        opts: &[Opt::Implicit],
+        times: 9_999,
+        file: (b"1", b",%", b""),
+        events: (b"1:1=#1;", b"%=#%;", b" "),
+    },
+    Long {
+        opts: &[],
+        times: 20_000,
+        file: (
+            b"a\n\"",
+            b"a line of a field with \"\"quotes\"\" that goes on..\r\n",
+            b"\"\n",
+        ),
+        events: (
+            b"1:a=",
+            b"a line of a field with \"quotes\" that goes on..\r\n",
+            b"; ",
+        ),
+    },
+];
+
+/// The text of a long file or its events. The first part has the number 2.
+fn text_of(alloc: Global, parts: &Parts, times: usize) -> Result<Bytes, NoMemory> {
+    let (start, part, end) = *parts;
+    let mut text = Bytes::copy_of(alloc, start)?;
+    for place in 0..times {
+        let mut buffer = Buffer::new();
+        let number = buffer.format(place + 2).as_bytes();
+        for byte in part {
+            if *byte == b'%' {
+                text.append(number)?;
+            } else {
+                text.append(&[*byte])?;
+            }
+        }
+    }
+    text.append(end)?;
+    Ok(text)
+}
+
+/// The text with another byte at this place.
+fn changed(alloc: Global, text: &[u8], place: usize, byte: u8) -> Result<Bytes, NoMemory> {
+    let mut made = Bytes::new(alloc);
+    for (i, old) in text.iter().enumerate() {
+        made.append(&[if i == place { byte } else { *old }])?;
+    }
+    Ok(made)
+}
+
+/// Checks that a text with each byte in turn at this place gives the same events wherever it is cut.
+fn check_place(
+    rt: &impl Abort,
+    alloc: Global,
+    opts: &ReadOpts,
+    text: &[u8],
+    place: usize,
+) -> Result<(), NoMemory> {
+    for byte in 0..=255 {
+        let text = changed(alloc, text, place, byte)?;
+        let whole = read(alloc, opts, text.as_slice(), b"")?;
+        for cut in 0..text.len() {
+            let shown = read(
+                alloc,
+                opts,
+                &text.as_slice()[..cut],
+                &text.as_slice()[cut..],
+            )?;
+            assert!(rt; shown == whole, "byte {byte} at {place}, cut at {cut}");
+        }
+    }
+    Ok(())
+}
+
+/// `rt try` comes to its time limit at the long files, since each name is compared with those before it; built, it takes a moment.
+#[test]
+fn unlikely_files_give_the_same_events_as_whole(rt: HostRuntime) -> Result<(), NoMemory> {
+    let alloc = rt.alloc();
+    for row in CHANGED.iter() {
+        let (changes, text) = *row;
+        let opts = options(alloc, changes)?;
+        for place in 0..text.len() {
+            check_place(&rt, alloc, &opts, text, place)?;
+        }
+    }
+    for (i, row) in LONG.iter().enumerate() {
+        let opts = options(alloc, row.opts)?;
+        let text = text_of(alloc, &row.file, row.times)?;
+        let half = text.len() / 2;
+        let shown = read(
+            alloc,
+            &opts,
+            &text.as_slice()[..half],
+            &text.as_slice()[half..],
+        )?;
+        assert!(rt;
+            shown == text_of(alloc, &row.events, row.times)?,
+            "long file {i}"
+        );
     }
     Ok(())
 }

@@ -8,6 +8,46 @@ use mlr_value::{Bytes, append_text};
 use std::alloc::Global;
 use std::process::Abort;
 
+/// An option that differs from those of plain DKVP.
+enum Opt {
+    Nidx,
+    Markdown,
+    Csv,
+    Separators(&'static [u8], &'static [u8]),
+    Repeats,
+    Skip(&'static [u8]),
+    Pass(&'static [u8]),
+}
+
+/// The options of plain DKVP, changed by these.
+fn options(alloc: Global, changes: &[Opt]) -> Result<ReadOpts, NoMemory> {
+    let mut opts = ReadOpts {
+        format: Format::Dkvp,
+        ifs: Bytes::copy_of(alloc, b",")?,
+        ips: Bytes::copy_of(alloc, b"=")?,
+        implicit: false,
+        ragged: false,
+        dedupe: true,
+        comments: Comments::Keep,
+        infer: InferOpts::plain(),
+    };
+    for change in changes {
+        match change {
+            Opt::Nidx => opts.format = Format::Nidx,
+            Opt::Markdown => opts.format = Format::Markdown,
+            Opt::Csv => opts.format = Format::Csv,
+            Opt::Separators(ifs, ips) => {
+                opts.ifs = Bytes::copy_of(alloc, ifs)?;
+                opts.ips = Bytes::copy_of(alloc, ips)?;
+            }
+            Opt::Repeats => opts.dedupe = false,
+            Opt::Skip(prefix) => opts.comments = Comments::Skip(Bytes::copy_of(alloc, prefix)?),
+            Opt::Pass(prefix) => opts.comments = Comments::Pass(Bytes::copy_of(alloc, prefix)?),
+        }
+    }
+    Ok(opts)
+}
+
 /// A record as its number and its fields: `2:a=1;b=x;`.
 fn append_record(record: &Record, at: Ctx, into: &mut Bytes) -> Result<(), NoMemory> {
     into.append(&[b'0' + (at.nr % 10) as u8, b':'])?;
@@ -36,7 +76,7 @@ fn append_event(event: &Event, into: &mut Bytes) -> Result<(), NoMemory> {
     }
 }
 
-/// The events, each with a space behind it.
+/// The events, each followed by a space.
 fn shown(alloc: Global, events: &Events) -> Result<Bytes, NoMemory> {
     let mut all = Bytes::new(alloc);
     for place in 0..events.len() {
@@ -49,59 +89,28 @@ fn shown(alloc: Global, events: &Events) -> Result<Bytes, NoMemory> {
 }
 
 /// The events of a file that comes in two pieces.
-fn read(alloc: Global, opts: &ReadOpts, front: &[u8], rest: &[u8]) -> Result<Bytes, NoMemory> {
+fn read(alloc: Global, opts: &ReadOpts, prefix: &[u8], rest: &[u8]) -> Result<Bytes, NoMemory> {
     let mut out = Events::new(alloc);
     let start = Ctx {
         nr: 0,
         fnr: 0,
         filenum: 1,
     };
-    let small = front.len() < 1000 && rest.len() < 1000;
+    let small = prefix.len() < 1000 && rest.len() < 1000;
     if small && can_read(opts) {
         let mut reader = LineReader::new(alloc, opts, FileRef::Main(1), start)?;
-        reader.feed(front, &mut out)?;
+        reader.feed(prefix, &mut out)?;
         reader.feed(rest, &mut out)?;
         reader.end(&mut out)?;
     }
     shown(alloc, &out)
 }
 
-fn options(
-    alloc: Global,
-    format: Format,
-    separators: (&[u8], &[u8]),
-    comments: Comments,
-) -> Result<ReadOpts, NoMemory> {
-    Ok(ReadOpts {
-        format,
-        ifs: Bytes::copy_of(alloc, separators.0)?,
-        ips: Bytes::copy_of(alloc, separators.1)?,
-        implicit: false,
-        ragged: false,
-        dedupe: true,
-        comments,
-        infer: InferOpts::plain(),
-    })
-}
+/// A file, and its events.
+type File = (&'static [u8], &'static [u8]);
 
-/// Checks the events of each file, wherever it is cut.
-fn check_files(
-    rt: &impl Abort,
-    alloc: Global,
-    opts: &ReadOpts,
-    files: &[(&[u8], &[u8])],
-) -> Result<(), NoMemory> {
-    for (i, row) in files.iter().enumerate() {
-        let (file, want) = *row;
-        for cut in 0..file.len() + 1 {
-            let shown = read(alloc, opts, &file[..cut], &file[cut..])?;
-            assert_eq!(rt; shown.as_slice(), want, "at {i}, cut at {cut}");
-        }
-    }
-    Ok(())
-}
-
-const DKVP: [(&[u8], &[u8]); 14] = [
+/// Names, positions where none is given, line ends, and names that repeat.
+const DKVP: [File; 14] = [
     (b"", b""),
     (b"a=1,b=x\n", b"1:a=1;b=x; "),
     (b"a=1\nb=2", b"1:a=1; 2:b=2; "),
@@ -121,51 +130,22 @@ const DKVP: [(&[u8], &[u8]); 14] = [
     (b"#a=1\n", b"1:#a=1; "),
 ];
 
-#[test]
-fn dkvp_files(rt: HostRuntime) -> Result<(), NoMemory> {
-    let opts = options(rt.alloc(), Format::Dkvp, (b",", b"="), Comments::Keep)?;
-    check_files(&rt, rt.alloc(), &opts, &DKVP)
-}
-
-const COMMENTED: [(&[u8], &[u8]); 4] = [
+/// Comments are events of their own.
+const COMMENTED: [File; 4] = [
     (b"%%a\na=1\n", b"%%a\n 1:a=1; "),
     (b"a=1\n%%\r\n%%b", b"1:a=1; %%\n %%b\n "),
     (b"%a\n", b"1:1=%a; "),
     (b" %%a\n", b"1:1= %%a; "),
 ];
 
-#[test]
-fn comments_passed(rt: HostRuntime) -> Result<(), NoMemory> {
-    let comments = Comments::Pass(Bytes::copy_of(rt.alloc(), b"%%")?);
-    let opts = options(rt.alloc(), Format::Dkvp, (b",", b"="), comments)?;
-    check_files(&rt, rt.alloc(), &opts, &COMMENTED)
-}
-
-const SKIPPED: [(&[u8], &[u8]); 2] = [
+/// Comments are skipped, and separators have two bytes.
+const SKIPPED: [File; 2] = [
     (b"#a\n#\nb;;c:=d;e\n#", b"1:1=b;c=d;e; "),
     (b"b;;;;c:d\n", b"1:1=b;3=c:d; "),
 ];
 
-#[test]
-fn comments_skipped_and_long_separators(rt: HostRuntime) -> Result<(), NoMemory> {
-    let comments = Comments::Skip(Bytes::copy_of(rt.alloc(), b"#")?);
-    let opts = options(rt.alloc(), Format::Dkvp, (b";;", b":="), comments)?;
-    check_files(&rt, rt.alloc(), &opts, &SKIPPED)
-}
-
-#[test]
-fn names_that_repeat_without_dedupe(rt: HostRuntime) -> Result<(), NoMemory> {
-    let mut opts = options(rt.alloc(), Format::Dkvp, (b",", b"="), Comments::Keep)?;
-    opts.dedupe = false;
-    check_files(
-        &rt,
-        rt.alloc(),
-        &opts,
-        &[(b"a=1,b=2,a=3\n", b"1:a=3;b=2; ")],
-    )
-}
-
-const NIDX: [(&[u8], &[u8]); 5] = [
+/// Words between spaces, named by position.
+const NIDX: [File; 5] = [
     (b"a b  c\n", b"1:1=a;2=b;3=c; "),
     (b"  a b  \r\n", b"1:1=a;2=b; "),
     (b"  \n\na", b"1:1=a; "),
@@ -173,13 +153,8 @@ const NIDX: [(&[u8], &[u8]); 5] = [
     (b"\xef\xbb\xbfa b", b"1:1=a;2=b; "),
 ];
 
-#[test]
-fn nidx_files(rt: HostRuntime) -> Result<(), NoMemory> {
-    let opts = options(rt.alloc(), Format::Nidx, (b" ", b""), Comments::Keep)?;
-    check_files(&rt, rt.alloc(), &opts, &NIDX)
-}
-
-const TABLES: [(&[u8], &[u8]); 10] = [
+/// Tables with their rules and escapes, and faults in them.
+const TABLES: [File; 10] = [
     (
         b"| a | b |\n| --- | :-: |\n| 1 | x y |\n|2||\n",
         b"1:a=1;b=x y; 2:a=2;b=; ",
@@ -195,84 +170,115 @@ const TABLES: [(&[u8], &[u8]); 10] = [
     (b"|a|\n", b""),
 ];
 
-#[test]
-fn markdown_files(rt: HostRuntime) -> Result<(), NoMemory> {
-    let opts = options(rt.alloc(), Format::Markdown, (b"", b""), Comments::Keep)?;
-    check_files(&rt, rt.alloc(), &opts, &TABLES)
+/// The options under which each table of files is read; a table without files says that no file can be read.
+const GROUPS: [(&str, &[Opt], &[File]); 11] = [
+    ("dkvp", &[], &DKVP),
+    ("pass", &[Opt::Pass(b"%%")], &COMMENTED),
+    (
+        "skip",
+        &[Opt::Skip(b"#"), Opt::Separators(b";;", b":=")],
+        &SKIPPED,
+    ),
+    (
+        "repeats",
+        &[Opt::Repeats],
+        &[(b"a=1,b=2,a=3\n", b"1:a=3;b=2; ")],
+    ),
+    ("nidx", &[Opt::Nidx, Opt::Separators(b" ", b"")], &NIDX),
+    (
+        "markdown",
+        &[Opt::Markdown, Opt::Separators(b"", b"")],
+        &TABLES,
+    ),
+    (
+        "cells repeat",
+        &[Opt::Markdown, Opt::Separators(b"", b""), Opt::Repeats],
+        &[(b"|a|b|a|\n|-|-|-|\n|1|2|3|\n", b"1:a=3;b=2; ")],
+    ),
+    ("no ifs", &[Opt::Separators(b"", b"=")], &[]),
+    ("no ips", &[Opt::Separators(b",", b"")], &[]),
+    (
+        "nidx, no ifs",
+        &[Opt::Nidx, Opt::Separators(b"", b"=")],
+        &[],
+    ),
+    ("csv", &[Opt::Csv], &[]),
+];
+
+/// Checks the events of each file, wherever it is cut.
+fn check_files(
+    rt: &impl Abort,
+    alloc: Global,
+    name: &str,
+    opts: &ReadOpts,
+    files: &[File],
+) -> Result<(), NoMemory> {
+    for (i, row) in files.iter().enumerate() {
+        let (file, want) = *row;
+        for cut in 0..file.len() + 1 {
+            let shown = read(alloc, opts, &file[..cut], &file[cut..])?;
+            assert_eq!(rt; shown.as_slice(), want, "{name} at {i}, cut at {cut}");
+        }
+    }
+    Ok(())
 }
 
 #[test]
-fn numbers_go_on(rt: HostRuntime) -> Result<(), NoMemory> {
-    let alloc = rt.alloc();
-    let opts = options(alloc, Format::Dkvp, (b",", b"="), Comments::Keep)?;
-    let mut out = Events::new(alloc);
+fn files_give_these_events_wherever_they_are_cut(rt: HostRuntime) -> Result<(), NoMemory> {
+    for row in GROUPS.iter() {
+        let (name, changes, files) = *row;
+        let opts = options(rt.alloc(), changes)?;
+        assert_eq!(rt; can_read(&opts), !files.is_empty(), "{name}");
+        check_files(&rt, rt.alloc(), name, &opts, files)?;
+    }
+    Ok(())
+}
+
+/// Pieces of the third file after seven records, then its end, and the numbers of the last record after each.
+const STEPS: [(Option<&[u8]>, u64, u64); 2] = [(Some(b"a=1\nb=2"), 8, 1), (None, 9, 2)];
+
+#[test]
+fn numbers_of_records_go_on_from_file_to_file(rt: HostRuntime) -> Result<(), NoMemory> {
+    let opts = options(rt.alloc(), &[])?;
+    let mut out = Events::new(rt.alloc());
     let start = Ctx {
         nr: 7,
         fnr: 0,
         filenum: 3,
     };
     if can_read(&opts) {
-        let mut reader = LineReader::new(alloc, &opts, FileRef::Main(3), start)?;
+        let mut reader = LineReader::new(rt.alloc(), &opts, FileRef::Main(3), start)?;
         assert_eq!(rt; reader.ctx(), start);
-        reader.feed(b"a=1\nb=2", &mut out)?;
-        assert_eq!(rt;
-            reader.ctx(),
-            Ctx {
-                nr: 8,
-                fnr: 1,
-                filenum: 3
+        for (i, row) in STEPS.iter().enumerate() {
+            let (piece, nr, fnr) = *row;
+            match piece {
+                Some(piece) => reader.feed(piece, &mut out)?,
+                None => reader.end(&mut out)?,
             }
-        );
-        reader.end(&mut out)?;
-        assert_eq!(rt;
-            reader.ctx(),
-            Ctx {
-                nr: 9,
-                fnr: 2,
-                filenum: 3
-            }
-        );
+            let at = reader.ctx();
+            assert_eq!(rt; (at.nr, at.fnr, at.filenum), (nr, fnr, 3), "at {i}");
+        }
         assert!(rt; !reader.is_broken());
     }
     assert_eq!(rt;
-        shown(alloc, &out)?.as_slice(),
+        shown(rt.alloc(), &out)?.as_slice(),
         b"8:a=1; 9:b=2; ".as_slice()
     );
     Ok(())
 }
 
-#[test]
-fn options_that_can_not_be_read_by(rt: HostRuntime) -> Result<(), NoMemory> {
-    let alloc = rt.alloc();
-    let table: [(Format, &[u8], &[u8], bool); 5] = [
-        (Format::Dkvp, b",", b"=", true),
-        (Format::Dkvp, b"", b"=", false),
-        (Format::Dkvp, b",", b"", false),
-        (Format::Nidx, b"", b"=", false),
-        (Format::Csv, b",", b"=", false),
-    ];
-    for (i, row) in table.iter().enumerate() {
-        let (format, ifs, ips, want) = *row;
-        let opts = options(alloc, format, (ifs, ips), Comments::Keep)?;
-        assert_eq!(rt; can_read(&opts), want, "at {i}");
-    }
-    Ok(())
-}
-
-/// Checks that a file gives the same events wherever it is cut.
-fn check_cuts(
-    rt: &impl Abort,
-    alloc: Global,
-    opts: &ReadOpts,
-    file: &[u8],
-) -> Result<(), NoMemory> {
-    let want = read(alloc, opts, file, b"")?;
-    for cut in 0..file.len() {
-        let shown = read(alloc, opts, &file[..cut], &file[cut..])?;
-        assert_eq!(rt; shown.as_slice(), want.as_slice(), "cut at {cut}");
-    }
-    Ok(())
-}
+/// Files in which each byte in turn takes each place.
+const ANY_BYTE: [(&[Opt], &[u8]); 3] = [
+    (&[Opt::Pass(b"#")], b"a=1\r\n#\n,b"),
+    (
+        &[Opt::Nidx, Opt::Separators(b" ", b""), Opt::Pass(b"#")],
+        b" a\r\n#\nb ",
+    ),
+    (
+        &[Opt::Markdown, Opt::Separators(b"", b""), Opt::Pass(b"#")],
+        b"|a|\r\n|-|\n|\\|",
+    ),
+];
 
 /// The file with another byte at this place.
 fn with_byte(alloc: Global, file: &[u8], place: usize, byte: u8) -> Result<Vec<u8>, NoMemory> {
@@ -283,7 +289,7 @@ fn with_byte(alloc: Global, file: &[u8], place: usize, byte: u8) -> Result<Vec<u
     Ok(text)
 }
 
-/// The same with each byte in turn at this place.
+/// Checks that a file with each byte in turn at this place gives the same events wherever it is cut.
 fn check_place(
     rt: &impl Abort,
     alloc: Global,
@@ -292,54 +298,27 @@ fn check_place(
     place: usize,
 ) -> Result<(), NoMemory> {
     for byte in 0..=255 {
-        let text = with_byte(alloc, file, place, byte)?;
-        check_cuts(rt, alloc, opts, text.as_slice())?;
+        let made = with_byte(alloc, file, place, byte)?;
+        let text = made.as_slice();
+        let want = read(alloc, opts, text, b"")?;
+        for cut in 0..text.len() {
+            let shown = read(alloc, opts, &text[..cut], &text[cut..])?;
+            assert!(rt; shown == want, "byte {byte} at {place}, cut at {cut}");
+        }
     }
     Ok(())
 }
 
-/// The same at each place.
-fn check_bytes(
-    rt: &impl Abort,
-    alloc: Global,
-    opts: &ReadOpts,
-    file: &[u8],
+#[test]
+fn files_with_any_byte_anywhere_give_the_same_events_wherever_they_are_cut(
+    rt: HostRuntime,
 ) -> Result<(), NoMemory> {
-    for place in 0..file.len() {
-        check_place(rt, alloc, opts, file, place)?;
+    for row in ANY_BYTE.iter() {
+        let (changes, file) = *row;
+        let opts = options(rt.alloc(), changes)?;
+        for place in 0..file.len() {
+            check_place(&rt, rt.alloc(), &opts, file, place)?;
+        }
     }
     Ok(())
-}
-
-#[test]
-fn dkvp_with_any_byte_anywhere(rt: HostRuntime) -> Result<(), NoMemory> {
-    let comments = Comments::Pass(Bytes::copy_of(rt.alloc(), b"#")?);
-    let opts = options(rt.alloc(), Format::Dkvp, (b",", b"="), comments)?;
-    check_bytes(&rt, rt.alloc(), &opts, b"a=1\r\n#\n,b")
-}
-
-#[test]
-fn nidx_with_any_byte_anywhere(rt: HostRuntime) -> Result<(), NoMemory> {
-    let comments = Comments::Pass(Bytes::copy_of(rt.alloc(), b"#")?);
-    let opts = options(rt.alloc(), Format::Nidx, (b" ", b""), comments)?;
-    check_bytes(&rt, rt.alloc(), &opts, b" a\r\n#\nb ")
-}
-
-#[test]
-fn markdown_with_any_byte_anywhere(rt: HostRuntime) -> Result<(), NoMemory> {
-    let comments = Comments::Pass(Bytes::copy_of(rt.alloc(), b"#")?);
-    let opts = options(rt.alloc(), Format::Markdown, (b"", b""), comments)?;
-    check_bytes(&rt, rt.alloc(), &opts, b"|a|\r\n|-|\n|\\|")
-}
-
-#[test]
-fn markdown_names_that_repeat_without_dedupe(rt: HostRuntime) -> Result<(), NoMemory> {
-    let mut opts = options(rt.alloc(), Format::Markdown, (b"", b""), Comments::Keep)?;
-    opts.dedupe = false;
-    check_files(
-        &rt,
-        rt.alloc(),
-        &opts,
-        &[(b"|a|b|a|\n|-|-|-|\n|1|2|3|\n", b"1:a=3;b=2; ")],
-    )
 }

@@ -149,90 +149,127 @@ fn read(
 /// Single bytes.
 const ONES: [usize; 32] = [1; 32];
 
-#[test]
-fn two_files_in_single_bytes(rt: HostRuntime) -> Result<(), Fail> {
-    let alloc = rt.alloc();
-    let files = [("f", "a=1,b=x\na=2"), ("g", "c=3\n")];
-    let opts = options(alloc, Format::Dkvp, b",")?;
-    let left = read(alloc, opts, &files, &["f", "g"], &ONES, &[])?;
-    assert_eq!(rt;
-        left.shown.as_slice(),
-        b".1.1.1 a=1 b=x; .2.2.1 a=2; .3.1.2 c=3; end .3.1.2".as_slice()
-    );
-    assert_eq!(rt; left.last, ReadTurn::Ended);
-    Ok(())
+/// Inputs that come in these pieces, the events that they give, and the name of the input that fails, if one does.
+struct Case {
+    name: &'static str,
+    format: Format,
+    files: &'static [(&'static str, &'static str)],
+    names: &'static [&'static str],
+    pieces: &'static [usize],
+    events: &'static str,
+    failed: Option<&'static str>,
 }
 
-#[test]
-fn no_inputs_at_all(rt: HostRuntime) -> Result<(), Fail> {
-    let alloc = rt.alloc();
-    let opts = options(alloc, Format::Dkvp, b",")?;
-    let left = read(alloc, opts, &[], &[], &[], &[])?;
-    assert_eq!(rt; left.shown.as_slice(), b"end .0.0.0".as_slice());
-    assert_eq!(rt; left.last, ReadTurn::Ended);
-    Ok(())
-}
+const TWO: [(&str, &str); 2] = [("f", "a=1\n"), ("g", "b=2\n")];
+
+/// A file that has a row of another length in its third line.
+const FAULTY: [(&str, &str); 1] = [("f", "a,b\n1,2\n3\n")];
+
+/// Files one after another, and ends of the reading. After a fault, no more files are opened.
+const CASES: [Case; 6] = [
+    Case {
+        name: "two files in single bytes",
+        format: Format::Dkvp,
+        files: &[("f", "a=1,b=x\na=2"), ("g", "c=3\n")],
+        names: &["f", "g"],
+        pieces: &ONES,
+        events: ".1.1.1 a=1 b=x; .2.2.1 a=2; .3.1.2 c=3; end .3.1.2",
+        failed: None,
+    },
+    Case {
+        name: "no inputs at all",
+        format: Format::Dkvp,
+        files: &[],
+        names: &[],
+        pieces: &[],
+        events: "end .0.0.0",
+        failed: None,
+    },
+    Case {
+        name: "a fault in single bytes",
+        format: Format::Csv,
+        files: &FAULTY,
+        names: &["f", "none"],
+        pieces: &ONES,
+        events: ".1.1.1 a=1 b=2; !3!2!1",
+        failed: None,
+    },
+    Case {
+        name: "a fault in one piece",
+        format: Format::Csv,
+        files: &FAULTY,
+        names: &["f", "none"],
+        pieces: &[],
+        events: ".1.1.1 a=1 b=2; !3!2!1",
+        failed: None,
+    },
+    Case {
+        name: "a name without a file",
+        format: Format::Dkvp,
+        files: &TWO,
+        names: &["f", "none", "g"],
+        pieces: &[],
+        events: ".1.1.1 a=1; ",
+        failed: Some("none"),
+    },
+    Case {
+        name: "an empty file between others",
+        format: Format::Dkvp,
+        files: &[("f", "a=1\n"), ("none", ""), ("g", "b=2")],
+        names: &["f", "none", "g", "none"],
+        pieces: &[],
+        events: ".1.1.1 a=1; .2.1.3 b=2; end .2.0.4",
+        failed: None,
+    },
+];
 
 #[test]
-fn a_fault_ends_the_reading(rt: HostRuntime) -> Result<(), Fail> {
+fn inputs_are_read_one_after_another(rt: HostRuntime) -> Result<(), Fail> {
     let alloc = rt.alloc();
-    let files = [("f", "a,b\n1,2\n3\n")];
-    for pieces in [ONES.as_slice(), [].as_slice()] {
-        let opts = options(alloc, Format::Csv, b",")?;
-        // The second file would fail if it were opened.
-        let left = read(alloc, opts, &files, &["f", "none"], pieces, &[])?;
-        assert_eq!(rt; left.shown.as_slice(), b".1.1.1 a=1 b=2; !3!2!1".as_slice());
-        assert_eq!(rt; left.last, ReadTurn::Ended);
-    }
-    Ok(())
-}
-
-#[test]
-fn inputs_that_fail(rt: HostRuntime) -> Result<(), Fail> {
-    let alloc = rt.alloc();
-    let files = [("f", "a=1\n"), ("g", "b=2\n")];
-    // The calls are open, read and the end of f, then open and read of g.
-    for (failing, name, events) in [
-        (1u64, "f", ""),
-        (2, "f", ""),
-        (3, "f", ".1.1.1 a=1; "),
-        (4, "g", ".1.1.1 a=1; "),
-        (5, "g", ".1.1.1 a=1; "),
-        (6, "g", ".1.1.1 a=1; .2.1.2 b=2; "),
-    ] {
-        let opts = options(alloc, Format::Dkvp, b",")?;
-        let left = read(alloc, opts, &files, &["f", "g"], &[], &[failing])?;
-        assert_eq!(rt; left.shown.as_slice(), events.as_bytes(), "call {failing}");
+    for case in CASES.iter() {
+        let opts = options(alloc, case.format, b",")?;
+        let left = read(alloc, opts, case.files, case.names, case.pieces, &[])?;
+        let last = match case.failed {
+            Some(name) => ReadTurn::Failed(file(alloc, name)?),
+            None => ReadTurn::Ended,
+        };
         assert_eq!(rt;
-            left.last,
-            ReadTurn::Failed(file(alloc, name)?),
-            "call {failing}"
+            left.shown.as_slice(),
+            case.events.as_bytes(),
+            "{}",
+            case.name
         );
+        assert_eq!(rt; left.last, last, "{}", case.name);
     }
-
-    // A name that holds nothing.
-    let opts = options(alloc, Format::Dkvp, b",")?;
-    let left = read(alloc, opts, &files, &["f", "none", "g"], &[], &[])?;
-    assert_eq!(rt; left.shown.as_slice(), b".1.1.1 a=1; ".as_slice());
-    assert_eq!(rt; left.last, ReadTurn::Failed(file(alloc, "none")?));
     Ok(())
 }
+
+/// A call that fails, the file whose call it is, and the events before it. The calls are open, read and the end of `f`,
+/// then those of `g`.
+const FAILING: [(u64, &str, &str); 6] = [
+    (1, "f", ""),
+    (2, "f", ""),
+    (3, "f", ".1.1.1 a=1; "),
+    (4, "g", ".1.1.1 a=1; "),
+    (5, "g", ".1.1.1 a=1; "),
+    (6, "g", ".1.1.1 a=1; .2.1.2 b=2; "),
+];
 
 #[test]
-fn an_empty_file_between_others(rt: HostRuntime) -> Result<(), Fail> {
+fn a_call_that_fails_ends_the_reading(rt: HostRuntime) -> Result<(), Fail> {
     let alloc = rt.alloc();
-    let files = [("f", "a=1\n"), ("none", ""), ("g", "b=2")];
-    let opts = options(alloc, Format::Dkvp, b",")?;
-    let left = read(alloc, opts, &files, &["f", "none", "g", "none"], &[], &[])?;
-    assert_eq!(rt;
-        left.shown.as_slice(),
-        b".1.1.1 a=1; .2.1.3 b=2; end .2.0.4".as_slice()
-    );
-    assert_eq!(rt; left.last, ReadTurn::Ended);
+    for row in FAILING.iter() {
+        let (failing, name, events) = *row;
+        let opts = options(alloc, Format::Dkvp, b",")?;
+        let left = read(alloc, opts, &TWO, &["f", "g"], &[], &[failing])?;
+        let last = ReadTurn::Failed(file(alloc, name)?);
+        assert_eq!(rt; left.shown.as_slice(), events.as_bytes(), "call {failing}");
+        assert_eq!(rt; left.last, last, "call {failing}");
+    }
     Ok(())
 }
 
-/// A format, what stands between two fields, a file, and what it gives before the end.
+/// A format, what separates two fields, a file, and what it gives before the end.
 type Row = (Format, &'static str, &'static str, &'static str);
 
 const FORMATS: [Row; 9] = [
@@ -252,9 +289,24 @@ const FORMATS: [Row; 9] = [
     (Format::Jsonl, ",", "{\"a\":1}\n", ".1.1.1 a=1; "),
 ];
 
+/// Each format that needs a separator can't be read without one.
+const SEPARATED: [(Format, &str, bool); 6] = [
+    (Format::Csv, ",", true),
+    (Format::Csv, "", false),
+    (Format::Tsv, "", false),
+    (Format::Dkvp, "", false),
+    (Format::Nidx, "", false),
+    (Format::Jsonl, "", true),
+];
+
 #[test]
-fn each_format(rt: HostRuntime) -> Result<(), Fail> {
+fn each_format_is_read(rt: HostRuntime) -> Result<(), Fail> {
     let alloc = rt.alloc();
+    for (i, row) in SEPARATED.iter().enumerate() {
+        let (format, separator, want) = *row;
+        let opts = options(alloc, format, separator.as_bytes())?;
+        assert_eq!(rt; can_read(&opts), want, "separator {i}");
+    }
     for (i, row) in FORMATS.iter().enumerate() {
         let (format, separator, text, events) = *row;
         let opts = options(alloc, format, separator.as_bytes())?;
@@ -264,16 +316,5 @@ fn each_format(rt: HostRuntime) -> Result<(), Fail> {
         assert_eq!(rt; left.shown.as_slice(), want.as_slice(), "format {i}");
         assert_eq!(rt; left.last, ReadTurn::Ended, "format {i}");
     }
-    Ok(())
-}
-
-#[test]
-fn options_that_read_nothing(rt: HostRuntime) -> Result<(), Fail> {
-    let alloc = rt.alloc();
-    assert!(rt; can_read(&options(alloc, Format::Csv, b",")?));
-    for format in [Format::Csv, Format::Tsv, Format::Dkvp, Format::Nidx] {
-        assert!(rt; !can_read(&options(alloc, format, b"")?));
-    }
-    assert!(rt; can_read(&options(alloc, Format::Jsonl, b"")?));
     Ok(())
 }

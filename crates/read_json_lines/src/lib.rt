@@ -1,12 +1,8 @@
 //! The reader of JSON and JSON Lines.
 #![tactic(auto)]
 
-#[cfg(test)]
-mod fault_tests;
 mod laws;
 mod listing;
-#[cfg(test)]
-mod long_tests;
 mod reader;
 mod records;
 mod stand;

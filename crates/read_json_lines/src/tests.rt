@@ -47,8 +47,8 @@ fn append_event(event: &Event, into: &mut Bytes) -> Result<(), NoMemory> {
     }
 }
 
-/// The events, each with a space behind it.
-pub(crate) fn shown(alloc: Global, events: &Events) -> Result<Bytes, NoMemory> {
+/// The events, each followed by a space.
+fn shown(alloc: Global, events: &Events) -> Result<Bytes, NoMemory> {
     let mut all = Bytes::new(alloc);
     for place in 0..events.len() {
         if let Some(event) = events.at(place) {
@@ -75,7 +75,7 @@ fn options(alloc: Global, format: Format, infer: InferOpts) -> ReadOpts
 }
 
 /// A reader before its first byte.
-pub(crate) fn reader(alloc: Global, infer: InferOpts) -> Result<JsonReader, NoMemory>
+fn reader(alloc: Global, infer: InferOpts) -> Result<JsonReader, NoMemory>
     ensures open { IfOk result (λ reader. IsOpen reader) }
     ensures room { IfOk result (λ reader. used reader ≤ 2 ^ 62) }
 {
@@ -89,7 +89,7 @@ pub(crate) fn reader(alloc: Global, infer: InferOpts) -> Result<JsonReader, NoMe
 }
 
 /// Takes a text in pieces of this size.
-pub(crate) fn feed_pieces(
+fn feed_pieces(
     reader: &mut JsonReader,
     text: &[u8],
     size: usize,
@@ -109,88 +109,51 @@ pub(crate) fn feed_pieces(
     Ok(())
 }
 
-/// How a text is read: by which options, as a whole file or as a front of one, and in pieces of which size.
+/// How a text is read: by which rules for numbers, as a whole file or as a prefix of one, and in pieces of which size.
 #[derive(Clone, Copy)]
-pub(crate) struct How {
-    pub(crate) infer: InferOpts,
-    pub(crate) ends: bool,
-    pub(crate) size: usize,
+struct How {
+    infer: InferOpts,
+    ends: bool,
+    size: usize,
 }
 
+const PLAIN: InferOpts = InferOpts {
+    none: false,
+    octal: false,
+};
+
+const OCTAL: InferOpts = InferOpts {
+    none: false,
+    octal: true,
+};
+
 /// A whole file that comes at once.
-pub(crate) const WHOLE: How = How {
-    infer: InferOpts {
-        none: false,
-        octal: false,
-    },
+const WHOLE: How = How {
+    infer: PLAIN,
     ends: true,
     size: 65_536,
 };
 
-/// The events of a text whose front comes at once, and the rest of it in pieces.
-pub(crate) fn events_of(
-    alloc: Global,
-    how: How,
-    front: &[u8],
-    rest: &[u8],
-) -> Result<Bytes, NoMemory> {
-    let mut out = Events::new(alloc);
-    let mut reader = reader(alloc, how.infer)?;
-    if how.size > 0 && front.len() < 1 << 40 && rest.len() < 1 << 40 {
-        reader.feed(front, &mut out)?;
-        feed_pieces(&mut reader, rest, how.size, &mut out)?;
-        if how.ends {
-            reader.end(&mut out)?;
-        }
-    }
-    shown(alloc, &out)
-}
+/// A prefix of a file, while more may come.
+const PREFIX: How = How {
+    ends: false,
+    ..WHOLE
+};
 
-/// Checks the events of a text wherever its front ends.
-fn check_cuts(
-    rt: &impl Abort,
-    alloc: Global,
-    how: How,
-    text: &[u8],
-    want: &[u8],
-) -> Result<(), NoMemory> {
-    for cut in 0..text.len() + 1 {
-        let shown = events_of(alloc, how, &text[..cut], &text[cut..])?;
-        assert_eq!(rt; shown.as_slice(), want, "cut at {cut}");
-    }
-    Ok(())
-}
+/// A whole file whose numbers are strings.
+const STRINGS_ALONE: How = How {
+    infer: InferOpts {
+        none: true,
+        octal: false,
+    },
+    ..WHOLE
+};
 
-/// Checks the events of each text, cut in two at each byte, and byte by byte.
-pub(crate) fn check_texts(
-    rt: &impl Abort,
-    alloc: Global,
-    how: How,
-    texts: &[(&[u8], &[u8])],
-) -> Result<(), NoMemory> {
-    for row in texts {
-        let (text, want) = *row;
-        check_cuts(rt, alloc, how, text, want)?;
-        check_cuts(rt, alloc, How { size: 1, ..how }, text, want)?;
-    }
-    Ok(())
-}
+/// A text, and its events.
+type Text = (&'static [u8], &'static [u8]);
 
-/// A text this many times behind another.
-pub(crate) fn repeated(
-    alloc: Global,
-    front: &[u8],
-    text: &[u8],
-    times: usize,
-) -> Result<Bytes, NoMemory> {
-    let mut made = Bytes::copy_of(alloc, front)?;
-    for _ in 0..times {
-        made.append(text)?;
-    }
-    Ok(made)
-}
-
-const RECORDS: [(&[u8], &[u8]); 12] = [
+/// Records one after another and in lists, after a byte order mark too.
+const RECORDS: [Text; 12] = [
     (b"", b""),
     (b" \t\r\n", b""),
     (b"{}", b"1: "),
@@ -205,12 +168,8 @@ const RECORDS: [(&[u8], &[u8]); 12] = [
     (b"{\"\":{\"a\":[]}}", b"1:={\"a\": []}; "),
 ];
 
-#[test]
-fn records(rt: HostRuntime) -> Result<(), NoMemory> {
-    check_texts(&rt, rt.alloc(), WHOLE, &RECORDS)
-}
-
-const VALUES: [(&[u8], &[u8]); 6] = [
+/// Values of each kind, and names that repeat.
+const VALUES: [Text; 6] = [
     (
         b"{\"a\":true,\"b\":false,\"c\":null,\"d\":\"\"}",
         b"1:a=true;b=false;c=\"\";d=\"\"; ",
@@ -228,13 +187,8 @@ const VALUES: [(&[u8], &[u8]); 6] = [
     ),
 ];
 
-#[test]
-fn values(rt: HostRuntime) -> Result<(), NoMemory> {
-    check_texts(&rt, rt.alloc(), WHOLE, &VALUES)
-}
-
 /// Escapes, a pair of surrogates, a lone one, control bytes, and bytes that aren't UTF-8.
-const STRINGS: [(&[u8], &[u8]); 5] = [
+const STRINGS: [Text; 5] = [
     (b"{\"\\u0061\\n\":\"\\/\"}", b"1:a\n=\"/\"; "),
     (
         b"{\"s\":\"\\u00e9\\ud83d\\ude00\"}",
@@ -245,75 +199,289 @@ const STRINGS: [(&[u8], &[u8]); 5] = [
     (b"{\"\xff\":\"\xc3(\x80\"}", b"1:\xff=\"\xc3(\x80\"; "),
 ];
 
-#[test]
-fn strings(rt: HostRuntime) -> Result<(), NoMemory> {
-    check_texts(&rt, rt.alloc(), WHOLE, &STRINGS)
-}
-
 const NUMBERS: &[u8] = b"{\"a\":010,\"b\":1.5,\"c\":true}";
 
-fn check_numbers(
+/// A syntax fault is there once its byte was read.
+const SYNTAX: [Text; 11] = [
+    (b"{\"a\":1}}", b"1:a=1; S8 "),
+    (b"[{},]", b"1: S5 "),
+    (b"[,", b"S2 "),
+    (b"{,}", b"S2 "),
+    (b"{\"a\":1,}", b"S8 "),
+    (b"{\"a\" \"b\"}", b"S6 "),
+    (b"{\"a\":\"\\q\"}", b"S8 "),
+    (b"{\"a\":\"\\u12G", b"S11 "),
+    (b"{}\xef\xbb\xbf", b"1: S3 "),
+    (b"\xef{", b"S2 "),
+    (b"\xef\xbb{", b"S3 "),
+];
+
+/// A file that ends within a value, a list, a word or a byte order mark.
+const ENDS: [Text; 10] = [
+    (b"{", b"S2 "),
+    (b"[{}", b"1: S4 "),
+    (b"{\"a\"", b"S5 "),
+    (b"{\"a\":\"x", b"S8 "),
+    (b"{\"a\":\"\\u00", b"S11 "),
+    (b"{\"a\":1", b"S7 "),
+    (b"{\"a\":tru", b"S6 "),
+    (b"tru", b"S1 "),
+    (b"\xef", b"S2 "),
+    (b"\xef\xbb", b"S3 "),
+];
+
+/// A value that is no record has a kind fault where no syntax fault comes first.
+const KIND: [Text; 9] = [
+    (b"1", b"K1 "),
+    (b"true", b"K1 "),
+    (b"\"x\"", b"K1 "),
+    (b" [1]", b"K3 "),
+    (b"[[", b"K2 "),
+    (b"{}[{}, \"x\"]", b"1: 2: K8 "),
+    (b"[{}[", b"1: S4 "),
+    (b"[{} \"x\"]", b"1: S5 "),
+    (b"[x]", b"S2 "),
+];
+
+/// A word where none may be has its fault with its first byte.
+const REFUSED: [Text; 7] = [
+    (b"{1", b"S2 "),
+    (b"{x", b"S2 "),
+    (b"{\"a\" 1", b"S6 "),
+    (b"{\"a\":1 2", b"S8 "),
+    (b"{\"a\":[1 2", b"S9 "),
+    (b"{\"a\":1,tru", b"S8 "),
+    (b"[{} 5", b"1: S5 "),
+];
+
+/// A word where one may be has its fault once the byte after it was read.
+const WORDS: [Text; 8] = [
+    (b"5", b""),
+    (b"5 ", b"K1 "),
+    (b"x", b""),
+    (b"x ", b"S1 "),
+    (b"[{},5", b"1: "),
+    (b"[{},5]", b"1: K5 "),
+    (b"{\"a\":x", b""),
+    (b"{\"a\":x}", b"S6 "),
+];
+
+/// A record is there with its closing brace, and a string that may not be there has its fault with its first quote.
+const PREFIXES: [Text; 8] = [
+    (b"{\"a\":1", b""),
+    (b"{\"a\":1}", b"1:a=1; "),
+    (b"[{\"a\":1}", b"1:a=1; "),
+    (b"{\"a\":1}{\"b\":2", b"1:a=1; "),
+    (b"[{} \"", b"1: S5 "),
+    (b"\"", b"K1 "),
+    (b"\xef", b""),
+    (b"\xef\xbb", b""),
+];
+
+/// How each table of texts is read.
+const GROUPS: [(&str, How, &[Text]); 11] = [
+    ("records", WHOLE, &RECORDS),
+    ("values", WHOLE, &VALUES),
+    ("strings", WHOLE, &STRINGS),
+    (
+        "strings alone",
+        STRINGS_ALONE,
+        &[(NUMBERS, b"1:a=\"010\";b=\"1.5\";c=true; ")],
+    ),
+    ("syntax", WHOLE, &SYNTAX),
+    ("syntax of prefixes", PREFIX, &SYNTAX),
+    ("ends", WHOLE, &ENDS),
+    ("kinds", WHOLE, &KIND),
+    ("refused words", PREFIX, &REFUSED),
+    ("words", PREFIX, &WORDS),
+    ("prefixes", PREFIX, &PREFIXES),
+];
+
+/// The events of a text whose prefix comes at once, and the rest of it in pieces.
+fn events_of(alloc: Global, how: How, prefix: &[u8], rest: &[u8]) -> Result<Bytes, NoMemory> {
+    let mut out = Events::new(alloc);
+    let mut reader = reader(alloc, how.infer)?;
+    if how.size > 0 && prefix.len() < 1 << 40 && rest.len() < 1 << 40 {
+        reader.feed(prefix, &mut out)?;
+        feed_pieces(&mut reader, rest, how.size, &mut out)?;
+        if how.ends {
+            reader.end(&mut out)?;
+        }
+    }
+    shown(alloc, &out)
+}
+
+/// Checks the events of each text, cut in two at each byte.
+fn check_cuts(
     rt: &impl Abort,
     alloc: Global,
-    infer: InferOpts,
-    want: &[u8],
+    name: &str,
+    how: How,
+    texts: &[Text],
 ) -> Result<(), NoMemory> {
-    check_cuts(rt, alloc, How { infer, ..WHOLE }, NUMBERS, want)
+    for (i, row) in texts.iter().enumerate() {
+        let (text, want) = *row;
+        for cut in 0..text.len() + 1 {
+            let shown = events_of(alloc, how, &text[..cut], &text[cut..])?;
+            assert_eq!(rt; shown.as_slice(), want, "{name} at {i}, cut at {cut}");
+        }
+    }
+    Ok(())
 }
 
 #[test]
-fn numbers_as_strings(rt: HostRuntime) -> Result<(), NoMemory> {
-    let infer = InferOpts {
-        none: true,
-        octal: false,
-    };
-    check_numbers(&rt, rt.alloc(), infer, b"1:a=\"010\";b=\"1.5\";c=true; ")
-}
-
-/// The first value of a text of one record, as an int.
-fn first_int(alloc: Global, infer: InferOpts, text: &[u8]) -> Result<Option<i64>, NoMemory> {
-    let mut out = Events::new(alloc);
-    let mut reader = reader(alloc, infer)?;
-    if text.len() < 1 << 40 {
-        reader.feed(text, &mut out)?;
+fn texts_give_these_events_cut_in_two_and_byte_by_byte(rt: HostRuntime) -> Result<(), NoMemory> {
+    for row in GROUPS.iter() {
+        let (name, how, texts) = *row;
+        check_cuts(&rt, rt.alloc(), name, how, texts)?;
+        check_cuts(&rt, rt.alloc(), name, How { size: 1, ..how }, texts)?;
     }
-    Ok(match out.at(0) {
-        Some(Event::Rec(record, _)) => int_of(record),
-        _ => None,
-    })
+    Ok(())
 }
 
-fn int_of(record: &Record) -> Option<i64> {
+/// Texts, each repeated so many times, one after another.
+type Parts = &'static [(&'static [u8], usize)];
+
+/// Prefixes with as many levels as are taken, and with one more; a list round a record isn't counted.
+const LEVELS: [(Parts, &[u8]); 6] = [
+    (&[(b"{\"a\":", 100)], b""),
+    (&[(b"{\"a\":", 101)], b"D501 "),
+    (&[(b"[", 1), (b"{\"a\":", 100)], b""),
+    (&[(b"[", 1), (b"{\"a\":", 101)], b"D502 "),
+    (&[(b"{\"a\":", 1), (b"[", 99)], b""),
+    (&[(b"{\"a\":", 1), (b"[", 100)], b"D105 "),
+];
+
+/// A text that comes in pieces of each of these sizes, how many events it gives, the number of the last record, and
+/// its first value: an int, or the length of a string.
+struct Long {
+    infer: InferOpts,
+    parts: Parts,
+    sizes: &'static [usize],
+    want: (usize, u64, i64),
+}
+
+/// Octal numbers, many records, a deep one, and a string of 10 MB, of which each byte is taken once.
+const LONG: [Long; 6] = [
+    Long {
+        infer: OCTAL,
+        parts: &[(NUMBERS, 1)],
+        sizes: &[65_536],
+        want: (1, 1, 8),
+    },
+    Long {
+        infer: PLAIN,
+        parts: &[(NUMBERS, 1)],
+        sizes: &[65_536],
+        want: (1, 1, 10),
+    },
+    Long {
+        infer: PLAIN,
+        parts: &[(b"{\"a\":1}", 100)],
+        sizes: &[
+            1, 2, 3, 4, 5, 6, 7, 8, 9, 10, 11, 12, 13, 14, 15, 16, 17, 18, 19,
+        ],
+        want: (100, 100, 1),
+    },
+    Long {
+        infer: PLAIN,
+        parts: &[(b"[", 1), (b"{\"a\":\"b\"},", 9_999), (b"{}]", 1)],
+        sizes: &[1, 65_536],
+        want: (10_000, 10_000, 1),
+    },
+    Long {
+        infer: PLAIN,
+        parts: &[(b"{\"a\":", 100), (b"1", 1), (b"}", 100)],
+        sizes: &[7],
+        want: (1, 1, 0),
+    },
+    Long {
+        infer: PLAIN,
+        parts: &[(b"{\"a\":\"", 1), (b"0123456789", 1_000_000), (b"\"}", 1)],
+        sizes: &[65_536],
+        want: (1, 1, 10_000_000),
+    },
+];
+
+fn joined(alloc: Global, parts: &[(&[u8], usize)]) -> Result<Bytes, NoMemory> {
+    let mut made = Bytes::new(alloc);
+    for part in parts {
+        let (text, times) = *part;
+        for _ in 0..times {
+            made.append(text)?;
+        }
+    }
+    Ok(made)
+}
+
+/// The first value of a record: an int, or the length of a string.
+fn first_of(record: &Record) -> i64 {
     match record.at(0) {
-        Some((_, Value::Int(int))) => Some(int.n),
-        _ => None,
+        Some((_, Value::Int(int))) => int.n,
+        Some((_, Value::Str(text))) => text.len() as i64,
+        _ => 0,
     }
 }
 
-#[test]
-fn octal_numbers(rt: HostRuntime) -> Result<(), NoMemory> {
-    let octal = InferOpts {
-        none: false,
-        octal: true,
+/// Checks a long text that comes in pieces of this size.
+fn check_long(
+    rt: &impl Abort,
+    alloc: Global,
+    row: &Long,
+    text: &[u8],
+    size: usize,
+) -> Result<(), NoMemory> {
+    let mut out = Events::new(alloc);
+    let mut reader = reader(alloc, row.infer)?;
+    if size > 0 && text.len() < 1 << 40 {
+        feed_pieces(&mut reader, text, size, &mut out)?;
+        reader.end(&mut out)?;
+    }
+    let first = match out.at(0) {
+        Some(Event::Rec(record, _)) => first_of(record),
+        _ => 0,
     };
-    assert!(rt; first_int(rt.alloc(), octal, NUMBERS)? == Some(8));
-    assert!(rt; first_int(rt.alloc(), InferOpts::plain(), NUMBERS)? == Some(10));
+    let got = (out.len(), reader.ctx().nr, first);
+    assert_eq!(rt; got, row.want, "{size}");
     Ok(())
 }
 
 #[test]
-fn formats(rt: HostRuntime) -> Result<(), NoMemory> {
-    let infer = InferOpts::plain();
-    assert!(rt; can_read(&options(rt.alloc(), Format::Json, infer)));
-    assert!(rt; can_read(&options(rt.alloc(), Format::Jsonl, infer)));
-    assert!(rt; !can_read(&options(rt.alloc(), Format::Csv, infer)));
+fn deep_and_long_texts_are_read(rt: HostRuntime) -> Result<(), NoMemory> {
+    let alloc = rt.alloc();
+    for (i, row) in LEVELS.iter().enumerate() {
+        let (parts, want) = *row;
+        let text = joined(alloc, parts)?;
+        let shown = events_of(alloc, PREFIX, text.as_slice(), b"")?;
+        assert_eq!(rt; shown.as_slice(), want, "levels at {i}");
+    }
+    for row in LONG.iter() {
+        let text = joined(alloc, row.parts)?;
+        for size in row.sizes {
+            check_long(&rt, alloc, row, text.as_slice(), *size)?;
+        }
+    }
     Ok(())
 }
 
-/// Behind the records of other files.
+/// The formats that can be read, and another.
+const FORMATS: [(Format, bool); 3] = [
+    (Format::Json, true),
+    (Format::Jsonl, true),
+    (Format::Csv, false),
+];
+
 #[test]
-fn records_count_on(rt: HostRuntime) -> Result<(), NoMemory> {
-    let opts = options(rt.alloc(), Format::Json, InferOpts::plain());
+fn json_alone_is_read_and_records_count_on(rt: HostRuntime) -> Result<(), NoMemory> {
+    for (i, row) in FORMATS.iter().enumerate() {
+        let (format, want) = *row;
+        assert_eq!(rt;
+            can_read(&options(rt.alloc(), format, PLAIN)),
+            want,
+            "at {i}"
+        );
+    }
+    let opts = options(rt.alloc(), Format::Json, PLAIN);
     let start = Ctx {
         nr: 7,
         fnr: 0,
@@ -323,7 +491,7 @@ fn records_count_on(rt: HostRuntime) -> Result<(), NoMemory> {
     let mut reader = JsonReader::new(rt.alloc(), &opts, FileRef::Main(2), start)?;
     reader.feed(b"{}{}", &mut out)?;
     let last = reader.ctx();
-    assert!(rt; (last.nr, last.fnr, last.filenum) == (9, 2, 2));
+    assert_eq!(rt; (last.nr, last.fnr, last.filenum), (9, 2, 2));
     assert!(rt; !reader.is_broken());
     Ok(())
 }

@@ -8,6 +8,37 @@ use mlr_value::{Bytes, append_text};
 use std::alloc::Global;
 use std::process::Abort;
 
+/// An option that differs from those of plain XTAB.
+enum Opt {
+    Format(Format),
+    Repeats,
+    Skip(&'static [u8]),
+    Pass(&'static [u8]),
+}
+
+/// The options of plain XTAB, changed by these.
+fn options(alloc: Global, changes: &[Opt]) -> Result<ReadOpts, NoMemory> {
+    let mut opts = ReadOpts {
+        format: Format::Xtab,
+        ifs: Bytes::new(alloc),
+        ips: Bytes::new(alloc),
+        implicit: false,
+        ragged: false,
+        dedupe: true,
+        comments: Comments::Keep,
+        infer: InferOpts::plain(),
+    };
+    for change in changes {
+        match change {
+            Opt::Format(format) => opts.format = *format,
+            Opt::Repeats => opts.dedupe = false,
+            Opt::Skip(prefix) => opts.comments = Comments::Skip(Bytes::copy_of(alloc, prefix)?),
+            Opt::Pass(prefix) => opts.comments = Comments::Pass(Bytes::copy_of(alloc, prefix)?),
+        }
+    }
+    Ok(opts)
+}
+
 /// A record as its number and its fields: `2:a=1;b=x;`.
 fn append_record(record: &Record, at: Ctx, into: &mut Bytes) -> Result<(), NoMemory> {
     into.append(&[b'0' + (at.nr % 10) as u8, b':'])?;
@@ -36,7 +67,7 @@ fn append_event(event: &Event, into: &mut Bytes) -> Result<(), NoMemory> {
     }
 }
 
-/// The events, each with a space behind it.
+/// The events, each followed by a space.
 fn shown(alloc: Global, events: &Events) -> Result<Bytes, NoMemory> {
     let mut all = Bytes::new(alloc);
     for place in 0..events.len() {
@@ -48,70 +79,37 @@ fn shown(alloc: Global, events: &Events) -> Result<Bytes, NoMemory> {
     Ok(all)
 }
 
-/// The events of a file that comes in two pieces.
-fn read(alloc: Global, opts: &ReadOpts, front: &[u8], rest: &[u8]) -> Result<Bytes, NoMemory> {
-    let mut out = Events::new(alloc);
-    let start = Ctx {
-        nr: 0,
-        fnr: 0,
-        filenum: 1,
-    };
-    let small = front.len() < 1000 && rest.len() < 1000;
-    if small && can_read(opts) {
-        let mut reader = BlockReader::new(alloc, opts, FileRef::Main(1), start)?;
-        reader.feed(front, &mut out)?;
-        reader.feed(rest, &mut out)?;
-        reader.end(&mut out)?;
-    }
-    shown(alloc, &out)
-}
-
-/// The events of a front of a file, while more may come.
-fn fed(alloc: Global, opts: &ReadOpts, front: &[u8]) -> Result<Bytes, NoMemory> {
-    let mut out = Events::new(alloc);
-    let start = Ctx {
-        nr: 0,
-        fnr: 0,
-        filenum: 1,
-    };
-    if front.len() < 1000 && can_read(opts) {
-        let mut reader = BlockReader::new(alloc, opts, FileRef::Main(1), start)?;
-        reader.feed(front, &mut out)?;
-    }
-    shown(alloc, &out)
-}
-
-fn options(alloc: Global, format: Format, comments: Comments) -> ReadOpts {
-    ReadOpts {
-        format,
-        ifs: Bytes::new(alloc),
-        ips: Bytes::new(alloc),
-        implicit: false,
-        ragged: false,
-        dedupe: true,
-        comments,
-        infer: InferOpts::plain(),
-    }
-}
-
-/// Checks the events of each file, wherever it is cut.
-fn check_files(
-    rt: &impl Abort,
+/// The events of a file that comes in two pieces, or of a prefix of a file where it does not end.
+fn read(
     alloc: Global,
     opts: &ReadOpts,
-    files: &[(&[u8], &[u8])],
-) -> Result<(), NoMemory> {
-    for (i, row) in files.iter().enumerate() {
-        let (file, want) = *row;
-        for cut in 0..file.len() + 1 {
-            let shown = read(alloc, opts, &file[..cut], &file[cut..])?;
-            assert_eq!(rt; shown.as_slice(), want, "at {i}, cut at {cut}");
+    prefix: &[u8],
+    rest: &[u8],
+    ends: bool,
+) -> Result<Bytes, NoMemory> {
+    let mut out = Events::new(alloc);
+    let start = Ctx {
+        nr: 0,
+        fnr: 0,
+        filenum: 1,
+    };
+    let small = prefix.len() < 1000 && rest.len() < 1000;
+    if small && can_read(opts) {
+        let mut reader = BlockReader::new(alloc, opts, FileRef::Main(1), start)?;
+        reader.feed(prefix, &mut out)?;
+        reader.feed(rest, &mut out)?;
+        if ends {
+            reader.end(&mut out)?;
         }
     }
-    Ok(())
+    shown(alloc, &out)
 }
 
-const TABLES: [(&[u8], &[u8]); 14] = [
+/// A file, and its events.
+type File = (&'static [u8], &'static [u8]);
+
+/// Tables with and without bars, line ends, and faults in them.
+const TABLES: [File; 14] = [
     (b"", b""),
     (b"a   b\n1   xyz\n22  3\n", b"1:a=1;b=xyz; 2:a=22;b=3; "),
     (b" a b \r\n  1  2\r\n", b"1:a=1;b=2; "),
@@ -131,13 +129,8 @@ const TABLES: [(&[u8], &[u8]); 14] = [
     (b"a a\n1 2\n", b"1:a=1;a_2=2; "),
 ];
 
-#[test]
-fn pprint_files(rt: HostRuntime) -> Result<(), NoMemory> {
-    let opts = options(rt.alloc(), Format::Pprint, Comments::Keep);
-    check_files(&rt, rt.alloc(), &opts, &TABLES)
-}
-
-const RECORDS: [(&[u8], &[u8]); 13] = [
+/// Records that end with empty lines, line ends, gaps, and names that repeat.
+const RECORDS: [File; 13] = [
     (b"", b""),
     (b"\n\n", b""),
     (b"a 1\nbcd x\n", b"1:a=1;bcd=x; "),
@@ -153,51 +146,56 @@ const RECORDS: [(&[u8], &[u8]); 13] = [
     (b"\xef\xbb\xbfa 1\n\n#b 2\n", b"1:a=1; 2:#b=2; "),
 ];
 
-#[test]
-fn xtab_files(rt: HostRuntime) -> Result<(), NoMemory> {
-    let opts = options(rt.alloc(), Format::Xtab, Comments::Keep);
-    check_files(&rt, rt.alloc(), &opts, &RECORDS)
-}
-
-#[test]
-fn xtab_names_that_repeat_without_dedupe(rt: HostRuntime) -> Result<(), NoMemory> {
-    let mut opts = options(rt.alloc(), Format::Xtab, Comments::Keep);
-    opts.dedupe = false;
-    check_files(
-        &rt,
-        rt.alloc(),
-        &opts,
-        &[(b"a 1\nb 2\na 3\n", b"1:a=3;b=2; ")],
-    )
-}
-
-#[test]
-fn pprint_names_that_repeat_without_dedupe(rt: HostRuntime) -> Result<(), NoMemory> {
-    let mut opts = options(rt.alloc(), Format::Pprint, Comments::Keep);
-    opts.dedupe = false;
-    check_files(
-        &rt,
-        rt.alloc(),
-        &opts,
-        &[(b"a b a\n1 2 3\n", b"1:a=3;b=2; ")],
-    )
-}
-
-const XTAB_PASSED: [(&[u8], &[u8]); 4] = [
+/// A comment in a record comes before that record.
+const XTAB_PASSED: [File; 4] = [
     (b"a 1\n%%x\nb 2\n", b"%%x\n 1:a=1;b=2; "),
     (b"a 1\n\n%%x\r\n%%y\n\nb 2", b"1:a=1; %%x\n %%y\n 2:b=2; "),
     (b"a 1\n%%", b"%%\n 1:a=1; "),
     (b" %%a 1\n", b"1:%%a=1; "),
 ];
 
-#[test]
-fn xtab_comments_passed(rt: HostRuntime) -> Result<(), NoMemory> {
-    let comments = Comments::Pass(Bytes::copy_of(rt.alloc(), b"%%")?);
-    let opts = options(rt.alloc(), Format::Xtab, comments);
-    check_files(&rt, rt.alloc(), &opts, &XTAB_PASSED)
-}
+/// A comment in a table comes in its place.
+const PPRINT_PASSED: [File; 2] = [
+    (b"#x\na\n#y\n1\n#", b"#x\n #y\n 1:a=1; #\n "),
+    (b"a b\n1\n#\n", b"!2!1 "),
+];
 
-const XTAB_FRONTS: [(&[u8], &[u8]); 6] = [
+/// The options under which each table of files is read; a table without files says that no file can be read.
+const GROUPS: [(&str, &[Opt], &[File]); 10] = [
+    ("pprint", &[Opt::Format(Format::Pprint)], &TABLES),
+    ("xtab", &[], &RECORDS),
+    (
+        "repeats",
+        &[Opt::Repeats],
+        &[(b"a 1\nb 2\na 3\n", b"1:a=3;b=2; ")],
+    ),
+    (
+        "cells repeat",
+        &[Opt::Format(Format::Pprint), Opt::Repeats],
+        &[(b"a b a\n1 2 3\n", b"1:a=3;b=2; ")],
+    ),
+    ("pass", &[Opt::Pass(b"%%")], &XTAB_PASSED),
+    (
+        "skip",
+        &[Opt::Skip(b"#")],
+        &[(b"#a\na 1\n#\nb 2\n#", b"1:a=1;b=2; ")],
+    ),
+    (
+        "pprint, pass",
+        &[Opt::Format(Format::Pprint), Opt::Pass(b"#")],
+        &PPRINT_PASSED,
+    ),
+    (
+        "pprint, skip",
+        &[Opt::Format(Format::Pprint), Opt::Skip(b"+")],
+        &[(b"+\na\n+\n1\n", b"1:a=1; ")],
+    ),
+    ("markdown", &[Opt::Format(Format::Markdown)], &[]),
+    ("csv", &[Opt::Format(Format::Csv)], &[]),
+];
+
+/// Prefixes of files with comments, and their events while more may come.
+const PREFIXES: [File; 6] = [
     (b"%%x\na 1\n", b""),
     (b"a 1\n%%x\n\r", b""),
     (b"a 1\n%%x\n\r\n", b"%%x\n 1:a=1; "),
@@ -206,104 +204,82 @@ const XTAB_FRONTS: [(&[u8], &[u8]); 6] = [
     (b"\xef\xbb\xbf%%x\n\nb 2", b"%%x\n "),
 ];
 
-#[test]
-fn xtab_fronts(rt: HostRuntime) -> Result<(), NoMemory> {
-    let comments = Comments::Pass(Bytes::copy_of(rt.alloc(), b"%%")?);
-    let opts = options(rt.alloc(), Format::Xtab, comments);
-    for (i, row) in XTAB_FRONTS.iter().enumerate() {
-        let (front, want) = *row;
-        let shown = fed(rt.alloc(), &opts, front)?;
-        assert_eq!(rt; shown.as_slice(), want, "at {i}");
+/// Checks the events of each file, wherever it is cut.
+fn check_files(
+    rt: &impl Abort,
+    alloc: Global,
+    name: &str,
+    opts: &ReadOpts,
+    files: &[File],
+) -> Result<(), NoMemory> {
+    for (i, row) in files.iter().enumerate() {
+        let (file, want) = *row;
+        for cut in 0..file.len() + 1 {
+            let shown = read(alloc, opts, &file[..cut], &file[cut..], true)?;
+            assert_eq!(rt; shown.as_slice(), want, "{name} at {i}, cut at {cut}");
+        }
     }
     Ok(())
 }
 
 #[test]
-fn xtab_comments_skipped(rt: HostRuntime) -> Result<(), NoMemory> {
-    let comments = Comments::Skip(Bytes::copy_of(rt.alloc(), b"#")?);
-    let opts = options(rt.alloc(), Format::Xtab, comments);
-    check_files(
-        &rt,
-        rt.alloc(),
-        &opts,
-        &[(b"#a\na 1\n#\nb 2\n#", b"1:a=1;b=2; ")],
-    )
+fn files_give_these_events_wherever_they_are_cut(rt: HostRuntime) -> Result<(), NoMemory> {
+    for row in GROUPS.iter() {
+        let (name, changes, files) = *row;
+        let opts = options(rt.alloc(), changes)?;
+        assert_eq!(rt; can_read(&opts), !files.is_empty(), "{name}");
+        check_files(&rt, rt.alloc(), name, &opts, files)?;
+    }
+    let opts = options(rt.alloc(), &[Opt::Pass(b"%%")])?;
+    for (i, row) in PREFIXES.iter().enumerate() {
+        let (prefix, want) = *row;
+        let shown = read(rt.alloc(), &opts, prefix, b"", false)?;
+        assert_eq!(rt; shown.as_slice(), want, "prefix {i}");
+    }
+    Ok(())
 }
 
-const PPRINT_PASSED: [(&[u8], &[u8]); 2] = [
-    (b"#x\na\n#y\n1\n#", b"#x\n #y\n 1:a=1; #\n "),
-    (b"a b\n1\n#\n", b"!2!1 "),
-];
+/// Pieces of the third file after seven records, then its end, and the numbers of the last record after each.
+const STEPS: [(Option<&[u8]>, u64, u64); 2] = [(Some(b"a 1\n\nb 2\n"), 8, 1), (None, 9, 2)];
 
 #[test]
-fn pprint_comments_passed(rt: HostRuntime) -> Result<(), NoMemory> {
-    let comments = Comments::Pass(Bytes::copy_of(rt.alloc(), b"#")?);
-    let opts = options(rt.alloc(), Format::Pprint, comments);
-    check_files(&rt, rt.alloc(), &opts, &PPRINT_PASSED)
-}
-
-#[test]
-fn pprint_comments_skipped(rt: HostRuntime) -> Result<(), NoMemory> {
-    let comments = Comments::Skip(Bytes::copy_of(rt.alloc(), b"+")?);
-    let opts = options(rt.alloc(), Format::Pprint, comments);
-    check_files(&rt, rt.alloc(), &opts, &[(b"+\na\n+\n1\n", b"1:a=1; ")])
-}
-
-#[test]
-fn numbers_go_on(rt: HostRuntime) -> Result<(), NoMemory> {
-    let alloc = rt.alloc();
-    let opts = options(alloc, Format::Xtab, Comments::Keep);
-    let mut out = Events::new(alloc);
+fn numbers_of_records_go_on_from_file_to_file(rt: HostRuntime) -> Result<(), NoMemory> {
+    let opts = options(rt.alloc(), &[])?;
+    let mut out = Events::new(rt.alloc());
     let start = Ctx {
         nr: 7,
         fnr: 0,
         filenum: 3,
     };
     if can_read(&opts) {
-        let mut reader = BlockReader::new(alloc, &opts, FileRef::Main(3), start)?;
+        let mut reader = BlockReader::new(rt.alloc(), &opts, FileRef::Main(3), start)?;
         assert_eq!(rt; reader.ctx(), start);
-        reader.feed(b"a 1\n\nb 2\n", &mut out)?;
-        assert_eq!(rt; (reader.ctx().nr, reader.ctx().fnr), (8, 1));
-        reader.end(&mut out)?;
-        assert_eq!(rt; (reader.ctx().nr, reader.ctx().fnr), (9, 2));
+        for (i, row) in STEPS.iter().enumerate() {
+            let (piece, nr, fnr) = *row;
+            match piece {
+                Some(piece) => reader.feed(piece, &mut out)?,
+                None => reader.end(&mut out)?,
+            }
+            let at = reader.ctx();
+            assert_eq!(rt; (at.nr, at.fnr, at.filenum), (nr, fnr, 3), "at {i}");
+        }
         assert!(rt; !reader.is_broken());
     }
     assert_eq!(rt;
-        shown(alloc, &out)?.as_slice(),
+        shown(rt.alloc(), &out)?.as_slice(),
         b"8:a=1; 9:b=2; ".as_slice()
     );
     Ok(())
 }
 
-#[test]
-fn formats_that_can_be_read(rt: HostRuntime) {
-    let table = [
-        (Format::Xtab, true),
-        (Format::Pprint, true),
-        (Format::Markdown, false),
-        (Format::Csv, false),
-    ];
-    for (i, row) in table.iter().enumerate() {
-        let (format, want) = *row;
-        let opts = options(rt.alloc(), format, Comments::Keep);
-        assert_eq!(rt; can_read(&opts), want, "at {i}");
-    }
-}
-
-/// Checks that a file gives the same events wherever it is cut.
-fn check_cuts(
-    rt: &impl Abort,
-    alloc: Global,
-    opts: &ReadOpts,
-    file: &[u8],
-) -> Result<(), NoMemory> {
-    let want = read(alloc, opts, file, b"")?;
-    for cut in 0..file.len() {
-        let shown = read(alloc, opts, &file[..cut], &file[cut..])?;
-        assert_eq!(rt; shown.as_slice(), want.as_slice(), "cut at {cut}");
-    }
-    Ok(())
-}
+/// Files in which each byte in turn takes each place.
+const ANY_BYTE: [(&[Opt], &[u8]); 2] = [
+    (&[Opt::Pass(b"#")], b"a 1\r\n#\n\nb"),
+    (
+        &[Opt::Format(Format::Pprint), Opt::Pass(b"#")],
+        b"a\n| 1 |\r\n#",
+    ),
+];
 
 /// The file with another byte at this place.
 fn with_byte(alloc: Global, file: &[u8], place: usize, byte: u8) -> Result<Vec<u8>, NoMemory> {
@@ -314,7 +290,7 @@ fn with_byte(alloc: Global, file: &[u8], place: usize, byte: u8) -> Result<Vec<u
     Ok(text)
 }
 
-/// The same with each byte in turn at this place.
+/// Checks that a file with each byte in turn at this place gives the same events wherever it is cut.
 fn check_place(
     rt: &impl Abort,
     alloc: Global,
@@ -323,35 +299,27 @@ fn check_place(
     place: usize,
 ) -> Result<(), NoMemory> {
     for byte in 0..=255 {
-        let text = with_byte(alloc, file, place, byte)?;
-        check_cuts(rt, alloc, opts, text.as_slice())?;
+        let made = with_byte(alloc, file, place, byte)?;
+        let text = made.as_slice();
+        let want = read(alloc, opts, text, b"", true)?;
+        for cut in 0..text.len() {
+            let shown = read(alloc, opts, &text[..cut], &text[cut..], true)?;
+            assert!(rt; shown == want, "byte {byte} at {place}, cut at {cut}");
+        }
     }
     Ok(())
 }
 
-/// The same at each place.
-fn check_bytes(
-    rt: &impl Abort,
-    alloc: Global,
-    opts: &ReadOpts,
-    file: &[u8],
+#[test]
+fn files_with_any_byte_anywhere_give_the_same_events_wherever_they_are_cut(
+    rt: HostRuntime,
 ) -> Result<(), NoMemory> {
-    for place in 0..file.len() {
-        check_place(rt, alloc, opts, file, place)?;
+    for row in ANY_BYTE.iter() {
+        let (changes, file) = *row;
+        let opts = options(rt.alloc(), changes)?;
+        for place in 0..file.len() {
+            check_place(&rt, rt.alloc(), &opts, file, place)?;
+        }
     }
     Ok(())
-}
-
-#[test]
-fn xtab_with_any_byte_anywhere(rt: HostRuntime) -> Result<(), NoMemory> {
-    let comments = Comments::Pass(Bytes::copy_of(rt.alloc(), b"#")?);
-    let opts = options(rt.alloc(), Format::Xtab, comments);
-    check_bytes(&rt, rt.alloc(), &opts, b"a 1\r\n#\n\nb")
-}
-
-#[test]
-fn pprint_with_any_byte_anywhere(rt: HostRuntime) -> Result<(), NoMemory> {
-    let comments = Comments::Pass(Bytes::copy_of(rt.alloc(), b"#")?);
-    let opts = options(rt.alloc(), Format::Pprint, comments);
-    check_bytes(&rt, rt.alloc(), &opts, b"a\n| 1 |\r\n#")
 }
