@@ -1,5 +1,5 @@
 use Rattle.verbs_stream.specs.Trying.{CanStep}
-use Rattle.verbs_stream.proofs.trying.step_lines.Given as goal
+use Rattle.verbs_stream.proofs.tests.step_lines.Given as goal
 
 -- it may be given more
 abbrev pub invariant-loop-nr : goal.invariant-loop-nr

@@ -5,7 +5,7 @@ use Rattle.std.proofs.lemmas.List.Folds.{list_any-append}
 use Rattle.std.proofs.lemmas.Result.{on_ok_weaker}
 use Rattle.mlr_event.specs.declared.event.Event.TheVariants as event
 use Rattle.mlr_event.specs.Verb.{is_last, is_open}
-use Rattle.verbs_stream.proofs.trying.step_record.Goals as goal
+use Rattle.verbs_stream.proofs.tests.step_record.Goals as goal
 
 pub step-requires : goal.step-requires
 step-requires g c = (c.requires.given, c.requires.at, c.requires.open_is)

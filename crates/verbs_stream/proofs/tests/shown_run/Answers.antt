@@ -1,5 +1,5 @@
 use Rattle.std.proofs.Common.{[], refl}
-use Rattle.verbs_stream.proofs.trying.events_of.Goals as goal
+use Rattle.verbs_stream.proofs.tests.shown_run.Goals as goal
 
 pub step_lines-requires : goal.step_lines-requires
 step_lines-requires g c = record { given = []; open_is = refl; at = c.requires }
