@@ -1,7 +1,7 @@
 use Rattle.std.proofs.Common.{List}
 use Rattle.mlr_event.specs.declared.event.Event.{Event}
 use Rattle.verbs_state.specs.Streaming.{records_in}
-use Rattle.verbs_state.proofs.samples.step_lines.Given as goal
+use Rattle.verbs_state.proofs.tests.step_lines.Given as goal
 
 -- the verb was given some events
 abbrev pub invariant-loop-nr : goal.invariant-loop-nr
