@@ -1,6 +1,6 @@
 use Rattle.std.proofs.Common.{[], ◌∷◌, refl}
 use Rattle.serial_core.specs.Command.{Command, Origin, files}
-use Rattle.serial_core.proofs.serial_tests.run_files.Goals as goal
+use Rattle.serial_core.proofs.tests.run_files.Goals as goal
 
 pub run-requires : goal.run-requires
 run-requires g c =

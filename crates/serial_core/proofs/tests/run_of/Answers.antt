@@ -2,7 +2,7 @@ use Rattle.std.proofs.Common.{◌≡◌, [], ◌∷◌, ◌++◌, ap, ◌∙◌}
 use Rattle.chain_core.specs.Chain.{chain}
 use Rattle.chain_core.specs.Standing.{verbs_in}
 use Rattle.serial_core.specs.Command.{Command}
-use Rattle.serial_core.proofs.serial_tests.run_of.Goals as goal
+use Rattle.serial_core.proofs.tests.run_of.Goals as goal
 
 pub returns : goal.returns
 returns g c = λ origin stands.
