@@ -3,22 +3,14 @@
 #![tactic(auto)]
 
 mod copies;
-#[cfg(test)]
-mod copies_tests;
 mod counting;
 mod fill_down;
-#[cfg(test)]
-mod fill_down_tests;
 mod gap;
-#[cfg(test)]
-mod gap_tests;
 mod options;
 mod regularize;
-#[cfg(test)]
-mod regularize_tests;
-#[cfg(test)]
-mod samples;
 mod streaming;
+#[cfg(test)]
+mod tests;
 
 pub use counting::{CatVerb, DecimateVerb, HeadVerb};
 pub use fill_down::FillDownVerb;

@@ -1,0 +1,305 @@
+//! What the verbs make of records that are texts, and copies of their options.
+ghost use Rattle.std.specs.Prelude.{◌≡◌, ◌∷◌, ◌++◌, [], List, OnOk};
+ghost use Rattle.mlr_event.specs.declared.event.Event.{Event as SpecEvent};
+ghost use Rattle.verbs_state.specs.Streaming.{records_in};
+
+use crate::{
+    Cat, Decimate, FillDown, FillDownVerb, Gap, GapVerb, Head, RegularizeVerb, Stream, step,
+};
+use mlr_event::{Ctx, Event, Events, Names};
+use mlr_record::Record;
+use mlr_spec::{InferOpts, NoMemory};
+use mlr_value::{Bytes, from_data};
+use std::alloc::Global;
+use text_forms::append_shown;
+
+/// The record of a line such as `a=1,b=xyz`, whose values are inferred.
+fn record_of(alloc: Global, line: &str) -> Result<Record, NoMemory> {
+    let mut record = Record::new(alloc)?;
+    for field in line.split(',') {
+        if let Some((name, text)) = field.split_once('=') {
+            let value = from_data(alloc, text.as_bytes(), InferOpts::plain())?;
+            record.put(name.as_bytes(), value)?;
+        }
+    }
+    Ok(record)
+}
+
+/// Appends a record to `text` as `a=1,b=xyz` with LF.
+fn append_record(record: &Record, text: &mut Bytes) -> Result<(), NoMemory> {
+    for place in 0..record.len() {
+        let (name, value) = record.entry(place);
+        if place > 0 {
+            text.append(b",")?;
+        }
+        text.append(name)?;
+        text.append(b"=")?;
+        append_shown(value, text)?;
+    }
+    text.append(b"\n")
+}
+
+/// What came out, a line for each event.
+fn shown(alloc: Global, out: &Events) -> Result<Bytes, NoMemory> {
+    let mut text = Bytes::new(alloc);
+    for place in 0..out.len() {
+        match out.at(place) {
+            Some(Event::Rec(record, _)) => append_record(record, &mut text)?,
+            Some(Event::Text(line)) => text.append(line.as_slice())?,
+            _ => text.append(b"other\n")?,
+        }
+    }
+    Ok(text)
+}
+
+/// Gives a verb a record with its number.
+fn step_record<S: Stream>(
+    verb: &mut S,
+    record: Record,
+    nr: u64,
+    out: &mut Events,
+) -> Result<(), NoMemory>
+    requires { (given : List SpecEvent) × S.stands verb.old (records_in given) }
+    ensures { OnOk result ((given : List SpecEvent) × S.stands verb.new (records_in given)) }
+{
+    let at = Ctx {
+        nr,
+        fnr: nr,
+        filenum: 1,
+    };
+    step(verb, Event::Rec(record, at), out)
+}
+
+/// What the verb makes of records, a line for each, and of a text that follows them.
+fn tried<S: Stream + Drop>(alloc: Global, verb: S, lines: &str) -> Result<Bytes, NoMemory>
+    requires { S.stands verb [] }
+{
+    let mut verb = verb;
+    let mut out = Events::new(alloc);
+    step_lines(alloc, &mut verb, lines, &mut out)?;
+    step(
+        &mut verb,
+        Event::Text(Bytes::copy_of(alloc, b"text\n")?),
+        &mut out,
+    )?;
+    shown(alloc, &out)
+}
+
+/// Gives a verb a record for each line.
+fn step_lines<S: Stream>(
+    alloc: Global,
+    verb: &mut S,
+    lines: &str,
+    out: &mut Events,
+) -> Result<(), NoMemory>
+    requires { (given : List SpecEvent) × S.stands verb.old (records_in given) }
+    ensures { OnOk result ((given : List SpecEvent) × S.stands verb.new (records_in given)) }
+{
+    for (nr, line) in lines.split('\n').enumerate() {
+        step_record(verb, record_of(alloc, line)?, nr as u64, out)?;
+    }
+    Ok(())
+}
+
+/// The names of a text such as `a,b`.
+fn names(alloc: Global, text: &str) -> Result<Names, NoMemory> {
+    let mut made = Names::new(alloc);
+    for name in text.split(',') {
+        made.push(Bytes::copy_of(alloc, name.as_bytes())?)?;
+    }
+    Ok(made)
+}
+
+/// A verb with its options as plain words, where names are such as `a,b`.
+#[derive(Clone, Copy)]
+enum Verb {
+    /// The names, and whether empty fields alone are filled.
+    FillDown(&'static str, bool),
+    GapAfter(u64),
+    GapBetween(&'static str),
+    Regularize,
+}
+
+/// What a verb makes of records and a text. A gap after no record is no verb, and makes nothing.
+fn made(alloc: Global, verb: Verb, lines: &str) -> Result<Bytes, NoMemory> {
+    match verb {
+        Verb::FillDown(text, blank) => {
+            let names = names(alloc, text)?;
+            let verb = FillDownVerb::new(alloc, FillDown { names, blank })?;
+            tried(alloc, verb, lines)
+        }
+        Verb::GapAfter(count) if 0 < count => {
+            tried(alloc, GapVerb::new(alloc, Gap::Count(count)), lines)
+        }
+        Verb::GapAfter(_) => Ok(Bytes::new(alloc)),
+        Verb::GapBetween(text) => {
+            let verb = GapVerb::new(alloc, Gap::Groups(names(alloc, text)?));
+            tried(alloc, verb, lines)
+        }
+        Verb::Regularize => tried(alloc, RegularizeVerb::new(alloc), lines),
+    }
+}
+
+/// A verb, records, and what comes of them and of the text.
+const TABLE: [(Verb, &str, &str); 21] = [
+    (
+        Verb::FillDown("b", false),
+        "a=1,b=2\na=3\na=4,b=\na=5",
+        "a=1,b=2\na=3,b=2\na=4,b=\na=5,b=\ntext\n",
+    ),
+    (
+        Verb::FillDown("b", true),
+        "a=1,b=2\na=3\na=4,b=\na=5,b=",
+        "a=1,b=2\na=3\na=4,b=2\na=5,b=2\ntext\n",
+    ),
+    (
+        Verb::FillDown("b", false),
+        "a=1\nb=2\na=3",
+        "a=1\nb=2\na=3,b=2\ntext\n",
+    ),
+    (
+        Verb::FillDown("b", true),
+        "b=,a=1\nb=2\nb=,a=3",
+        "b=,a=1\nb=2\nb=2,a=3\ntext\n",
+    ),
+    (
+        Verb::FillDown("a,b", false),
+        "a=1,b=2\nc=3\nb=4\na=5",
+        "a=1,b=2\nc=3,a=1,b=2\nb=4,a=1\na=5,b=4\ntext\n",
+    ),
+    (
+        Verb::FillDown("b,a", false),
+        "a=1,b=2\nc=3",
+        "a=1,b=2\nc=3,b=2,a=1\ntext\n",
+    ),
+    (
+        Verb::FillDown("a,a", false),
+        "a=1\nb=2\na=3\nb=4",
+        "a=1\nb=2,a=1\na=3\nb=4,a=3\ntext\n",
+    ),
+    (
+        Verb::FillDown("a", true),
+        "a=long enough for the heap\na=\na=\na=another text of that kind\na=",
+        "a=long enough for the heap\na=long enough for the heap\na=long enough for the heap\na=another text of that kind\na=another text of that kind\ntext\n",
+    ),
+    (
+        Verb::GapAfter(1),
+        "a=1\na=2\na=3",
+        "a=1\n\na=2\n\na=3\ntext\n",
+    ),
+    (
+        Verb::GapAfter(2),
+        "a=1\na=2\na=3\na=4\na=5",
+        "a=1\na=2\n\na=3\na=4\n\na=5\ntext\n",
+    ),
+    (
+        Verb::GapBetween("a"),
+        "a=1,b=1\na=1,b=2\na=2,b=2\na=1",
+        "a=1,b=1\na=1,b=2\n\na=2,b=2\n\na=1\ntext\n",
+    ),
+    (
+        Verb::GapBetween("a"),
+        "b=1\na=\nb=2\na=1",
+        "b=1\na=\nb=2\n\na=1\ntext\n",
+    ),
+    (
+        Verb::GapBetween("a,b"),
+        "a=1,b=23\na=12,b=3\nb=3,a=12",
+        "a=1,b=23\n\na=12,b=3\nb=3,a=12\ntext\n",
+    ),
+    (
+        Verb::GapBetween("a,b"),
+        "a=1\nb=1\nb=1,a=",
+        "a=1\n\nb=1\nb=1,a=\ntext\n",
+    ),
+    (
+        Verb::GapBetween("a"),
+        "a=1\na=1.0\na=0x1",
+        "a=1\n\na=1.0\n\na=0x1\ntext\n",
+    ),
+    (
+        Verb::Regularize,
+        "a=1,b=2\na=3,b=4\nb=5,a=6",
+        "a=1,b=2\na=3,b=4\na=6,b=5\ntext\n",
+    ),
+    (
+        Verb::Regularize,
+        "b=1,a=2\na=3,b=4\na=5,b=6",
+        "b=1,a=2\nb=4,a=3\nb=6,a=5\ntext\n",
+    ),
+    (
+        Verb::Regularize,
+        "a=1,b=2\nb=3,c=4\nc=5,b=6\nb=7,a=8",
+        "a=1,b=2\nb=3,c=4\nb=6,c=5\na=8,b=7\ntext\n",
+    ),
+    (
+        Verb::Regularize,
+        "c=1,b=2,a=3\na=4,b=5\nb=6,c=7,a=8\nb=9,a=0",
+        "c=1,b=2,a=3\na=4,b=5\nc=7,b=6,a=8\na=0,b=9\ntext\n",
+    ),
+    (Verb::Regularize, "\na=1\n\na=2", "\na=1\n\na=2\ntext\n"),
+    (
+        Verb::Regularize,
+        "ab=1,c=2\na=3,bc=4\nbc=5,a=6\nc=7,ab=8",
+        "ab=1,c=2\na=3,bc=4\na=6,bc=5\nab=8,c=7\ntext\n",
+    ),
+];
+
+#[test]
+fn records_go_by_those_before(rt: HostRuntime) -> Result<(), NoMemory> {
+    let alloc = rt.alloc();
+    for (i, row) in TABLE.iter().enumerate() {
+        let (verb, lines, want) = *row;
+        let made = made(alloc, verb, lines)?;
+        assert_eq!(rt; made.as_slice(), want.as_bytes(), "at {i}");
+    }
+    Ok(())
+}
+
+/// Two names, of which the second needs memory.
+const SOME: &str = "a,a name of more bytes than lie inline";
+
+const LONG: &[u8] = b"a name of more bytes than lie inline";
+
+fn are_some(names: &Names) -> bool {
+    match names.as_slice() {
+        [first, second] => first.as_slice() == b"a".as_slice() && second.as_slice() == LONG,
+        _ => false,
+    }
+}
+
+#[test]
+fn options_are_copied(rt: HostRuntime) -> Result<(), NoMemory> {
+    let alloc = rt.alloc();
+    let cat = Cat {
+        number: true,
+        name: Bytes::copy_of(alloc, LONG)?,
+        groups: Some(names(alloc, SOME)?),
+    };
+    let copy = cat.copy(alloc)?;
+    assert!(rt; copy.number && copy.name == cat.name);
+    assert!(rt; copy.groups.as_ref().is_some_and(are_some));
+    let decimate = Decimate {
+        count: 7,
+        first: true,
+        groups: None,
+    };
+    let copy = decimate.copy(alloc)?;
+    assert!(rt; copy.count == 7 && copy.first && copy.groups.is_none());
+    let fill = FillDown {
+        names: names(alloc, SOME)?,
+        blank: true,
+    };
+    let copy = fill.copy(alloc)?;
+    assert!(rt; copy.blank && are_some(&copy.names));
+    assert!(rt; matches!(Gap::Count(3).copy(alloc)?, Gap::Count(3)));
+    let gap = Gap::Groups(names(alloc, SOME)?);
+    assert!(rt; matches!(gap.copy(alloc)?, Gap::Groups(names) if are_some(&names)));
+    let head = Head {
+        count: 2,
+        groups: Some(names(alloc, SOME)?),
+    };
+    let copy = head.copy(alloc)?;
+    assert!(rt; copy.count == 2 && copy.groups.as_ref().is_some_and(are_some));
+    Ok(())
+}
