@@ -9,10 +9,10 @@ use Rattle.mlr_event.specs.Verb.{KeepsOrder, Verb, is_list}
 use Rattle.chain_core.specs.Chain.{chain_from, closing, stopped_from}
 use Rattle.chain_core.specs.declared.gate.Gate.{Gate}
 use Rattle.chain_core.specs.declared.stage.Stage.{Stage}
-use Rattle.chain_core.specs.Standing.{GateStands, StagesStand, all_quiet, made_at, verbs_of}
-use Rattle.chain_core.proofs.InOrder.{chain-append, made-at-list, quiet_behind, stand-append, verbs-last}
+use Rattle.chain_core.specs.Represents.{GateRepresents, StagesRepresent, all_quiet, made_at, verbs_of}
+use Rattle.chain_core.proofs.InOrder.{chain-append, made-at-list, quiet_after, represent-append, verbs-last}
 
-pub quiet-all : (quiet : Bool) (verbs : List Verb) → quiet_behind quiet verbs ≡ (quiet && all_quiet verbs)
+pub quiet-all : (quiet : Bool) (verbs : List Verb) → quiet_after quiet verbs ≡ (quiet && all_quiet verbs)
 quiet-all true [] = refl
 quiet-all false [] = refl
 quiet-all true (verb ∷ verbs) = quiet-all (not verb.effects) verbs
@@ -25,7 +25,7 @@ quiet-last verbs verb = list_all-append (λ verb. not verb.effects) verbs (verb 
     and-true true = refl
     and-true false = refl
 
-module _ {S : Type 0} (verb : S → Verb) (stands : S → List Event → Type 0) where
+module _ {S : Type 0} (verb : S → Verb) (represents : S → List Event → Type 0) where
   -- what verbs make of a list is a list
   pub chain-list : ((s : S) → KeepsOrder (verb s)) → (quiet : Bool) (stages : List (Stage S)) (events : List Event) → is_list events ≡ true → is_list (chain_from quiet (verbs_of verb stages) events) ≡ true
   chain-list order quiet [] events list = list
@@ -33,7 +33,7 @@ module _ {S : Type 0} (verb : S → Verb) (stands : S → List Event → Type 0)
       chain-list order (quiet && not (verb stage.gate.verb).effects) stages (made_at quiet (verb stage.gate.verb) events) (made-at-list quiet (verb stage.gate.verb) events (order stage.gate.verb) list)
 
   -- a verb is closed exactly where its place says so
-  pub shut-stopped : (quiet : Bool) (stages : List (Stage S)) (given : List Event) → StagesStand verb stands quiet given stages → list_any (λ stage. stage.gate.shut) stages ≡ stopped_from quiet (verbs_of verb stages) given
+  pub shut-stopped : (quiet : Bool) (stages : List (Stage S)) (given : List Event) → StagesRepresent verb represents quiet given stages → list_any (λ stage. stage.gate.shut) stages ≡ stopped_from quiet (verbs_of verb stages) given
   shut-stopped quiet [] given at = refl
   shut-stopped quiet (stage ∷ stages) given at =
       let v = verb stage.gate.verb in

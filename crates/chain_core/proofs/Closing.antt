@@ -6,7 +6,7 @@ use Rattle.std.proofs.lemmas.List.Folds.{list_any-append}
 use Rattle.mlr_event.specs.declared.event.Ctx.{Ctx}
 use Rattle.mlr_event.specs.declared.event.Event.{Event}
 use Rattle.mlr_event.specs.declared.event.Event.TheVariants as event
-use Rattle.mlr_event.specs.Verb.{Verb, gives, is_fault, is_last, is_open, made, made_behind, then_unless_fault}
+use Rattle.mlr_event.specs.Verb.{Verb, gives, is_fault, is_last, is_open, made, made_after, then_unless_fault}
 use Rattle.mlr_event.proofs.Making.{no-fault}
 use Rattle.chain_core.specs.Chain.{chain_from, closing, cut, last_context, zero_context}
 use Rattle.chain_core.proofs.Growing.{ended}
@@ -51,13 +51,13 @@ gives-last verb before (event.Out target piece) is = absurd (let f : false ≡ t
 gives-last verb before (event.End ctx) is = last-then (verb.late before ctx) (event.End ctx ∷ []) refl
 gives-last verb before (event.Fault fault) is = refl
 
-behind-last : (verb : Verb) (before events : List Event) → HasLast events → HasLast (made_behind verb before events)
-behind-last verb before [] has = absurd (let f : false ≡ true = has in cc)
-behind-last verb before (e ∷ events) has = elim (cases_Bool (is_last e)) as (λ _. HasLast (made_behind verb before (e ∷ events))) [
-  | inl last ↦ last-first (gives verb before e) (made_behind verb (before ++ e ∷ []) events) (gives-last verb before e last)
+following-last : (verb : Verb) (before events : List Event) → HasLast events → HasLast (made_after verb before events)
+following-last verb before [] has = absurd (let f : false ≡ true = has in cc)
+following-last verb before (e ∷ events) has = elim (cases_Bool (is_last e)) as (λ _. HasLast (made_after verb before (e ∷ events))) [
+  | inl last ↦ last-first (gives verb before e) (made_after verb (before ++ e ∷ []) events) (gives-last verb before e last)
   | inr inner ↦
-      last-then (gives verb before e) (made_behind verb (before ++ e ∷ []) events)
-      (behind-last verb (before ++ e ∷ []) events (sym (ap (λ b. b || list_any is_last events) inner) ∙ has))
+      last-then (gives verb before e) (made_after verb (before ++ e ∷ []) events)
+      (following-last verb (before ++ e ∷ []) events (sym (ap (λ b. b || list_any is_last events) inner) ∙ has))
 ]
 
 cut-last : (quiet : Bool) (verb : Verb) (events : List Event) → HasLast events → HasLast (cut quiet verb events)
@@ -66,13 +66,13 @@ cut-last true verb events has = go (closing verb events)
   where
     go : (found : Option (List Event)) → HasLast (ended found events)
     go None = has
-    go (Some front) = list_any-append is_last front (event.End (last_context zero_context front) ∷ []) ∙ or-true (list_any is_last front)
+    go (Some prefix) = list_any-append is_last prefix (event.End (last_context zero_context prefix) ∷ []) ∙ or-true (list_any is_last prefix)
 
 chain-last : (quiet : Bool) (verbs : List Verb) (events : List Event) → HasLast events → HasLast (chain_from quiet verbs events)
 chain-last quiet [] events has = has
 chain-last quiet (verb ∷ verbs) events has =
     chain-last (quiet && not verb.effects) verbs (made verb (cut quiet verb events))
-    (last-then verb.first (made_behind verb [] (cut quiet verb events)) (behind-last verb [] (cut quiet verb events) (cut-last quiet verb events has)))
+    (last-then verb.first (made_after verb [] (cut quiet verb events)) (following-last verb [] (cut quiet verb events) (cut-last quiet verb events has)))
 
 not-false : (b : Bool) → not b ≡ false → b ≡ true
 not-false true is = refl

@@ -11,8 +11,8 @@ use Rattle.mlr_event.specs.declared.event.Ctx.{Ctx}
 use Rattle.mlr_event.specs.declared.event.Event.{Event}
 use Rattle.mlr_event.specs.declared.event.Event.TheVariants as event
 use Rattle.mlr_event.specs.Verb.{Verb, is_last, is_open}
-use Rattle.chain_core.specs.Chain.{closing, context_or, cut, fronts, last_context, zero_context}
-use Rattle.chain_core.specs.Standing.{is_cut}
+use Rattle.chain_core.specs.Chain.{closing, context_or, cut, prefixes, last_context, zero_context}
+use Rattle.chain_core.specs.Represents.{is_cut}
 use Rattle.chain_core.proofs.Growing.{closes, closing-least, cut-closed, ended, least, least-split}
 
 pub context-next : (ctx : Ctx) (events : List Event) (e : Event) → last_context ctx (events ++ e ∷ []) ≡ context_or (last_context ctx events) e
@@ -35,7 +35,7 @@ cut-whole true verb events is = go (closing verb events) is
   where
     go : (o : Option (List Event)) → is_some o ≡ false → ended o events ≡ events
     go None is = refl
-    go (Some front) is = absurd (let e : true ≡ false = is in cc)
+    go (Some prefix) is = absurd (let e : true ≡ false = is in cc)
 
 -- it was closed, and no event changes that
 pub cut-again : (quiet : Bool) (verb : Verb) (events : List Event) (e : Event) → is_cut quiet verb events ≡ true
@@ -54,7 +54,7 @@ closing-next : (verb : Verb) (events : List Event) (e : Event) → is_some (clos
     → closing verb (events ++ e ∷ []) ≡ cond (closes verb (events ++ e ∷ [])) (Some (events ++ e ∷ [])) None
 closing-next verb events e is = elim (least-split (closes verb) [] events (e ∷ [])) [
   | inl early ↦ absurd (let e : true ≡ false = sym (ap is_some (closing-least verb events ∙ early.1)) ∙ is in cc)
-  | inr late ↦ closing-least verb (events ++ e ∷ []) ∙ late.1 ∙ ap (option_map (λ front. events ++ front)) (ap (λ b. cond b (Some []) (option_map (λ front. e ∷ front) (cond (closes verb (events ++ e ∷ [])) (Some []) None))) (not-closed events late.0)) ∙ last (closes verb (events ++ e ∷ []))
+  | inr late ↦ closing-least verb (events ++ e ∷ []) ∙ late.1 ∙ ap (option_map (λ prefix. events ++ prefix)) (ap (λ b. cond b (Some []) (option_map (λ prefix. e ∷ prefix) (cond (closes verb (events ++ e ∷ [])) (Some []) None))) (not-closed events late.0)) ∙ last (closes verb (events ++ e ∷ []))
 ]
   where
     none-full : (test : List Event → Bool) (before xs : List Event) → least test before xs ≡ None → test (before ++ xs) ≡ false
@@ -63,20 +63,20 @@ closing-next verb events e is = elim (least-split (closes verb) [] events (e ∷
       | inr fails ↦ ap test (append-nil before) ∙ fails
     ]
     none-full test before (x ∷ xs) is = elim (cases_Bool (test before)) [
-      | inl passes ↦ absurd (let e : Some [] ≡ None = sym (ap (λ b. cond b (Some []) (option_map (λ front. x ∷ front) (least test (before ++ x ∷ []) xs))) passes) ∙ is in cc)
+      | inl passes ↦ absurd (let e : Some [] ≡ None = sym (ap (λ b. cond b (Some []) (option_map (λ prefix. x ∷ prefix) (least test (before ++ x ∷ []) xs))) passes) ∙ is in cc)
       | inr fails ↦
           ap test (sym (append_assoc before (x ∷ []) xs))
-          ∙ none-full test (before ++ x ∷ []) xs (unmap (least test (before ++ x ∷ []) xs) (sym (ap (λ b. cond b (Some []) (option_map (λ front. x ∷ front) (least test (before ++ x ∷ []) xs))) fails) ∙ is))
+          ∙ none-full test (before ++ x ∷ []) xs (unmap (least test (before ++ x ∷ []) xs) (sym (ap (λ b. cond b (Some []) (option_map (λ prefix. x ∷ prefix) (least test (before ++ x ∷ []) xs))) fails) ∙ is))
     ]
       where
-        unmap : (o : Option (List Event)) → option_map (λ front. x ∷ front) o ≡ None → o ≡ None
+        unmap : (o : Option (List Event)) → option_map (λ prefix. x ∷ prefix) o ≡ None → o ≡ None
         unmap None is = refl
-        unmap (Some front) is = absurd (let e : Some (x ∷ front) ≡ None = is in cc)
+        unmap (Some prefix) is = absurd (let e : Some (x ∷ prefix) ≡ None = is in cc)
 
     not-closed : (events : List Event) → least (closes verb) [] events ≡ None → closes verb events ≡ false
     not-closed events is = none-full (closes verb) [] events is
 
-    last : (b : Bool) → option_map (λ front. events ++ front) (option_map (λ front. e ∷ front) (cond b (Some []) None)) ≡ cond b (Some (events ++ e ∷ [])) None
+    last : (b : Bool) → option_map (λ prefix. events ++ prefix) (option_map (λ prefix. e ∷ prefix) (cond b (Some []) None)) ≡ cond b (Some (events ++ e ∷ [])) None
     last true = refl
     last false = refl
 
@@ -114,12 +114,12 @@ some-injective : (x y : List Event) → Some x ≡ Some y → x ≡ y
 some-injective x y is = cc
 
 -- what closes a verb is open
-pub closing-open : (verb : Verb) (events front : List Event) → closing verb events ≡ Some front → is_open front ≡ true
-closing-open verb events front is = (and_parts (is_open front) (verb.closed front) (found-passes (fronts events) is)).0
+pub closing-open : (verb : Verb) (events prefix : List Event) → closing verb events ≡ Some prefix → is_open prefix ≡ true
+closing-open verb events prefix is = (and_parts (is_open prefix) (verb.closed prefix) (found-passes (prefixes events) is)).0
   where
-    found-passes : (xs : List (List Event)) → find (closes verb) xs ≡ Some front → closes verb front ≡ true
-    found-passes [] is = absurd (let e : None ≡ Some front = is in cc)
+    found-passes : (xs : List (List Event)) → find (closes verb) xs ≡ Some prefix → closes verb prefix ≡ true
+    found-passes [] is = absurd (let e : None ≡ Some prefix = is in cc)
     found-passes (x ∷ xs) is = elim (cases_Bool (closes verb x)) [
-      | inl passes ↦ ap (closes verb) (some-injective front x (sym (sym (ap (λ b. cond b (Some x) (find (closes verb) xs)) passes) ∙ is))) ∙ passes
+      | inl passes ↦ ap (closes verb) (some-injective prefix x (sym (sym (ap (λ b. cond b (Some x) (find (closes verb) xs)) passes) ∙ is))) ∙ passes
       | inr fails ↦ found-passes xs (sym (ap (λ b. cond b (Some x) (find (closes verb) xs)) fails) ∙ is)
     ]

@@ -8,45 +8,45 @@ use Rattle.mlr_event.specs.declared.event.Event.TheVariants as event
 use Rattle.mlr_event.specs.Verb.{Verb, is_last, is_open, made}
 use Rattle.chain_core.specs.Chain.{context_or, cut, last_context, zero_context}
 use Rattle.chain_core.specs.declared.gate.Gate.{Gate}
-use Rattle.chain_core.specs.Standing.{GateStands, is_cut, made_at}
+use Rattle.chain_core.specs.Represents.{GateRepresents, is_cut, made_at}
 use Rattle.chain_core.proofs.Cutting.{adds-both, adds-none, context-next, cut-again, cut-now, cut-open, cut-whole, open-next}
 
-module _ {S : Type 0} (verb : S → Verb) (stands : S → List Event → Type 0) where
+module _ {S : Type 0} (verb : S → Verb) (represents : S → List Event → Type 0) where
   -- closed, it takes nothing
-  pub shut-stands : (gate : Gate S) (given : List Event) (e : Event) → gate.shut ≡ true → GateStands verb stands given gate → GateStands verb stands (given ++ e ∷ []) gate
-  shut-stands gate given e is at =
+  pub shut-represents : (gate : Gate S) (given : List Event) (e : Event) → gate.shut ≡ true → GateRepresents verb represents given gate → GateRepresents verb represents (given ++ e ∷ []) gate
+  shut-represents gate given e is at =
       let again = cut-again gate.quiet (verb gate.verb) given e (sym at.shut ∙ is) in
       record {
         shut = is ∙ sym again.0;
-        inner = subst (stands gate.verb) (sym again.1) at.inner;
+        inner = subst (represents gate.verb) (sym again.1) at.inner;
         at = λ open_is. absurd (let e : true ≡ false = sym is ∙ open_is in cc);
       }
 
-  pub shut-adds : (gate : Gate S) (given : List Event) (e : Event) (out : List Event) → gate.shut ≡ true → GateStands verb stands given gate
+  pub shut-adds : (gate : Gate S) (given : List Event) (e : Event) (out : List Event) → gate.shut ≡ true → GateRepresents verb represents given gate
       → Adds out out (made_at gate.quiet (verb gate.verb) given) (made_at gate.quiet (verb gate.verb) (given ++ e ∷ []))
   shut-adds gate given e out is at =
       adds-none out (made_at gate.quiet (verb gate.verb) given) (made_at gate.quiet (verb gate.verb) (given ++ e ∷ [])) (ap (made (verb gate.verb)) (cut-again gate.quiet (verb gate.verb) given e (sym at.shut ∙ is)).1)
 
   -- not closed, it was given the whole list
-  pub open-inner : (gate : Gate S) (given : List Event) → gate.shut ≡ false → GateStands verb stands given gate → stands gate.verb given
-  open-inner gate given is at = subst (stands gate.verb) (cut-whole gate.quiet (verb gate.verb) given (sym at.shut ∙ is)) at.inner
+  pub open-inner : (gate : Gate S) (given : List Event) → gate.shut ≡ false → GateRepresents verb represents given gate → represents gate.verb given
+  open-inner gate given is at = subst (represents gate.verb) (cut-whole gate.quiet (verb gate.verb) given (sym at.shut ∙ is)) at.inner
 
-  pub context-is : (gate : Gate S) (given : List Event) (e : Event) → gate.shut ≡ false → GateStands verb stands given gate → context_or gate.at e ≡ last_context zero_context (given ++ e ∷ [])
+  pub context-is : (gate : Gate S) (given : List Event) (e : Event) → gate.shut ≡ false → GateRepresents verb represents given gate → context_or gate.at e ≡ last_context zero_context (given ++ e ∷ [])
   context-is gate given e is at = ap (λ ctx. context_or ctx e) (at.at is) ∙ sym (context-next zero_context given e)
 
   -- it takes an event, and stays open
-  pub open-stands : (gate : Gate S) (given : List Event) (e : Event) (after : S) (ctx : Ctx) → gate.shut ≡ false → GateStands verb stands given gate → is_open given ≡ true
-      → verb after ≡ verb gate.verb → stands after (given ++ e ∷ []) → ctx ≡ context_or gate.at e → (gate.quiet && (not (is_last e) && (verb after).closed (given ++ e ∷ []))) ≡ false
-      → GateStands verb stands (given ++ e ∷ []) (record { verb = after; quiet = gate.quiet; at = ctx; shut = gate.shut })
-  open-stands gate given e after ctx is at open_is same inner here still =
+  pub open-represents : (gate : Gate S) (given : List Event) (e : Event) (after : S) (ctx : Ctx) → gate.shut ≡ false → GateRepresents verb represents given gate → is_open given ≡ true
+      → verb after ≡ verb gate.verb → represents after (given ++ e ∷ []) → ctx ≡ context_or gate.at e → (gate.quiet && (not (is_last e) && (verb after).closed (given ++ e ∷ []))) ≡ false
+      → GateRepresents verb represents (given ++ e ∷ []) (record { verb = after; quiet = gate.quiet; at = ctx; shut = gate.shut })
+  open-represents gate given e after ctx is at open_is same inner here still =
       let next = cut-open gate.quiet (verb after) given e (ap (λ v. is_cut gate.quiet v given) same ∙ sym at.shut ∙ is) open_is still in
       record {
         shut = is ∙ sym next.0;
-        inner = subst (stands after) (sym next.1) inner;
+        inner = subst (represents after) (sym next.1) inner;
         at = λ open_still. here ∙ context-is gate given e is at;
       }
 
-  pub open-adds : (gate : Gate S) (given : List Event) (e : Event) (after : S) (old new : List Event) → gate.shut ≡ false → GateStands verb stands given gate → is_open given ≡ true
+  pub open-adds : (gate : Gate S) (given : List Event) (e : Event) (after : S) (old new : List Event) → gate.shut ≡ false → GateRepresents verb represents given gate → is_open given ≡ true
       → verb after ≡ verb gate.verb → (gate.quiet && (not (is_last e) && (verb after).closed (given ++ e ∷ []))) ≡ false → Adds old new (made (verb gate.verb) given) (made (verb gate.verb) (given ++ e ∷ []))
       → Adds old new (made_at gate.quiet (verb gate.verb) given) (made_at gate.quiet (verb gate.verb) (given ++ e ∷ []))
   open-adds gate given e after old new is at open_is same still adds =
@@ -66,20 +66,20 @@ module _ {S : Type 0} (verb : S → Verb) (stands : S → List Event → Type 0)
   pub closed-open : (quiet : Bool) (v : Verb) (given : List Event) (e : Event) → is_open given ≡ true → (quiet && (not (is_last e) && v.closed (given ++ e ∷ []))) ≡ true → is_open (given ++ e ∷ []) ≡ true
   closed-open quiet v given e open_is is = open-next given e open_is ∙ ap not (parts-of quiet (is_last e) (v.closed (given ++ e ∷ [])) is).1
 
-  pub closed-stands : (gate : Gate S) (given : List Event) (e : Event) (after last : S) (ctx : Ctx) → gate.shut ≡ false → GateStands verb stands given gate → is_open given ≡ true
+  pub closed-represents : (gate : Gate S) (given : List Event) (e : Event) (after last : S) (ctx : Ctx) → gate.shut ≡ false → GateRepresents verb represents given gate → is_open given ≡ true
       → verb after ≡ verb gate.verb → verb last ≡ verb after → ctx ≡ context_or gate.at e → (gate.quiet && (not (is_last e) && (verb after).closed (given ++ e ∷ []))) ≡ true
-      → stands last ((given ++ e ∷ []) ++ event.End ctx ∷ [])
-      → GateStands verb stands (given ++ e ∷ []) (record { verb = last; quiet = gate.quiet; at = ctx; shut = true })
-  closed-stands gate given e after last ctx is at open_is same same_2 here closed inner =
+      → represents last ((given ++ e ∷ []) ++ event.End ctx ∷ [])
+      → GateRepresents verb represents (given ++ e ∷ []) (record { verb = last; quiet = gate.quiet; at = ctx; shut = true })
+  closed-represents gate given e after last ctx is at open_is same same_2 here closed inner =
       let all = same_2 ∙ same in
       let next = now-cut gate.quiet (verb last) given e (ap (λ v. is_cut gate.quiet v given) all ∙ sym at.shut ∙ is) open_is (ap (λ v. gate.quiet && (not (is_last e) && v.closed (given ++ e ∷ []))) same_2 ∙ closed) in
       record {
         shut = sym next.0;
-        inner = subst (stands last) (ap (λ c. (given ++ e ∷ []) ++ event.End c ∷ []) (here ∙ context-is gate given e is at) ∙ sym next.1) inner;
+        inner = subst (represents last) (ap (λ c. (given ++ e ∷ []) ++ event.End c ∷ []) (here ∙ context-is gate given e is at) ∙ sym next.1) inner;
         at = λ open_still. absurd (let e : true ≡ false = open_still in cc);
       }
 
-  pub closed-adds : (gate : Gate S) (given : List Event) (e : Event) (after : S) (ctx : Ctx) (old middle new : List Event) → gate.shut ≡ false → GateStands verb stands given gate → is_open given ≡ true
+  pub closed-adds : (gate : Gate S) (given : List Event) (e : Event) (after : S) (ctx : Ctx) (old middle new : List Event) → gate.shut ≡ false → GateRepresents verb represents given gate → is_open given ≡ true
       → verb after ≡ verb gate.verb → ctx ≡ context_or gate.at e → (gate.quiet && (not (is_last e) && (verb after).closed (given ++ e ∷ []))) ≡ true
       → Adds old middle (made (verb gate.verb) given) (made (verb gate.verb) (given ++ e ∷ [])) → Adds middle new (made (verb after) (given ++ e ∷ [])) (made (verb after) ((given ++ e ∷ []) ++ event.End ctx ∷ []))
       → Adds old new (made_at gate.quiet (verb gate.verb) given) (made_at gate.quiet (verb gate.verb) (given ++ e ∷ []))

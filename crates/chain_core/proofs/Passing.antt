@@ -7,10 +7,10 @@ use Rattle.mlr_event.specs.Verb.{Verb, is_list, is_open, made}
 use Rattle.mlr_event.proofs.Ordered.{open-before}
 use Rattle.chain_core.specs.Chain.{cut}
 use Rattle.chain_core.specs.declared.gate.Gate.{Gate}
-use Rattle.chain_core.specs.Standing.{GateStands, IsSameGate, made_at}
+use Rattle.chain_core.specs.Represents.{GateRepresents, IsSameGate, made_at}
 use Rattle.chain_core.proofs.Cutting.{adds-both, adds-none}
 
-module _ {S : Type 0} (verb : S → Verb) (stands : S → List Event → Type 0) where
+module _ {S : Type 0} (verb : S → Verb) (represents : S → List Event → Type 0) where
   abbrev pub MadeBy : Gate S → List Event → List Event
   MadeBy gate events = made_at gate.quiet (verb gate.verb) events
 
@@ -18,15 +18,15 @@ module _ {S : Type 0} (verb : S → Verb) (stands : S → List Event → Type 0)
     pub passed : List Event
     pub all : events ≡ passed ++ reverse left
     pub same : IsSameGate verb now gate
-    pub at : (given : List Event) → GateStands verb stands given gate → is_list (given ++ events) ≡ true → GateStands verb stands (given ++ passed) now
-    pub adds : (given : List Event) → GateStands verb stands given gate → is_list (given ++ events) ≡ true → Adds out out_now (MadeBy gate given) (MadeBy gate (given ++ passed))
+    pub at : (given : List Event) → GateRepresents verb represents given gate → is_list (given ++ events) ≡ true → GateRepresents verb represents (given ++ passed) now
+    pub adds : (given : List Event) → GateRepresents verb represents given gate → is_list (given ++ events) ≡ true → Adds out out_now (MadeBy gate given) (MadeBy gate (given ++ passed))
 
   pub none-passed : (gate : Gate S) (events left out : List Event) → events ≡ reverse left → Passed gate events out gate left out
   none-passed gate events left out all = record {
     passed = [];
     all = all;
     same = (refl, refl);
-    at = λ given at list. subst (λ t. GateStands verb stands t gate) (sym (append-nil given)) at;
+    at = λ given at list. subst (λ t. GateRepresents verb represents t gate) (sym (append-nil given)) at;
     adds = λ given at list. adds-none out (MadeBy gate given) (MadeBy gate (given ++ [])) (ap (MadeBy gate) (append-nil given));
   }
 
@@ -38,15 +38,15 @@ module _ {S : Type 0} (verb : S → Verb) (stands : S → List Event → Type 0)
     still-open given list = open-before (given ++ before.passed) e (reverse left) (ap is_list (append_assoc given before.passed (e ∷ reverse left) ∙ ap (λ t. given ++ t) (sym rest-is)) ∙ list)
 
     pub one-passed : (then_ : Gate S) (out_then : List Event) → IsSameGate verb then_ now
-        → ((given : List Event) → GateStands verb stands given now → is_open given ≡ true → GateStands verb stands (given ++ e ∷ []) then_)
-        → ((given : List Event) → GateStands verb stands given now → is_open given ≡ true → Adds out_now out_then (MadeBy now given) (MadeBy now (given ++ e ∷ [])))
+        → ((given : List Event) → GateRepresents verb represents given now → is_open given ≡ true → GateRepresents verb represents (given ++ e ∷ []) then_)
+        → ((given : List Event) → GateRepresents verb represents given now → is_open given ≡ true → Adds out_now out_then (MadeBy now given) (MadeBy now (given ++ e ∷ [])))
         → Passed gate events out then_ left out_then
     one-passed then_ out_then same at adds = record {
       passed = before.passed ++ e ∷ [];
       all = rest-is ∙ sym (append_assoc before.passed (e ∷ []) (reverse left));
       same = (same.0 ∙ before.same.0, same.1 ∙ before.same.1);
       at = λ given stood list.
-          subst (λ t. GateStands verb stands t then_) (append_assoc given before.passed (e ∷ [])) (at (given ++ before.passed) (before.at given stood list) (still-open given list));
+          subst (λ t. GateRepresents verb represents t then_) (append_assoc given before.passed (e ∷ [])) (at (given ++ before.passed) (before.at given stood list) (still-open given list));
       adds = λ given stood list.
           let step = adds (given ++ before.passed) (before.at given stood list) (still-open given list) in
           let of_gate : Adds out_now out_then (MadeBy gate (given ++ before.passed)) (MadeBy gate ((given ++ before.passed) ++ e ∷ [])) =
@@ -57,8 +57,8 @@ module _ {S : Type 0} (verb : S → Verb) (stands : S → List Event → Type 0)
     }
 
   -- nothing is left
-  pub all-at : (gate : Gate S) (events out : List Event) (now : Gate S) (out_now : List Event) → Passed gate events out now [] out_now → (given : List Event) → GateStands verb stands given gate → is_list (given ++ events) ≡ true → GateStands verb stands (given ++ events) now
-  all-at gate events out now out_now done given stood list = subst (λ t. GateStands verb stands (given ++ t) now) (sym (done.all ∙ append-nil done.passed)) (done.at given stood list)
+  pub all-at : (gate : Gate S) (events out : List Event) (now : Gate S) (out_now : List Event) → Passed gate events out now [] out_now → (given : List Event) → GateRepresents verb represents given gate → is_list (given ++ events) ≡ true → GateRepresents verb represents (given ++ events) now
+  all-at gate events out now out_now done given stood list = subst (λ t. GateRepresents verb represents (given ++ t) now) (sym (done.all ∙ append-nil done.passed)) (done.at given stood list)
 
-  pub all-adds : (gate : Gate S) (events out : List Event) (now : Gate S) (out_now : List Event) → Passed gate events out now [] out_now → (given : List Event) → GateStands verb stands given gate → is_list (given ++ events) ≡ true → Adds out out_now (MadeBy gate given) (MadeBy gate (given ++ events))
+  pub all-adds : (gate : Gate S) (events out : List Event) (now : Gate S) (out_now : List Event) → Passed gate events out now [] out_now → (given : List Event) → GateRepresents verb represents given gate → is_list (given ++ events) ≡ true → Adds out out_now (MadeBy gate given) (MadeBy gate (given ++ events))
   all-adds gate events out now out_now done given stood list = subst (λ t. Adds out out_now (MadeBy gate given) (MadeBy gate (given ++ t))) (sym (done.all ∙ append-nil done.passed)) (done.adds given stood list)

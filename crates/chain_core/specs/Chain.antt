@@ -7,9 +7,9 @@ use Rattle.mlr_event.specs.declared.event.Event.TheVariants as event
 use Rattle.mlr_event.specs.Verb.{Verb, is_open, made}
 
 -- all fronts of a list, the empty one first and the whole list last
-abbrev pub fronts : {A : Type 0} → List A → List (List A)
-fronts [] = [] ∷ []
-fronts (x ∷ xs) = [] ∷ map (λ front. x ∷ front) (fronts xs)
+abbrev pub prefixes : {A : Type 0} → List A → List (List A)
+prefixes [] = [] ∷ []
+prefixes (x ∷ xs) = [] ∷ map (λ prefix. x ∷ prefix) (prefixes xs)
 
 abbrev pub zero_context : Ctx
 zero_context = record { nr = 0; fnr = 0; filenum = 0 }
@@ -29,13 +29,13 @@ last_context ctx (e ∷ events) = last_context (context_or ctx e) events
 
 -- the least front of a list that closes a verb, if one does before the list ends
 abbrev pub closing : Verb → List Event → Option (List Event)
-closing verb events = find (λ front. is_open front && verb.closed front) (fronts events)
+closing verb events = find (λ prefix. is_open prefix && verb.closed prefix) (prefixes events)
 
 -- what a verb is given: at a quiet place, no more than closes it, and then the end
 abbrev pub cut : Bool → Verb → List Event → List Event
 cut false verb events = events
 cut true verb events = elim (closing verb events) [
-  | Some front ↦ front ++ event.End (last_context zero_context front) ∷ []
+  | Some prefix ↦ prefix ++ event.End (last_context zero_context prefix) ∷ []
   | None ↦ events
 ]
 

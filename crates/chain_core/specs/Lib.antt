@@ -1,2 +1,2 @@
 pub mod Chain
-pub mod Standing
+pub mod Represents

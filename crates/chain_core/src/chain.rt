@@ -4,7 +4,7 @@ ghost use Rattle.mlr_event.specs.Adding.{Adds};
 ghost use Rattle.mlr_event.specs.declared.event.Event.{Event as SpecEvent};
 ghost use Rattle.mlr_event.specs.Verb.{is_list, is_open};
 ghost use Rattle.chain_core.specs.Chain.{chain, stopped};
-ghost use Rattle.chain_core.specs.Standing.{StandsFor, verbs_in};
+ghost use Rattle.chain_core.specs.Represents.{Represents, verbs_in};
 
 use crate::stage::{Stage, begun, pass};
 use mlr_event::{Event, Events, Step};
@@ -24,7 +24,12 @@ pub struct Chain<S> {
 // Written out, so that the crates above call it and don't go into the fields.
 impl<S: Drop> Drop for Chain<S> {
     fn drop(self) {
-        let Chain { alloc: _, stages, quiet: _, room } = self;
+        let Chain {
+            alloc: _,
+            stages,
+            quiet: _,
+            room,
+        } = self;
         drop(stages);
         drop(room);
     }
@@ -34,7 +39,7 @@ impl<S: Step + Drop> Chain<S> {
     /// No verbs: each event comes out as it is. It takes no memory.
     pub fn new(alloc: Global) -> Self
         ensures verbs { verbs_in S.verb result ≡ [] }
-        ensures stands { StandsFor S.verb S.stands [] result }
+        ensures represents { Represents S.verb S.represents [] result }
     {
         Chain {
             alloc,
@@ -47,12 +52,13 @@ impl<S: Step + Drop> Chain<S> {
     /// Puts a verb last that has begun, before the first event. In `made` stands what the verbs before it have made so
     /// far, and it becomes what all of them make: what the verb gave when it began is `first`.
     pub fn push(&mut self, verb: S, first: Events, made: &mut Events) -> Result<(), NoMemory>
-        requires chain { StandsFor S.verb S.stands [] self.old }
-        requires verb { S.stands verb [] }
+        requires chain { Represents S.verb S.represents [] self.old }
+        requires verb { S.represents verb [] }
         requires first { first ≡ (S.verb verb).first }
         requires made { made.old ≡ chain (verbs_in S.verb self.old) [] }
-        ensures verbs { OnOk result (verbs_in S.verb self.new ≡ verbs_in S.verb self.old ++ S.verb verb ∷ []) }
-        ensures stands { OnOk result (StandsFor S.verb S.stands [] self.new) }
+        ensures verbs { OnOk result (verbs_in S.verb self.new
+            ≡ verbs_in S.verb self.old ++ S.verb verb ∷ []) }
+        ensures represents { OnOk result (Represents S.verb S.represents [] self.new) }
         ensures made { OnOk result (made.new ≡ chain (verbs_in S.verb self.new) []) }
     {
         let effects = verb.has_effects();
@@ -64,10 +70,16 @@ impl<S: Step + Drop> Chain<S> {
 
     /// Takes an event, and puts behind `out` what the verbs make of it. No end and no fault may have come before.
     pub fn step(&mut self, event: Event, out: &mut Events) -> Result<(), NoMemory>
-        requires { (given : List SpecEvent) × StandsFor S.verb S.stands given self.old × (is_open given ≡ true) }
+        requires { (given : List SpecEvent) × Represents S.verb S.represents given self.old
+            × (is_open given ≡ true) }
         ensures verbs { OnOk result (verbs_in S.verb self.new ≡ verbs_in S.verb self.old) }
-        ensures stands { OnOk result ((given : List SpecEvent) → StandsFor S.verb S.stands given self.old → is_open given ≡ true → StandsFor S.verb S.stands (given ++ event ∷ []) self.new) }
-        ensures adds { OnOk result ((given : List SpecEvent) → StandsFor S.verb S.stands given self.old → is_open given ≡ true → Adds out.old out.new (chain (verbs_in S.verb self.old) given) (chain (verbs_in S.verb self.old) (given ++ event ∷ []))) }
+        ensures represents { OnOk result ((given : List SpecEvent)
+            → Represents S.verb S.represents given self.old → is_open given ≡ true
+            → Represents S.verb S.represents (given ++ event ∷ []) self.new) }
+        ensures adds { OnOk result ((given : List SpecEvent)
+            → Represents S.verb S.represents given self.old → is_open given ≡ true
+            → Adds out.old out.new (chain (verbs_in S.verb self.old) given)
+            (chain (verbs_in S.verb self.old) (given ++ event ∷ []))) }
     {
         self.room.push(event)?;
         pass(&mut self.stages, &mut self.room)?;
@@ -77,10 +89,16 @@ impl<S: Step + Drop> Chain<S> {
 
     /// Takes all events of a list, and leaves in it what the verbs make of them.
     pub fn take_all(&mut self, events: &mut Events) -> Result<(), NoMemory>
-        requires { (given : List SpecEvent) × StandsFor S.verb S.stands given self.old × (is_list (given ++ events.old) ≡ true) }
+        requires { (given : List SpecEvent) × Represents S.verb S.represents given self.old
+            × (is_list (given ++ events.old) ≡ true) }
         ensures verbs { OnOk result (verbs_in S.verb self.new ≡ verbs_in S.verb self.old) }
-        ensures stands { OnOk result ((given : List SpecEvent) → StandsFor S.verb S.stands given self.old → is_list (given ++ events.old) ≡ true → StandsFor S.verb S.stands (given ++ events.old) self.new) }
-        ensures made { OnOk result ((given : List SpecEvent) → StandsFor S.verb S.stands given self.old → is_list (given ++ events.old) ≡ true → chain (verbs_in S.verb self.old) (given ++ events.old) ≡ chain (verbs_in S.verb self.old) given ++ events.new) }
+        ensures represents { OnOk result ((given : List SpecEvent)
+            → Represents S.verb S.represents given self.old → is_list (given ++ events.old) ≡ true
+            → Represents S.verb S.represents (given ++ events.old) self.new) }
+        ensures made { OnOk result ((given : List SpecEvent)
+            → Represents S.verb S.represents given self.old → is_list (given ++ events.old) ≡ true
+            → chain (verbs_in S.verb self.old) (given ++ events.old)
+            ≡ chain (verbs_in S.verb self.old) given ++ events.new) }
     {
         pass(&mut self.stages, events)?;
         Ok(())
@@ -89,7 +107,8 @@ impl<S: Step + Drop> Chain<S> {
     /// Whether a verb is closed to which none before it with effects hands on. Then more events give nothing. It takes no
     /// memory.
     pub fn stopped(&self) -> bool
-        ensures { (given : List SpecEvent) → StandsFor S.verb S.stands given self.now → result ≡ stopped (verbs_in S.verb self.now) given }
+        ensures { (given : List SpecEvent) → Represents S.verb S.represents given self.now
+            → result ≡ stopped (verbs_in S.verb self.now) given }
     {
         any_shut(&self.stages)
     }

@@ -3,7 +3,7 @@ ghost use Rattle.mlr_event.specs.Adding.{Adds};
 ghost use Rattle.mlr_event.specs.declared.event.Event.{Event as SpecEvent};
 ghost use Rattle.mlr_event.specs.Verb.{is_last, is_list, is_open};
 ghost use Rattle.chain_core.specs.Chain.{context_or};
-ghost use Rattle.chain_core.specs.Standing.{GateStands, IsSameGate, made_at};
+ghost use Rattle.chain_core.specs.Represents.{GateRepresents, IsSameGate, made_at};
 
 use mlr_event::{Ctx, Event, Events, Step};
 use mlr_spec::NoMemory;
@@ -24,10 +24,11 @@ impl<S: Step + Drop> Gate<S> {
     /// A verb that has begun, at its place. What it gave when it began is `made`, and what the end gives comes behind
     /// that where the verb is closed from the first.
     pub fn begun(verb: S, quiet: bool, made: &mut Events) -> Result<Self, NoMemory>
-        requires verb { S.stands verb [] }
+        requires verb { S.represents verb [] }
         requires first { made.old ≡ (S.verb verb).first }
-        ensures same { IfOk result (λ gate. (S.verb gate.verb ≡ S.verb verb) × (gate.quiet ≡ quiet)) }
-        ensures stands { IfOk result (λ gate. GateStands S.verb S.stands [] gate) }
+        ensures same { IfOk result (λ gate. (S.verb gate.verb ≡ S.verb verb)
+            × (gate.quiet ≡ quiet)) }
+        ensures represents { IfOk result (λ gate. GateRepresents S.verb S.represents [] gate) }
         ensures made { OnOk result (made.new ≡ made_at quiet (S.verb verb) []) }
     {
         let at = Ctx {
@@ -57,10 +58,16 @@ impl<S: Step + Drop> Gate<S> {
 
     /// Takes an event, and puts what the verb makes of it behind `out`.
     pub fn take(&mut self, event: Event, out: &mut Events) -> Result<(), NoMemory>
-        requires { (given : List SpecEvent) × GateStands S.verb S.stands given self.old × (is_open given ≡ true) }
+        requires { (given : List SpecEvent) × GateRepresents S.verb S.represents given self.old
+            × (is_open given ≡ true) }
         ensures same { OnOk result (IsSameGate S.verb self.new self.old) }
-        ensures stands { OnOk result ((given : List SpecEvent) → GateStands S.verb S.stands given self.old → is_open given ≡ true → GateStands S.verb S.stands (given ++ event ∷ []) self.new) }
-        ensures adds { OnOk result ((given : List SpecEvent) → GateStands S.verb S.stands given self.old → is_open given ≡ true → Adds out.old out.new (made_at self.old.quiet (S.verb self.old.verb) given) (made_at self.old.quiet (S.verb self.old.verb) (given ++ event ∷ []))) }
+        ensures represents { OnOk result ((given : List SpecEvent)
+            → GateRepresents S.verb S.represents given self.old → is_open given ≡ true
+            → GateRepresents S.verb S.represents (given ++ event ∷ []) self.new) }
+        ensures adds { OnOk result ((given : List SpecEvent)
+            → GateRepresents S.verb S.represents given self.old → is_open given ≡ true
+            → Adds out.old out.new (made_at self.old.quiet (S.verb self.old.verb) given)
+            (made_at self.old.quiet (S.verb self.old.verb) (given ++ event ∷ []))) }
     {
         if self.shut {
             return Ok(());
@@ -77,11 +84,19 @@ impl<S: Step + Drop> Gate<S> {
 
     /// Takes all events of a list in turn, and leaves none in it.
     pub fn take_all(&mut self, events: &mut Events, out: &mut Events) -> Result<(), NoMemory>
-        requires { (given : List SpecEvent) × GateStands S.verb S.stands given self.old × (is_list (given ++ events.old) ≡ true) }
+        requires { (given : List SpecEvent) × GateRepresents S.verb S.represents given self.old
+            × (is_list (given ++ events.old) ≡ true) }
         ensures left { OnOk result (events.new ≡ []) }
         ensures same { OnOk result (IsSameGate S.verb self.new self.old) }
-        ensures stands { OnOk result ((given : List SpecEvent) → GateStands S.verb S.stands given self.old → is_list (given ++ events.old) ≡ true → GateStands S.verb S.stands (given ++ events.old) self.new) }
-        ensures adds { OnOk result ((given : List SpecEvent) → GateStands S.verb S.stands given self.old → is_list (given ++ events.old) ≡ true → Adds out.old out.new (made_at self.old.quiet (S.verb self.old.verb) given) (made_at self.old.quiet (S.verb self.old.verb) (given ++ events.old))) }
+        ensures represents { OnOk result ((given : List SpecEvent)
+            → GateRepresents S.verb S.represents given self.old
+            → is_list (given ++ events.old) ≡ true
+            → GateRepresents S.verb S.represents (given ++ events.old) self.new) }
+        ensures adds { OnOk result ((given : List SpecEvent)
+            → GateRepresents S.verb S.represents given self.old
+            → is_list (given ++ events.old) ≡ true
+            → Adds out.old out.new (made_at self.old.quiet (S.verb self.old.verb) given)
+            (made_at self.old.quiet (S.verb self.old.verb) (given ++ events.old))) }
     {
         events.reverse();
         while let Some(event) = events.pop() {
@@ -92,7 +107,8 @@ impl<S: Step + Drop> Gate<S> {
 
     /// Whether the verb was closed just now, at a quiet place and before the list ends.
     fn is_closed(&self, ends: bool) -> bool
-        ensures { (given : List SpecEvent) → S.stands self.now.verb given → result ≡ (self.now.quiet && (not ends && (S.verb self.now.verb).closed given)) }
+        ensures { (given : List SpecEvent) → S.represents self.now.verb given
+            → result ≡ (self.now.quiet && (not ends && (S.verb self.now.verb).closed given)) }
     {
         self.quiet && !ends && self.verb.closed()
     }

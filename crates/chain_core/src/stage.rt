@@ -3,7 +3,7 @@ ghost use Rattle.mlr_event.specs.Adding.{Adds};
 ghost use Rattle.mlr_event.specs.declared.event.Event.{Event as SpecEvent};
 ghost use Rattle.mlr_event.specs.Verb.{is_list};
 ghost use Rattle.chain_core.specs.Chain.{chain_from};
-ghost use Rattle.chain_core.specs.Standing.{GateStands, IsSameGate, StagesStand, made_at, verbs_of};
+ghost use Rattle.chain_core.specs.Represents.{GateRepresents, IsSameGate, StagesRepresent, made_at, verbs_of};
 
 use crate::gate::Gate;
 use mlr_event::{Events, Step};
@@ -22,12 +22,21 @@ impl<S: Step + Drop> Stage<S> {
     /// Takes all events of a list, and leaves in it what the verb makes of them. The rooms of the two change places, so
     /// that none is needed for events that come later.
     fn take(&mut self, events: &mut Events) -> Result<(), NoMemory>
-        requires stands { (given : List SpecEvent) × GateStands S.verb S.stands given self.old.gate × (is_list (given ++ events.old) ≡ true) }
+        requires represents { (given : List SpecEvent)
+            × GateRepresents S.verb S.represents given self.old.gate
+            × (is_list (given ++ events.old) ≡ true) }
         requires empty { self.old.made ≡ [] }
         ensures same { OnOk result (IsSameGate S.verb self.new.gate self.old.gate) }
         ensures empty { OnOk result (self.new.made ≡ []) }
-        ensures stands { OnOk result ((given : List SpecEvent) → GateStands S.verb S.stands given self.old.gate → is_list (given ++ events.old) ≡ true → GateStands S.verb S.stands (given ++ events.old) self.new.gate) }
-        ensures made { OnOk result ((given : List SpecEvent) → GateStands S.verb S.stands given self.old.gate → is_list (given ++ events.old) ≡ true → made_at self.old.gate.quiet (S.verb self.old.gate.verb) (given ++ events.old) ≡ made_at self.old.gate.quiet (S.verb self.old.gate.verb) given ++ events.new) }
+        ensures represents { OnOk result ((given : List SpecEvent)
+            → GateRepresents S.verb S.represents given self.old.gate
+            → is_list (given ++ events.old) ≡ true
+            → GateRepresents S.verb S.represents (given ++ events.old) self.new.gate) }
+        ensures made { OnOk result ((given : List SpecEvent)
+            → GateRepresents S.verb S.represents given self.old.gate
+            → is_list (given ++ events.old) ≡ true
+            → made_at self.old.gate.quiet (S.verb self.old.gate.verb) (given ++ events.old)
+            ≡ made_at self.old.gate.quiet (S.verb self.old.gate.verb) given ++ events.new) }
     {
         self.gate.take_all(events, &mut self.made)?;
         swap(events, &mut self.made);
@@ -51,12 +60,14 @@ pub fn begun<S: Step + Drop>(
     first: Events,
     made: &mut Events,
 ) -> Result<Stage<S>, NoMemory>
-    requires verb { S.stands verb [] }
+    requires verb { S.represents verb [] }
     requires first { first ≡ (S.verb verb).first }
     requires list { is_list made.old ≡ true }
-    ensures same { IfOk result (λ stage. (S.verb stage.gate.verb ≡ S.verb verb) × (stage.gate.quiet ≡ quiet)) }
+    ensures same { IfOk result (λ stage. (S.verb stage.gate.verb ≡ S.verb verb)
+        × (stage.gate.quiet ≡ quiet)) }
     ensures empty { IfOk result (λ stage. stage.made ≡ []) }
-    ensures stands { IfOk result (λ stage. GateStands S.verb S.stands made.old stage.gate) }
+    ensures represents { IfOk result (λ stage. GateRepresents S.verb S.represents made.old
+        stage.gate) }
     ensures made { OnOk result (made.new ≡ made_at quiet (S.verb verb) made.old) }
 {
     let mut all = first;
@@ -71,10 +82,19 @@ pub fn begun<S: Step + Drop>(
 
 /// Takes all events of a list through verbs, one behind the other, and leaves in it what comes out behind the last.
 pub fn pass<S: Step + Drop>(stages: &mut [Stage<S>], events: &mut Events) -> Result<(), NoMemory>
-    requires { (quiet : Bool) × (given : List SpecEvent) × StagesStand S.verb S.stands quiet given stages.old × (is_list (given ++ events.old) ≡ true) }
+    requires { (quiet : Bool) × (given : List SpecEvent)
+        × StagesRepresent S.verb S.represents quiet given stages.old
+        × (is_list (given ++ events.old) ≡ true) }
     ensures same { OnOk result (verbs_of S.verb stages.new ≡ verbs_of S.verb stages.old) }
-    ensures stands { OnOk result ((quiet : Bool) (given : List SpecEvent) → StagesStand S.verb S.stands quiet given stages.old → is_list (given ++ events.old) ≡ true → StagesStand S.verb S.stands quiet (given ++ events.old) stages.new) }
-    ensures made { OnOk result ((quiet : Bool) (given : List SpecEvent) → StagesStand S.verb S.stands quiet given stages.old → is_list (given ++ events.old) ≡ true → chain_from quiet (verbs_of S.verb stages.old) (given ++ events.old) ≡ chain_from quiet (verbs_of S.verb stages.old) given ++ events.new) }
+    ensures represents { OnOk result ((quiet : Bool) (given : List SpecEvent)
+        → StagesRepresent S.verb S.represents quiet given stages.old
+        → is_list (given ++ events.old) ≡ true
+        → StagesRepresent S.verb S.represents quiet (given ++ events.old) stages.new) }
+    ensures made { OnOk result ((quiet : Bool) (given : List SpecEvent)
+        → StagesRepresent S.verb S.represents quiet given stages.old
+        → is_list (given ++ events.old) ≡ true
+        → chain_from quiet (verbs_of S.verb stages.old) (given ++ events.old)
+        ≡ chain_from quiet (verbs_of S.verb stages.old) given ++ events.new) }
 {
     for place in 0..stages.len() {
         stages[place].take(events)?;

@@ -3,7 +3,7 @@ use Rattle.std.proofs.Common.{◌≡◌, ℕ, true, List, [], ◌++◌, Option, 
 use Rattle.std.specs.Prelude.{IfSome}
 use Rattle.std.specs.Option.{option_map}
 use Rattle.std.proofs.lemmas.Bool.{false≢true}
-use Rattle.read_files.specs.Given.{AreFrontsTaken}
+use Rattle.read_files.specs.Takes.{ArePrefixesTaken}
 use Rattle.mlr_event.specs.declared.names.InputName.{InputName}
 use Rattle.mlr_event.specs.declared.names.Target.TheVariants.{Stdout, Stderr}
 use Rattle.mlr_world.specs.Inputs.{Contents}
@@ -17,17 +17,17 @@ use Rattle.serial_core.specs.declared.answer.Refusal.{Refusal}
 use Rattle.serial_core.specs.declared.answer.Why.TheVariants as why
 use Rattle.serial_core.specs.Answer.{is_refused}
 use Rattle.serial_core.specs.Command as serial
-use Rattle.serial_core.proofs.Running.{behind-none}
+use Rattle.serial_core.proofs.Running.{following-none}
 use Rattle.serial_core.specs.Run.{HoldsAll}
 use Rattle.serial_core.specs.Run.{Completes as Complete, Run as SerialRun}
-use Rattle.serial_core.specs.Standing as standing
+use Rattle.serial_core.specs.Represents as standing
 use Rattle.cli_words.specs.declared.flags.Formats.{Formats}
 use Rattle.cli_words.specs.declared.verbs.Asked.{Asked}
 use Rattle.cli_words.specs.Grammar.{IsLine, IsRefusedAt}
 use Rattle.cli_words.proofs.Readings.{one-place, one-reading}
 use Rattle.cli_run.specs.Answer.{RefusesWhere}
 use Rattle.cli_run.specs.Meaning.{IsCommandLine, command_of}
-use Rattle.cli_run.specs.Message.{Puts}
+use Rattle.cli_run.specs.Message.{Appends}
 use Rattle.cli_run.specs.Run.{Completes, Ran, Stops, WhereTold}
 
 -- Refused comes with the one word at which words are refused
@@ -66,12 +66,12 @@ told-nothing (Some told) (Some takes) = tt
 pub ran-refused : (words : List (List ℕ)) (number : ℕ) → IsRefusedAt words number → (contents : Option Contents) (taken : Option (List Take)) (name : Option InputName) (held : Option Held)
     → Ran words [] (answer.Refused (record { word = number; why = why.NotBuilt })) contents taken taken held held
 ran-refused words number at contents taken name held =
-    let none = behind-none contents taken name in
+    let none = following-none contents taken name in
     record {
       meant = None;
       means = (number, at, refl);
       given = [];
-      takes = record { order = tt; few = omega arith; entries = none.entries; fronts = none.fronts; says = refl; early = told-nothing contents taken };
+      takes = record { order = tt; few = omega arith; entries = none.entries; prefixes = none.prefixes; says = refl; early = told-nothing contents taken };
       leaves = ChangesAt-none Stdout (standing.Leaves (answer.Refused (record { word = number; why = why.NotBuilt })) []) (λ before. refl) held;
     }
 
@@ -90,7 +90,7 @@ ran-line words names command is ended contents taken taken' name' held held' r =
   meant = Some command;
   means = is;
   given = r.given;
-  takes = record { order = r.order; few = r.few; entries = r.behind.entries; fronts = told-before contents taken taken' r.given (λ told. AreFrontsTaken told r.given) r.behind.entries r.behind.fronts; says = r.says; early = r.early };
+  takes = record { order = r.order; few = r.few; entries = r.following.entries; prefixes = told-before contents taken taken' r.given (λ told. ArePrefixesTaken told r.given) r.following.entries r.following.prefixes; says = r.says; early = r.early };
   leaves = r.leaves;
 }
 
@@ -109,23 +109,23 @@ apart : Stdout ≡ Stderr → ⊥
 apart e = cc
 
 -- a message leaves what standard output got
-told-behind : (step : Option (List ℕ) → Option (List ℕ) → Type 0) (message : List ℕ) (result : Done) (h0 h1 h2 : Option Held)
-    → ChangesAt Stdout step h0 h1 → ChangesAt Stderr (Puts message result) h1 h2 → WhereTold (λ before now. step (before Stdout) (now Stdout)) h0 h2
-told-behind step message result None None None out err = tt
-told-behind step message result None None (Some c) out err = err
-told-behind step message result None (Some b) h2 out err = absurd out
-told-behind step message result (Some a) None h2 out err = absurd out
-told-behind step message result (Some a) (Some b) None out err = err
-told-behind step message result (Some a) (Some b) (Some c) out err = subst (step (a Stdout)) (sym (err.elsewhere Stdout apart)) out.here
+told-following : (step : Option (List ℕ) → Option (List ℕ) → Type 0) (message : List ℕ) (result : Done) (h0 h1 h2 : Option Held)
+    → ChangesAt Stdout step h0 h1 → ChangesAt Stderr (Appends message result) h1 h2 → WhereTold (λ before now. step (before Stdout) (now Stdout)) h0 h2
+told-following step message result None None None out err = tt
+told-following step message result None None (Some c) out err = err
+told-following step message result None (Some b) h2 out err = absurd out
+told-following step message result (Some a) None h2 out err = absurd out
+told-following step message result (Some a) (Some b) None out err = err
+told-following step message result (Some a) (Some b) (Some c) out err = subst (step (a Stdout)) (sym (err.elsewhere Stdout apart)) out.here
 
-pub completes-behind : (ended : Ended) (command : serial.Command) (whole : List Take) (message : List ℕ) (result : Done) (h0 h1 h2 : Option Held)
-    → Complete ended command whole h0 h1 → ChangesAt Stderr (Puts message result) h1 h2 → Completes ended command whole h0 h2
-completes-behind answer.Done command whole message result h0 h1 h2 done err =
-    (done.0, told-behind (standing.Leaves answer.Done (serial.text command whole)) message result h0 h1 h2 done.1 err)
-completes-behind (answer.Refused refusal) command whole message result h0 h1 h2 done err = done
-completes-behind (answer.Data fault) command whole message result h0 h1 h2 done err =
-    (done.0, told-behind (standing.Leaves (answer.Data fault) (serial.text command whole)) message result h0 h1 h2 done.1 err)
-completes-behind (answer.Read name) command whole message result h0 h1 h2 done err = done
-completes-behind (answer.Written target) command whole message result h0 h1 h2 done err = done
-completes-behind answer.TooLong command whole message result h0 h1 h2 done err = done
-completes-behind answer.NoMemory command whole message result h0 h1 h2 done err = tt
+pub completes-following : (ended : Ended) (command : serial.Command) (whole : List Take) (message : List ℕ) (result : Done) (h0 h1 h2 : Option Held)
+    → Complete ended command whole h0 h1 → ChangesAt Stderr (Appends message result) h1 h2 → Completes ended command whole h0 h2
+completes-following answer.Done command whole message result h0 h1 h2 done err =
+    (done.0, told-following (standing.Leaves answer.Done (serial.text command whole)) message result h0 h1 h2 done.1 err)
+completes-following (answer.Refused refusal) command whole message result h0 h1 h2 done err = done
+completes-following (answer.Data fault) command whole message result h0 h1 h2 done err =
+    (done.0, told-following (standing.Leaves (answer.Data fault) (serial.text command whole)) message result h0 h1 h2 done.1 err)
+completes-following (answer.Read name) command whole message result h0 h1 h2 done err = done
+completes-following (answer.Written target) command whole message result h0 h1 h2 done err = done
+completes-following answer.TooLong command whole message result h0 h1 h2 done err = done
+completes-following answer.NoMemory command whole message result h0 h1 h2 done err = tt

@@ -5,7 +5,7 @@ use Rattle.std.proofs.Math.Seq.{drop-cons}
 use Rattle.std.proofs.lemmas.List.{take-append-drop}
 use Rattle.std.proofs.lemmas.Grind.{flat_map-append}
 use Rattle.mlr_event.specs.declared.names.Target.{Target}
-use Rattle.mlr_world.specs.Outputs.{Held, ChangesAt, IsFrontOf, with_bytes}
+use Rattle.mlr_world.specs.Outputs.{Held, ChangesAt, IsPrefixOf, with_bytes}
 use Rattle.mlr_world.proofs.Changes.{ChangesAt-then, with_bytes-twice}
 
 -- the pieces up to one, and what comes behind it
@@ -14,19 +14,19 @@ flat_map-at f xs i d below =
     ap (flat_map f) (sym (take-append-drop i xs)) ∙ flat_map-append f (take i xs) (drop i xs)
     ∙ ap (λ rest. flat_map f (take i xs) ++ flat_map f rest) (drop-cons xs i d below)
 
-abbrev Fronts : List ℕ → Option (List ℕ) → Option (List ℕ) → Type 0
-Fronts text before now = (front : List ℕ) × IsFrontOf text front × (now ≡ with_bytes front before)
+abbrev Prefixes : List ℕ → Option (List ℕ) → Option (List ℕ) → Type 0
+Prefixes text before now = (prefix : List ℕ) × IsPrefixOf text prefix × (now ≡ with_bytes prefix before)
 
 -- whole pieces, and then a front of the next
 pub stopped : {X : Type 0} (f : X → List ℕ) (pieces : List X) (i : ℕ) (d : X) → i < length pieces → (target : Target) (before now later : Option Held)
     → ChangesAt target (λ b n. n ≡ with_bytes (flat_map f (take i pieces)) b) before now
-    → ChangesAt target (Fronts (f (get_or pieces i d))) now later
-    → ChangesAt target (Fronts (flat_map f pieces)) before later
+    → ChangesAt target (Prefixes (f (get_or pieces i d))) now later
+    → ChangesAt target (Prefixes (flat_map f pieces)) before later
 stopped f pieces i d below target before now later done step =
     let whole = flat_map f (take i pieces) in
     let piece = f (get_or pieces i d) in
     let rest = flat_map f (drop (suc i) pieces) in
-    ChangesAt-then target (λ b n. n ≡ with_bytes whole b) (Fronts piece) (Fronts (flat_map f pieces))
+    ChangesAt-then target (λ b n. n ≡ with_bytes whole b) (Prefixes piece) (Prefixes (flat_map f pieces))
     (λ a b c first second. (
       whole ++ second.0,
       (

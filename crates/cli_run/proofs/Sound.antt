@@ -8,7 +8,7 @@ use Rattle.mlr_event.specs.declared.options.Format.{Format}
 use Rattle.mlr_event.specs.declared.options.Format.TheVariants.{Csv, Tsv, Json, Jsonl, Dkvp, Nidx, Xtab, Pprint, Markdown}
 use Rattle.mlr_plan.specs.declared.verb_spec.VerbSpec.{VerbSpec}
 use Rattle.mlr_plan.specs.Plans.{AreSound, AreVerbs, IsVerb, origin_or}
-use Rattle.read_files.specs.Standing.{can_read}
+use Rattle.read_files.specs.Represents.{can_read}
 use Rattle.serial_core.specs.Command.{files}
 use Rattle.verbs_seq.specs.Seq.{IsSoundSeq, count_between}
 use Rattle.cli_words.specs.declared.flags.Formats.{Formats}

@@ -12,10 +12,10 @@ use Rattle.serial_core.specs.declared.answer.Ended.{Ended}
 use Rattle.serial_core.specs.declared.answer.Ended.TheVariants as answer
 use Rattle.serial_core.specs.Answer.{has_failed}
 use Rattle.serial_core.specs.Command as serial
-use Rattle.serial_core.specs.Standing as standing
+use Rattle.serial_core.specs.Represents as standing
 use Rattle.cli_run.specs.Answer.{RefusesWhere}
 use Rattle.cli_run.specs.Meaning.{Means, text_for}
-use Rattle.cli_run.specs.Message.{Puts, message_of}
+use Rattle.cli_run.specs.Message.{Appends, message_of}
 use Rattle.cli_run.specs.Run.{Says, Leaves, LeavesMessage, WhereTold, OutputCause}
 
 -- counts over a call, and over a later one
@@ -38,14 +38,14 @@ apart' e = cc
 -- what the message leaves in standard error
 message_left : (message : List ℕ) (result : Done) (before now : Option (List ℕ)) (f0 f1 f2 : Target → ℕ) (s0 s1 s2 : ℕ)
     → f0 Stderr ≤ f1 Stderr → s0 ≤ s1 → Counted (call_failed result) f1 f2 Stderr → Tallied (lacked_memory result) s1 s2
-    → Puts message result before now → LeavesMessage message (Rose (f0 Stderr) (f2 Stderr) ⊎ Rose s0 s2) before now
-message_left message done.Ok before now f0 f1 f2 s0 s1 s2 ff ss counted tallied puts = inl puts
-message_left message done.Failed before now f0 f1 f2 s0 s1 s2 ff ss counted tallied puts = inr (inl (Rose-earlier (f0 Stderr) (f1 Stderr) (f2 Stderr) ff counted.1), puts)
-message_left message done.NoMemory before now f0 f1 f2 s0 s1 s2 ff ss counted tallied puts = inr (inr (Rose-earlier s0 s1 s2 ss tallied.1), puts)
+    → Appends message result before now → LeavesMessage message (Rose (f0 Stderr) (f2 Stderr) ⊎ Rose s0 s2) before now
+message_left message done.Ok before now f0 f1 f2 s0 s1 s2 ff ss counted tallied appends = inl appends
+message_left message done.Failed before now f0 f1 f2 s0 s1 s2 ff ss counted tallied appends = inr (inl (Rose-earlier (f0 Stderr) (f1 Stderr) (f2 Stderr) ff counted.1), appends)
+message_left message done.NoMemory before now f0 f1 f2 s0 s1 s2 ff ss counted tallied appends = inr (inr (Rose-earlier s0 s1 s2 ss tallied.1), appends)
 
 pub leaves_all : (words names : List (List ℕ)) (meant : Option serial.Command) (ended : Ended) (given : List Take) (result : Done) (h0 h1 h2 : Option Held) (f0 f1 f2 : Target → ℕ) (s0 s1 s2 : ℕ)
     → f0 Stderr ≤ f1 Stderr → s0 ≤ s1 → Counted (call_failed result) f1 f2 Stderr → Tallied (lacked_memory result) s1 s2
-    → ChangesAt Stdout (standing.Leaves ended (text_for meant given)) h0 h1 → ChangesAt Stderr (Puts (message_of words names ended) result) h1 h2
+    → ChangesAt Stdout (standing.Leaves ended (text_for meant given)) h0 h1 → ChangesAt Stderr (Appends (message_of words names ended) result) h1 h2
     → WhereTold (Leaves words names meant ended given (Rose (f0 Stderr) (f2 Stderr) ⊎ Rose s0 s2)) h0 h2
 leaves_all words names meant ended given result None None None f0 f1 f2 s0 s1 s2 ff ss counted tallied out err = tt
 leaves_all words names meant ended given result None None (Some c) f0 f1 f2 s0 s1 s2 ff ss counted tallied out err = err

@@ -12,7 +12,7 @@ use Rattle.mlr_event.specs.declared.names.Target.{Target}
 use Rattle.mlr_event.specs.declared.names.Target.TheVariants as target
 use Rattle.mlr_world.specs.declared.outputs.Done.{Done}
 use Rattle.mlr_world.specs.declared.outputs.Done.TheVariants as done
-use Rattle.mlr_world.specs.Outputs.{IsFrontOf, with_bytes}
+use Rattle.mlr_world.specs.Outputs.{IsPrefixOf, with_bytes}
 use Rattle.serial_core.specs.declared.answer.Ended.{Ended}
 use Rattle.serial_core.specs.declared.answer.Ended.TheVariants as answer
 use Rattle.cli_run.specs.Meaning.{word_at}
@@ -68,7 +68,7 @@ abbrev pub message_of : List (List ℕ) → List (List ℕ) → Ended → List �
 message_of words names ended = flat_map (λ piece. piece) (pieces_of words names ended)
 
 -- a target after a text was written to it in pieces: all of it, or a front where a call couldn't write
-abbrev pub Puts : List ℕ → Done → Option (List ℕ) → Option (List ℕ) → Type 0
-Puts text done.Ok before now = now ≡ with_bytes text before
-Puts text done.Failed before now = (front : List ℕ) × IsFrontOf text front × (now ≡ with_bytes front before)
-Puts text done.NoMemory before now = (front : List ℕ) × IsFrontOf text front × (now ≡ with_bytes front before)
+abbrev pub Appends : List ℕ → Done → Option (List ℕ) → Option (List ℕ) → Type 0
+Appends text done.Ok before now = now ≡ with_bytes text before
+Appends text done.Failed before now = (prefix : List ℕ) × IsPrefixOf text prefix × (now ≡ with_bytes prefix before)
+Appends text done.NoMemory before now = (prefix : List ℕ) × IsPrefixOf text prefix × (now ≡ with_bytes prefix before)

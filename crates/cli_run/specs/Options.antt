@@ -1,5 +1,6 @@
 -- How a command reads and writes.
 use Rattle.std.specs.Prelude.{ℕ, Bool, true, false, not, ◌&&◌, List, [], ◌∷◌, codes}
+use Rattle.mlr_spec.specs.Ascii.{tab}
 use Rattle.mlr_event.specs.declared.options.Comments.TheVariants.{Keep}
 use Rattle.mlr_event.specs.declared.options.Format.{Format}
 use Rattle.mlr_event.specs.declared.options.Format.TheVariants.{Json, Jsonl, Tsv, Nidx}
@@ -9,7 +10,7 @@ use Rattle.cli_words.specs.declared.flags.Formats.{Formats}
 
 -- what stands between two fields where nothing is given
 abbrev pub default_separator : Format → List ℕ
-default_separator Tsv = 9 ∷ []
+default_separator Tsv = tab ∷ []
 default_separator Nidx = codes " "
 default_separator _ = codes ","
 

@@ -7,13 +7,13 @@ use Rattle.mlr_world.specs.Counts.{Rose}
 use Rattle.mlr_world.specs.Inputs.{Contents}
 use Rattle.mlr_world.specs.Outputs.{ChangesAt, Held, with_bytes}
 use Rattle.mlr_world.specs.Taken.{Take}
-use Rattle.outlet.specs.Standing.{PutsFront}
-use Rattle.read_files.specs.Given.{AreFrontsTaken, InOrder, total}
+use Rattle.outlet.specs.Represents.{AppendsPrefix}
+use Rattle.read_files.specs.Takes.{ArePrefixesTaken, InOrder, total}
 use Rattle.serial_core.specs.declared.answer.Ended.{Ended}
 use Rattle.serial_core.specs.declared.answer.Ended.TheVariants as answer
 use Rattle.serial_core.specs.Command as serial
 use Rattle.serial_core.specs.Run.{StopsEarly}
-use Rattle.serial_core.specs.Standing as standing
+use Rattle.serial_core.specs.Represents as standing
 use Rattle.cli_run.specs.Meaning.{Means, inputs_for, text_for}
 use Rattle.cli_run.specs.Message.{message_of}
 
@@ -29,7 +29,7 @@ Stops (Some command) told given = StopsEarly command told given
 
 -- what a message leaves in standard error: all of it, or a front where a call couldn't write
 abbrev pub LeavesMessage : List ℕ → Type 0 → Option (List ℕ) → Option (List ℕ) → Type 0
-LeavesMessage message Unwritten before now = (now ≡ with_bytes message before) ⊎ (Unwritten × PutsFront message before now)
+LeavesMessage message Unwritten before now = (now ≡ with_bytes message before) ⊎ (Unwritten × AppendsPrefix message before now)
 
 -- What a run leaves in each target.
 pub record Leaves (words names : List (List ℕ)) (meant : Option serial.Command) (ended : Ended) (given : List Take) (Unwritten : Type 0) (before now : Held) : Type 0 where
@@ -50,7 +50,7 @@ pub record Takes (meant : Option serial.Command) (ended : Ended) (given : List T
   pub order : InOrder (inputs_for meant) given
   pub few : total given ≤ 2 ^ 60
   pub entries : taken' ≡ option_map (λ before. before ++ given) taken
-  pub fronts : IfSome contents (λ told. IfSome taken (λ _. AreFrontsTaken told given))
+  pub prefixes : IfSome contents (λ told. IfSome taken (λ _. ArePrefixesTaken told given))
   pub says : Says ended meant given
   pub early : IfSome contents (λ told. IfSome taken (λ _. Stops meant told given))
 

@@ -3,7 +3,7 @@ ghost use Rattle.std.specs.List.{flat_map};
 ghost use Rattle.mlr_event.specs.declared.names.Target.TheVariants.{Stderr};
 ghost use Rattle.mlr_world.specs.Counts.{Counted, Tallied};
 ghost use Rattle.mlr_world.specs.Outputs.{ChangesAt, call_failed, lacked_memory};
-ghost use Rattle.cli_run.specs.Message.{Puts, message_of, fault_pieces, length_pieces, line_pieces, byte_pieces, file_text, named, input_text, target_text};
+ghost use Rattle.cli_run.specs.Message.{Appends, message_of, fault_pieces, length_pieces, line_pieces, byte_pieces, file_text, named, input_text, target_text};
 ghost use Rattle.cli_run.specs.Meaning.{word_at};
 
 use itoa::Buffer;
@@ -30,9 +30,12 @@ pub(crate) fn write_message<O: Outputs>(
     outputs: &mut O,
 ) -> Done
     ensures none { ended.now ≡ Ended.Done → result ≡ Done.Ok }
-    ensures bytes { ChangesAt Stderr (Puts (message_of words.now names.now ended.now) result) (O.held outputs.old) (O.held outputs.new) }
-    ensures counts { Counted (call_failed result) (O.faults outputs.old) (O.faults outputs.new) Stderr }
-    ensures memory { Tallied (lacked_memory result) (O.shortages outputs.old) (O.shortages outputs.new) }
+    ensures bytes { ChangesAt Stderr (Appends (message_of words.now names.now ended.now) result)
+        (O.held outputs.old) (O.held outputs.new) }
+    ensures counts { Counted (call_failed result) (O.faults outputs.old) (O.faults outputs.new)
+        Stderr }
+    ensures memory { Tallied (lacked_memory result) (O.shortages outputs.old)
+        (O.shortages outputs.new) }
 {
     match ended {
         Ended::Done => Done::Ok,
@@ -111,9 +114,12 @@ fn write_fault<O: Outputs>(
     digits: &mut Digits,
     outputs: &mut O,
 ) -> Done
-    ensures bytes { ChangesAt Stderr (Puts (flat_map (λ piece. piece) (fault_pieces names.now fault.now)) result) (O.held outputs.old) (O.held outputs.new) }
-    ensures counts { Counted (call_failed result) (O.faults outputs.old) (O.faults outputs.new) Stderr }
-    ensures memory { Tallied (lacked_memory result) (O.shortages outputs.old) (O.shortages outputs.new) }
+    ensures bytes { ChangesAt Stderr (Appends (flat_map (λ piece. piece)
+        (fault_pieces names.now fault.now)) result) (O.held outputs.old) (O.held outputs.new) }
+    ensures counts { Counted (call_failed result) (O.faults outputs.old) (O.faults outputs.new)
+        Stderr }
+    ensures memory { Tallied (lacked_memory result) (O.shortages outputs.old)
+        (O.shortages outputs.new) }
 {
     match fault {
         Fault::Length {
@@ -176,9 +182,12 @@ fn write_length<O: Outputs>(
     digits: &mut Digits,
     outputs: &mut O,
 ) -> Done
-    ensures bytes { ChangesAt Stderr (Puts (flat_map (λ piece. piece) (length_pieces file.now line want have)) result) (O.held outputs.old) (O.held outputs.new) }
-    ensures counts { Counted (call_failed result) (O.faults outputs.old) (O.faults outputs.new) Stderr }
-    ensures memory { Tallied (lacked_memory result) (O.shortages outputs.old) (O.shortages outputs.new) }
+    ensures bytes { ChangesAt Stderr (Appends (flat_map (λ piece. piece)
+        (length_pieces file.now line want have)) result) (O.held outputs.old) (O.held outputs.new) }
+    ensures counts { Counted (call_failed result) (O.faults outputs.old) (O.faults outputs.new)
+        Stderr }
+    ensures memory { Tallied (lacked_memory result) (O.shortages outputs.old)
+        (O.shortages outputs.new) }
 {
     let line = digits.first.format(line).as_bytes();
     let have = digits.second.format(have).as_bytes();
@@ -205,9 +214,12 @@ fn say_line<O: Outputs>(
     digits: &mut Digits,
     outputs: &mut O,
 ) -> Done
-    ensures bytes { ChangesAt Stderr (Puts (flat_map (λ piece. piece) (line_pieces file.now line what.now)) result) (O.held outputs.old) (O.held outputs.new) }
-    ensures counts { Counted (call_failed result) (O.faults outputs.old) (O.faults outputs.new) Stderr }
-    ensures memory { Tallied (lacked_memory result) (O.shortages outputs.old) (O.shortages outputs.new) }
+    ensures bytes { ChangesAt Stderr (Appends (flat_map (λ piece. piece)
+        (line_pieces file.now line what.now)) result) (O.held outputs.old) (O.held outputs.new) }
+    ensures counts { Counted (call_failed result) (O.faults outputs.old) (O.faults outputs.new)
+        Stderr }
+    ensures memory { Tallied (lacked_memory result) (O.shortages outputs.old)
+        (O.shortages outputs.new) }
 {
     let line = digits.first.format(line).as_bytes();
     say(
@@ -223,9 +235,12 @@ fn say_byte<O: Outputs>(
     digits: &mut Digits,
     outputs: &mut O,
 ) -> Done
-    ensures bytes { ChangesAt Stderr (Puts (flat_map (λ piece. piece) (byte_pieces file.now byte what.now)) result) (O.held outputs.old) (O.held outputs.new) }
-    ensures counts { Counted (call_failed result) (O.faults outputs.old) (O.faults outputs.new) Stderr }
-    ensures memory { Tallied (lacked_memory result) (O.shortages outputs.old) (O.shortages outputs.new) }
+    ensures bytes { ChangesAt Stderr (Appends (flat_map (λ piece. piece)
+        (byte_pieces file.now byte what.now)) result) (O.held outputs.old) (O.held outputs.new) }
+    ensures counts { Counted (call_failed result) (O.faults outputs.old) (O.faults outputs.new)
+        Stderr }
+    ensures memory { Tallied (lacked_memory result) (O.shortages outputs.old)
+        (O.shortages outputs.new) }
 {
     let byte = digits.first.format(byte).as_bytes();
     say(
@@ -246,9 +261,13 @@ fn say<'a, O: Outputs>(
     eighth: &'a [u8],
     ninth: &'a [u8],
 ) -> Done
-    ensures bytes { ChangesAt Stderr (Puts (flat_map (λ piece. piece) (first.now ∷ second.now ∷ third.now ∷ fourth.now ∷ fifth.now ∷ sixth.now ∷ seventh.now ∷ eighth.now ∷ ninth.now ∷ [])) result) (O.held outputs.old) (O.held outputs.new) }
-    ensures counts { Counted (call_failed result) (O.faults outputs.old) (O.faults outputs.new) Stderr }
-    ensures memory { Tallied (lacked_memory result) (O.shortages outputs.old) (O.shortages outputs.new) }
+    ensures bytes { ChangesAt Stderr (Appends (flat_map (λ piece. piece)
+        (first.now ∷ second.now ∷ third.now ∷ fourth.now ∷ fifth.now ∷ sixth.now ∷ seventh.now
+        ∷ eighth.now ∷ ninth.now ∷ [])) result) (O.held outputs.old) (O.held outputs.new) }
+    ensures counts { Counted (call_failed result) (O.faults outputs.old) (O.faults outputs.new)
+        Stderr }
+    ensures memory { Tallied (lacked_memory result) (O.shortages outputs.old)
+        (O.shortages outputs.new) }
 {
     write_pieces(
         outputs,
@@ -260,9 +279,12 @@ fn say<'a, O: Outputs>(
 
 /// Writes the pieces that have bytes to standard error one by one, up to the first that can't be written.
 fn write_pieces<O: Outputs>(outputs: &mut O, pieces: &[&[u8]]) -> Done
-    ensures bytes { ChangesAt Stderr (Puts (flat_map (λ piece. piece.now) pieces.now) result) (O.held outputs.old) (O.held outputs.new) }
-    ensures counts { Counted (call_failed result) (O.faults outputs.old) (O.faults outputs.new) Stderr }
-    ensures memory { Tallied (lacked_memory result) (O.shortages outputs.old) (O.shortages outputs.new) }
+    ensures bytes { ChangesAt Stderr (Appends (flat_map (λ piece. piece.now) pieces.now) result)
+        (O.held outputs.old) (O.held outputs.new) }
+    ensures counts { Counted (call_failed result) (O.faults outputs.old) (O.faults outputs.new)
+        Stderr }
+    ensures memory { Tallied (lacked_memory result) (O.shortages outputs.old)
+        (O.shortages outputs.new) }
 {
     for piece in pieces {
         match write_some(outputs, piece) {
@@ -276,9 +298,12 @@ fn write_pieces<O: Outputs>(outputs: &mut O, pieces: &[&[u8]]) -> Done
 
 /// Writes a piece to standard error, unless it is empty.
 fn write_some<O: Outputs>(outputs: &mut O, piece: &[u8]) -> Done
-    ensures bytes { ChangesAt Stderr (Puts piece.now result) (O.held outputs.old) (O.held outputs.new) }
-    ensures counts { Counted (call_failed result) (O.faults outputs.old) (O.faults outputs.new) Stderr }
-    ensures memory { Tallied (lacked_memory result) (O.shortages outputs.old) (O.shortages outputs.new) }
+    ensures bytes { ChangesAt Stderr (Appends piece.now result) (O.held outputs.old)
+        (O.held outputs.new) }
+    ensures counts { Counted (call_failed result) (O.faults outputs.old) (O.faults outputs.new)
+        Stderr }
+    ensures memory { Tallied (lacked_memory result) (O.shortages outputs.old)
+        (O.shortages outputs.new) }
 {
     if piece.is_empty() {
         return Done::Ok;

@@ -21,10 +21,13 @@ const TURNS: u64 = 1_000_000_000;
 
 /// The plan of a command line.
 pub(crate) fn plan_of(alloc: Global, words: &[Bytes], command: Command) -> Result<Plan, NoMemory>
-    requires { (verbs : List SpecAsked) × IsLine words.now command.formats verbs (names_of command words.now) }
+    requires { (verbs : List SpecAsked)
+        × IsLine words.now command.formats verbs (names_of command words.now) }
     ensures sound { IfOk result (λ plan. IsSound plan) }
-    ensures command { IfOk result (λ plan. (verbs : List SpecAsked) → IsLine words.now command.formats verbs (names_of command words.now)
-        → IsCommandOf plan (command_of command.formats verbs (names_of command words.now) words.now)) }
+    ensures command { IfOk result (λ plan. (verbs : List SpecAsked)
+        → IsLine words.now command.formats verbs (names_of command words.now)
+        → IsCommandOf plan (command_of command.formats verbs (names_of command words.now)
+        words.now)) }
 {
     let mut styles = Vec::new(alloc);
     styles.push(write_options(alloc, command.formats)?)?;

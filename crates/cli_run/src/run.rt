@@ -6,7 +6,7 @@ ghost use Rattle.mlr_world.specs.Counts.{Counted, Rose};
 ghost use Rattle.serial_core.specs.Answer.{has_failed, is_refused};
 ghost use Rattle.serial_core.specs.Command as serial;
 ghost use Rattle.serial_core.specs.Run.{Completes as Complete, HoldsAll, Run as SerialRun};
-ghost use Rattle.serial_core.specs.Standing.{InputCause};
+ghost use Rattle.serial_core.specs.Represents.{InputCause};
 ghost use Rattle.cli_words.specs.declared.verbs.Asked.{Asked};
 ghost use Rattle.cli_words.specs.Grammar.{IsLine, Reads, names_of};
 ghost use Rattle.cli_run.specs.Answer.{RefusesWhere};
@@ -46,17 +46,22 @@ pub fn run_mlr<
     ensures untouched { is_refused result.0 ≡ true → result.1 ≡ inputs }
 
     // What the words mean, what was taken, what the answer says of it, and what stands in each output.
-    ensures run { Run words.now result.0 (I.contents inputs) (I.taken inputs) (I.taken result.1) (O.held outputs.old) (O.held outputs.new)
-        (Rose (O.faults outputs.old Stderr) (O.faults outputs.new Stderr) ⊎ Rose (O.shortages outputs.old) (O.shortages outputs.new)) }
+    ensures run { Run words.now result.0 (I.contents inputs) (I.taken inputs) (I.taken result.1)
+        (O.held outputs.old) (O.held outputs.new)
+        (Rose (O.faults outputs.old Stderr) (O.faults outputs.new Stderr) ⊎ Rose
+        (O.shortages outputs.old) (O.shortages outputs.new)) }
     ensures contents { I.contents result.1 ≡ I.contents inputs }
 
     // Read comes only where a call on that input failed, and Written only where one on standard output did.
     ensures input_cause { InputCause result.0 (I.faults inputs) (I.faults result.1) }
-    ensures output_counts { (target : Target) → O.faults outputs.old target ≤ O.faults outputs.new target }
+    ensures output_counts { (target : Target)
+        → O.faults outputs.old target ≤ O.faults outputs.new target }
     ensures output_cause { OutputCause result.0 (O.faults outputs.old) (O.faults outputs.new) }
 
     // Where no call fails, the answer is that of all that the inputs hold, and standard output has its text.
-    ensures completes { (names : List (List ℕ)) (command : serial.Command) → IsCommandLine words.now names command → (holds : HoldsAll command (I.contents inputs) (I.taken inputs))
+    ensures completes { (names : List (List ℕ)) (command : serial.Command)
+        → IsCommandLine words.now names command
+        → (holds : HoldsAll command (I.contents inputs) (I.taken inputs))
         → ((name : InputName) → ¬ Rose (I.faults inputs name) (I.faults result.1 name))
         → ¬ Rose (O.faults outputs.old Stdout) (O.faults outputs.new Stdout)
         → Completes result.0 command holds.whole (O.held outputs.old) (O.held outputs.new) }
@@ -96,13 +101,18 @@ fn run_line<I: Inputs, O: Outputs>(
     requires { Reads words.now line }
     ensures refused { RefusesWhere words.now result }
     ensures untouched { is_refused result ≡ true → inputs.new ≡ inputs.old }
-    ensures run { Ran words.now (names_in words.now line) result (I.contents inputs.old) (I.taken inputs.old) (I.taken inputs.new) (O.held outputs.old) (O.held outputs.new) }
+    ensures run { Ran words.now (names_in words.now line) result (I.contents inputs.old)
+        (I.taken inputs.old) (I.taken inputs.new) (O.held outputs.old) (O.held outputs.new) }
     ensures contents { I.contents inputs.new ≡ I.contents inputs.old }
     ensures input_cause { InputCause result (I.faults inputs.old) (I.faults inputs.new) }
-    ensures output_counts { Counted (has_failed result) (O.faults outputs.old) (O.faults outputs.new) Stdout }
+    ensures output_counts { Counted (has_failed result) (O.faults outputs.old)
+        (O.faults outputs.new) Stdout }
     ensures shortages { O.shortages outputs.old ≤ O.shortages outputs.new }
-    ensures completes { (names : List (List ℕ)) (command : serial.Command) → IsCommandLine words.now names command → (holds : HoldsAll command (I.contents inputs.old) (I.taken inputs.old))
-        → ((name : InputName) → ¬ Rose (I.faults inputs.old name) (I.faults inputs.new name)) → ¬ Rose (O.faults outputs.old Stdout) (O.faults outputs.new Stdout)
+    ensures completes { (names : List (List ℕ)) (command : serial.Command)
+        → IsCommandLine words.now names command
+        → (holds : HoldsAll command (I.contents inputs.old) (I.taken inputs.old))
+        → ((name : InputName) → ¬ Rose (I.faults inputs.old name) (I.faults inputs.new name))
+        → ¬ Rose (O.faults outputs.old Stdout) (O.faults outputs.new Stdout)
         → Complete result command holds.whole (O.held outputs.old) (O.held outputs.new) }
 {
     match line {
@@ -122,17 +132,26 @@ fn run_accepted<I: Inputs, O: Outputs>(
     inputs: &mut I,
     outputs: &mut O,
 ) -> Ended
-    requires { (verbs : List Asked) × IsLine words.now command.formats verbs (names_of command words.now) }
-    ensures run { (verbs : List Asked) → IsLine words.now command.formats verbs (names_of command words.now)
-        → SerialRun result (command_of command.formats verbs (names_of command words.now) words.now) (I.contents inputs.old) (I.taken inputs.old) (I.taken inputs.new) (I.open_name inputs.new) (O.held outputs.old) (O.held outputs.new) }
+    requires { (verbs : List Asked)
+        × IsLine words.now command.formats verbs (names_of command words.now) }
+    ensures run { (verbs : List Asked)
+        → IsLine words.now command.formats verbs (names_of command words.now)
+        → SerialRun result (command_of command.formats verbs (names_of command words.now)
+        words.now) (I.contents inputs.old) (I.taken inputs.old) (I.taken inputs.new)
+        (I.open_name inputs.new) (O.held outputs.old) (O.held outputs.new) }
     ensures contents { I.contents inputs.new ≡ I.contents inputs.old }
     ensures input_cause { InputCause result (I.faults inputs.old) (I.faults inputs.new) }
-    ensures output_counts { Counted (has_failed result) (O.faults outputs.old) (O.faults outputs.new) Stdout }
+    ensures output_counts { Counted (has_failed result) (O.faults outputs.old)
+        (O.faults outputs.new) Stdout }
     ensures shortages { O.shortages outputs.old ≤ O.shortages outputs.new }
-    ensures completes { (verbs : List Asked) → IsLine words.now command.formats verbs (names_of command words.now)
-        → (holds : HoldsAll (command_of command.formats verbs (names_of command words.now) words.now) (I.contents inputs.old) (I.taken inputs.old))
-        → ((name : InputName) → ¬ Rose (I.faults inputs.old name) (I.faults inputs.new name)) → ¬ Rose (O.faults outputs.old Stdout) (O.faults outputs.new Stdout)
-        → Complete result (command_of command.formats verbs (names_of command words.now) words.now) holds.whole (O.held outputs.old) (O.held outputs.new) }
+    ensures completes { (verbs : List Asked)
+        → IsLine words.now command.formats verbs (names_of command words.now)
+        → (holds : HoldsAll (command_of command.formats verbs (names_of command words.now)
+        words.now) (I.contents inputs.old) (I.taken inputs.old))
+        → ((name : InputName) → ¬ Rose (I.faults inputs.old name) (I.faults inputs.new name))
+        → ¬ Rose (O.faults outputs.old Stdout) (O.faults outputs.new Stdout)
+        → Complete result (command_of command.formats verbs (names_of command words.now)
+        words.now) holds.whole (O.held outputs.old) (O.held outputs.new) }
 {
     match plan_of(alloc, words, command) {
         Ok(plan) => run_serial(alloc, &plan, inputs, outputs),

@@ -141,7 +141,7 @@ const REFUSED: [Row; 14] = [
 ];
 
 #[test]
-fn verbs_one_behind_the_other(rt: HostRuntime) -> Result<(), Fail> {
+fn verbs_one_after_the_other(rt: HostRuntime) -> Result<(), Fail> {
     check_rows(&rt, rt.alloc(), &VERBS)
 }
 

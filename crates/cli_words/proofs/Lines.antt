@@ -10,9 +10,9 @@ use Rattle.cli_words.specs.declared.line.Next.TheVariants.{Word}
 use Rattle.cli_words.specs.declared.line.Place.TheVariants.{Flags, Options}
 use Rattle.cli_words.specs.declared.verbs.Asked.{Asked}
 use Rattle.cli_words.specs.Flags.{flagged, plain}
-use Rattle.cli_words.specs.Grammar.{IsLine, are_names, behind_then, formats_by, names_of, options_in, verb_in, verbs_in}
+use Rattle.cli_words.specs.Grammar.{IsLine, are_names, after_then, formats_by, names_of, options_in, verb_in, verbs_in}
 use Rattle.cli_words.specs.Verbs.{first_verb}
-use Rattle.cli_words.specs.Walk.{asked, asked_from, behind_verb, line_from, walked}
+use Rattle.cli_words.specs.Walk.{asked, asked_from, after_verb, line_from, walked}
 use Rattle.cli_words.proofs.Rests.{found, line_by, refused-not, verbs_by}
 
 -- a command line that begins behind so many words, with these formats so far
@@ -21,8 +21,8 @@ record Begun (n : ℕ) (formats : Formats) (words : List (List ℕ)) (verbs : Li
   first : List (List ℕ)
   others : List (List (List ℕ))
   names : List (List ℕ)
-  words_are : words ≡ flags ++ first ++ behind_then others ++ names
-  count_is : command.names ≡ n + length (flags ++ first ++ behind_then others)
+  words_are : words ≡ flags ++ first ++ after_then others ++ names
+  count_is : command.names ≡ n + length (flags ++ first ++ after_then others)
   formats_are : formats_by formats flags ≡ Some command.formats
   verb : Asked
   verb_is : verb_in (n + length flags) first_verb first ≡ Some verb
@@ -40,7 +40,7 @@ module _ (n : ℕ) (formats : Formats) (word : List ℕ) (words : List (List ℕ
     others = b.others;
     names = b.names;
     words_are = ap (λ ws. word ∷ ws) b.words_are;
-    count_is = let e : command.names ≡ n + length (word ∷ b.flags ++ b.first ++ behind_then b.others) = omega (arith, b.count_is) in e;
+    count_is = let e : command.names ≡ n + length (word ∷ b.flags ++ b.first ++ after_then b.others) = omega (arith, b.count_is) in e;
     formats_are = ap (λ o. elim o [ Some next ↦ formats_by next b.flags | None ↦ None ]) is ∙ b.formats_are;
     verb = b.verb;
     verb_is = ap (λ m. verb_in m first_verb b.first) (let e : n + length (word ∷ b.flags) ≡ n + 1 + length b.flags = omega arith in e) ∙ b.verb_is;
@@ -51,8 +51,8 @@ module _ (n : ℕ) (formats : Formats) (word : List ℕ) (words : List (List ℕ
   }
 
   -- behind the name of the first verb
-  begun-verb : (o : Option Asked) → first_verb word ≡ o → line_by n formats (λ f p. line_from (n + 1) f p words) (behind_verb formats o) ≡ Accepted command
-      → Begun n formats (word ∷ words) (verbs_by Flags (λ f p. asked_from (n + 1) f p words) (behind_verb formats o)) command
+  begun-verb : (o : Option Asked) → first_verb word ≡ o → line_by n formats (λ f p. line_from (n + 1) f p words) (after_verb formats o) ≡ Accepted command
+      → Begun n formats (word ∷ words) (verbs_by Flags (λ f p. asked_from (n + 1) f p words) (after_verb formats o)) command
   begun-verb None named is = refused-not (n + 1) command is
   begun-verb (Some a) named is =
       let f = found words (n + 1) formats (Options a) command tt is in
@@ -64,8 +64,8 @@ module _ (n : ℕ) (formats : Formats) (word : List ℕ) (words : List (List ℕ
         names = r.names;
         words_are = ap (λ ws. word ∷ ws) r.words_are;
         count_is =
-            let l = length-append (word ∷ r.first) (behind_then r.others) in
-            let e : command.names ≡ n + length (word ∷ r.first ++ behind_then r.others) = omega (arith, r.count_is, l) in e;
+            let l = length-append (word ∷ r.first) (after_then r.others) in
+            let e : command.names ≡ n + length (word ∷ r.first ++ after_then r.others) = omega (arith, r.count_is, l) in e;
         formats_are = ap Some (sym f.same);
         verb = r.verb;
         verb_is = ap (λ m. verb_in m first_verb (word ∷ r.first)) (let e : n + 0 ≡ n = omega arith in e) ∙ ap (λ o. elim o [ Some a ↦ options_in (n + 1) a r.first | None ↦ None ]) named ∙ r.verb_is;
@@ -77,8 +77,8 @@ module _ (n : ℕ) (formats : Formats) (word : List ℕ) (words : List (List ℕ
 
   begun-word : (o : Option Formats) → flagged word formats ≡ o
       → ((next : Formats) → line_from (n + 1) next Flags words ≡ Accepted command → Begun (n + 1) next words (asked_from (n + 1) next Flags words) command)
-      → line_by n formats (λ f p. line_from (n + 1) f p words) (elim o [ Some next ↦ Word next Flags | None ↦ behind_verb formats (first_verb word) ]) ≡ Accepted command
-      → Begun n formats (word ∷ words) (verbs_by Flags (λ f p. asked_from (n + 1) f p words) (elim o [ Some next ↦ Word next Flags | None ↦ behind_verb formats (first_verb word) ])) command
+      → line_by n formats (λ f p. line_from (n + 1) f p words) (elim o [ Some next ↦ Word next Flags | None ↦ after_verb formats (first_verb word) ]) ≡ Accepted command
+      → Begun n formats (word ∷ words) (verbs_by Flags (λ f p. asked_from (n + 1) f p words) (elim o [ Some next ↦ Word next Flags | None ↦ after_verb formats (first_verb word) ])) command
   begun-word (Some next) flag go is = begun-flag next (asked_from (n + 1) next Flags words) flag (go next is)
   begun-word None flag go is = begun-verb (first_verb word) refl is
 
@@ -88,20 +88,20 @@ begun [] n formats command is = refused-not (n + 1) command is
 begun (word ∷ words) n formats command is = begun-word n formats word words command (flagged word formats) refl (λ next. begun words (n + 1) next command) is
 
 -- behind its first words a list goes on as it does
-names-behind : (count : ℕ) (front names words : List (List ℕ)) → words ≡ front ++ names → count ≡ length front → names ≡ drop count words
-names-behind count front names words words_are count_is =
-    sym (drop-append_seam front names) ∙ ap (λ m. drop m (front ++ names)) (sym count_is) ∙ ap (drop count) (sym words_are)
+names-following : (count : ℕ) (prefix names words : List (List ℕ)) → words ≡ prefix ++ names → count ≡ length prefix → names ≡ drop count words
+names-following count prefix names words words_are count_is =
+    sym (drop-append_seam prefix names) ∙ ap (λ m. drop m (prefix ++ names)) (sym count_is) ∙ ap (drop count) (sym words_are)
 
 pub accepted-line : (words : List (List ℕ)) (command : Command) → walked words ≡ Accepted command → IsLine words command.formats (asked words) (names_of command words)
 accepted-line words command is =
     let b = begun words 0 plain command is in
-    let front = b.flags ++ b.first ++ behind_then b.others in
-    let names = names-behind command.names front b.names words b.words_are (b.count_is ∙ (let e : 0 + length front ≡ length front = omega arith in e)) in
+    let prefix = b.flags ++ b.first ++ after_then b.others in
+    let names = names-following command.names prefix b.names words b.words_are (b.count_is ∙ (let e : 0 + length prefix ≡ length prefix = omega arith in e)) in
     record {
       flags = b.flags;
       first = b.first;
       others = b.others;
-      words_are = b.words_are ∙ ap (λ ws. front ++ ws) names;
+      words_are = b.words_are ∙ ap (λ ws. prefix ++ ws) names;
       formats_are = b.formats_are;
       verb = b.verb;
       verb_is = ap (λ m. verb_in m first_verb b.first) (let e : length b.flags ≡ 0 + length b.flags = omega arith in e) ∙ b.verb_is;
@@ -113,6 +113,6 @@ accepted-line words command is =
 
 -- the names of a line are what its words end in
 pub line-names : (words : List (List ℕ)) (formats : Formats) (verbs : List Asked) (names : List (List ℕ)) (line : IsLine words formats verbs names)
-    → names ≡ drop (length (line.flags ++ line.first ++ behind_then line.others)) words
+    → names ≡ drop (length (line.flags ++ line.first ++ after_then line.others)) words
 line-names words formats verbs names line =
-    names-behind (length (line.flags ++ line.first ++ behind_then line.others)) (line.flags ++ line.first ++ behind_then line.others) names words line.words_are refl
+    names-following (length (line.flags ++ line.first ++ after_then line.others)) (line.flags ++ line.first ++ after_then line.others) names words line.words_are refl

@@ -8,7 +8,7 @@ use Rattle.cli_words.specs.declared.line.Line.TheVariants.{Accepted, Refused}
 use Rattle.cli_words.specs.declared.line.Place.TheVariants.{Flags}
 use Rattle.cli_words.specs.declared.verbs.Asked.{Asked}
 use Rattle.cli_words.specs.Flags.{plain}
-use Rattle.cli_words.specs.Grammar.{CanGoOn, IsLine, IsRefusedAt, Reads, behind_then}
+use Rattle.cli_words.specs.Grammar.{CanGoOn, IsLine, IsRefusedAt, Reads, after_then}
 use Rattle.cli_words.specs.Walk.{asked, walked}
 use Rattle.cli_words.proofs.Lines.{accepted-line, line-names}
 use Rattle.cli_words.proofs.Refusals.{refusal}
@@ -19,28 +19,28 @@ use Rattle.cli_words.proofs.Walks.{line-walk}
 line-not : {A : Type 0} (words : List (List ℕ)) (formats : Formats) (verbs : List Asked) (names : List (List ℕ)) (number : ℕ)
     → IsLine words formats verbs names → walked words ≡ Refused number → A
 line-not words formats verbs names number line is =
-    refused-not number (record { formats = formats; names = length (line.flags ++ line.first ++ behind_then line.others) })
+    refused-not number (record { formats = formats; names = length (line.flags ++ line.first ++ after_then line.others) })
     (sym is ∙ ap (λ e. e.0) (line-walk words formats verbs names line))
 
 -- a front of a list begins with its shorter fronts
-take-front : (k m : ℕ) (words : List (List ℕ)) → k ≤ m → (rest : List (List ℕ)) × (take m words ≡ take k words ++ rest)
-take-front zero m words within = (take m words, refl)
-take-front (suc k) zero words within = absurd (let f : ⊥ = omega (arith, within) in f)
-take-front (suc k) (suc m) [] within = ([], refl)
-take-front (suc k) (suc m) (word ∷ words) within =
-    let front = take-front k m words (let e : k ≤ m = omega (arith, within) in e) in
-    (front.0, ap (λ ws. word ∷ ws) front.1)
+take-prefix : (k m : ℕ) (words : List (List ℕ)) → k ≤ m → (rest : List (List ℕ)) × (take m words ≡ take k words ++ rest)
+take-prefix zero m words within = (take m words, refl)
+take-prefix (suc k) zero words within = absurd (let f : ⊥ = omega (arith, within) in f)
+take-prefix (suc k) (suc m) [] within = ([], refl)
+take-prefix (suc k) (suc m) (word ∷ words) within =
+    let prefix = take-prefix k m words (let e : k ≤ m = omega (arith, within) in e) in
+    (prefix.0, ap (λ ws. word ∷ ws) prefix.1)
 
 -- a line begins with each front of its own
 goes-earlier : (k m : ℕ) (words : List (List ℕ)) → k ≤ m → CanGoOn (take m words) → CanGoOn (take k words)
 goes-earlier k m words within goes =
-    let front = take-front k m words within in
+    let prefix = take-prefix k m words within in
     record {
-      behind = front.0 ++ goes.behind;
+      following = prefix.0 ++ goes.following;
       formats = goes.formats;
       verbs = goes.verbs;
       names = goes.names;
-      is = subst (λ ws. IsLine ws goes.formats goes.verbs goes.names) (ap (λ ws. ws ++ goes.behind) front.1 ∙ append_assoc (take k words) front.0 goes.behind) goes.is;
+      is = subst (λ ws. IsLine ws goes.formats goes.verbs goes.names) (ap (λ ws. ws ++ goes.following) prefix.1 ∙ append_assoc (take k words) prefix.0 goes.following) goes.is;
     }
 
 pub refused-at : (words : List (List ℕ)) (number : ℕ) → walked words ≡ Refused number → IsRefusedAt words number
@@ -52,15 +52,15 @@ refused-at words number is =
       number_is = number_is;
       within = r.within;
       goes_on = record {
-        behind = r.behind;
+        following = r.following;
         formats = r.command.formats;
-        verbs = asked (take r.before words ++ r.behind);
-        names = drop r.command.names (take r.before words ++ r.behind);
-        is = accepted-line (take r.before words ++ r.behind) r.command r.goes_on;
+        verbs = asked (take r.before words ++ r.following);
+        names = drop r.command.names (take r.before words ++ r.following);
+        is = accepted-line (take r.before words ++ r.following) r.command r.goes_on;
       };
       ends = λ less goes.
-          line-not (take number words ++ goes.behind) goes.formats goes.verbs goes.names number goes.is
-          (ap (λ m. walked (take m words ++ goes.behind)) number_is ∙ r.ends less goes.behind);
+          line-not (take number words ++ goes.following) goes.formats goes.verbs goes.names number goes.is
+          (ap (λ m. walked (take m words ++ goes.following)) number_is ∙ r.ends less goes.following);
       none = λ formats verbs names line. line-not words formats verbs names number line is;
     }
 

@@ -2,7 +2,7 @@
 use Rattle.std.proofs.Common.{◌≡◌, ℕ, suc, ◌+◌, ◌<◌, ◌≤◌, pos, Bool, true, false, List, [], ◌∷◌, ◌++◌, Option, Some, None, refl, ap, sym, ◌∙◌, arith}
 use Rattle.std.specs.Prelude.{◌||◌, not, codes, length, take, if◌then◌else◌}
 use Rattle.std.specs.Str.{bytes_eq}
-use Rattle.mlr_spec.specs.Infer.{kind_behind_sign}
+use Rattle.mlr_spec.specs.Infer.{kind_after_sign}
 use Rattle.cli_words.specs.declared.flags.Formats.{Formats}
 use Rattle.cli_words.specs.declared.line.Command.{Command}
 use Rattle.cli_words.specs.declared.line.Line.{Line}
@@ -17,7 +17,7 @@ use Rattle.cli_words.specs.declared.verbs.VerbOption.{VerbOption}
 use Rattle.cli_words.specs.declared.verbs.VerbOption.TheVariants.{Count, Field, Start, Stop, Step}
 use Rattle.cli_words.specs.Flags.{flagged}
 use Rattle.cli_words.specs.Verbs.{first_verb, is_dashed, may_end, option_named, verb_named, with_option}
-use Rattle.cli_words.specs.Walk.{after, behind_options, behind_verb, line_from, may_stop}
+use Rattle.cli_words.specs.Walk.{after, after_options, after_verb, line_from, may_stop}
 use Rattle.cli_words.proofs.Rests.{line_by}
 
 -- the options that a verb has
@@ -60,7 +60,7 @@ has-named (Seq numbers) word =
     (has-if (bytes_eq word (codes "--stop")) (Seq numbers) Stop (if bytes_eq word (codes "--step") then Some Step else None) tt
     (has-if (bytes_eq word (codes "--step")) (Seq numbers) Step None tt tt)))
 
-fits-verb : (formats : Formats) (o : Option Asked) → NextFits (behind_verb formats o)
+fits-verb : (formats : Formats) (o : Option Asked) → NextFits (after_verb formats o)
 fits-verb formats None = tt
 fits-verb formats (Some asked) = tt
 
@@ -70,11 +70,11 @@ fits-tests formats false true = tt
 fits-tests formats false false = tt
 
 fits-option : (formats : Formats) (asked : Asked) (word : List ℕ) (o : Option VerbOption) → HasSome asked o
-    → NextFits (elim o [ Some option ↦ Word formats (Argument asked option) | None ↦ behind_options formats asked word ])
+    → NextFits (elim o [ Some option ↦ Word formats (Argument asked option) | None ↦ after_options formats asked word ])
 fits-option formats asked word None has = fits-tests formats (not (may_end asked) || is_dashed word) (bytes_eq word (codes "then"))
 fits-option formats asked word (Some option) has = has
 
-fits-flag : (formats : Formats) (word : List ℕ) (o : Option Formats) → NextFits (elim o [ Some next ↦ Word next Flags | None ↦ behind_verb formats (first_verb word) ])
+fits-flag : (formats : Formats) (word : List ℕ) (o : Option Formats) → NextFits (elim o [ Some next ↦ Word next Flags | None ↦ after_verb formats (first_verb word) ])
 fits-flag formats word None = fits-verb formats (first_verb word)
 fits-flag formats word (Some next) = tt
 
@@ -91,7 +91,7 @@ record Ending (n : ℕ) (formats : Formats) (place : Place) : Type 0 where
   is : line_from n formats place words ≡ Accepted command
 
 ending-options : (asked : Asked) (n : ℕ) (formats : Formats) → Ending n formats (Options asked)
-unfolding kind_behind_sign
+unfolding kind_after_sign
 ending-options Cat n formats = record { words = []; command = record { formats = formats; names = n }; is = refl }
 ending-options Nothing n formats = record { words = []; command = record { formats = formats; names = n }; is = refl }
 ending-options (Head count) n formats = record { words = []; command = record { formats = formats; names = n }; is = refl }
@@ -102,7 +102,7 @@ ending-options (Seq numbers) n formats = record {
 }
 
 ending-argument : (asked : Asked) (option : VerbOption) (n : ℕ) (formats : Formats) → Has asked option → Ending n formats (Argument asked option)
-unfolding kind_behind_sign
+unfolding kind_after_sign
 ending-argument (Head count) Count n formats has = record { words = codes "1" ∷ []; command = record { formats = formats; names = n + 1 }; is = refl }
 ending-argument (Seq numbers) Field n formats has =
     let e = ending-options (Seq (record numbers { field = n + 1 })) (n + 1) formats in record { words = codes "1" ∷ e.words; command = e.command; is = e.is }
@@ -131,9 +131,9 @@ pub record Refusal (n : ℕ) (formats : Formats) (place : Place) (words : List (
   pub before : ℕ
   pub number_is : number ≡ n + before + 1
   pub within : before ≤ length words
-  pub behind : List (List ℕ)
+  pub following : List (List ℕ)
   pub command : Command
-  pub goes_on : line_from n formats place (take before words ++ behind) ≡ Accepted command
+  pub goes_on : line_from n formats place (take before words ++ following) ≡ Accepted command
   pub ends : before < length words → (rest : List (List ℕ)) → line_from n formats place (take (before + 1) words ++ rest) ≡ Refused number
 
 abbrev number_in : Line → ℕ
@@ -152,22 +152,22 @@ refusal-stop n formats place number false fits is =
       before = 0;
       number_is = sym (ap number_in is) ∙ (let e : n + 1 ≡ n + 0 + 1 = omega arith in e);
       within = let e : 0 ≤ 0 = omega arith in e;
-      behind = e.words;
+      following = e.words;
       command = e.command;
       goes_on = e.is;
       ends = λ less rest. absurd (let f : ⊥ = omega (arith, less) in f);
     }
 
 module _ (n : ℕ) (formats : Formats) (place : Place) (word : List ℕ) (words : List (List ℕ)) (number : ℕ) where
-  abbrev line_behind : List (List ℕ) → Formats → Place → Line
-  line_behind rest next at = line_from (n + 1) next at rest
+  abbrev line_after : List (List ℕ) → Formats → Place → Line
+  line_after rest next at = line_from (n + 1) next at rest
 
-  by-next : (rest : List (List ℕ)) (next : Next) → after (n + 1) formats place word ≡ next → line_from n formats place (word ∷ rest) ≡ line_by n formats (line_behind rest) next
-  by-next rest next is = ap (line_by n formats (line_behind rest)) is
+  by-next : (rest : List (List ℕ)) (next : Next) → after (n + 1) formats place word ≡ next → line_from n formats place (word ∷ rest) ≡ line_by n formats (line_after rest) next
+  by-next rest next is = ap (line_by n formats (line_after rest)) is
 
   refusal-word : (next : Next) → Fits place → after (n + 1) formats place word ≡ next
       → ((f : Formats) (at : Place) → Fits at → line_from (n + 1) f at words ≡ Refused number → Refusal (n + 1) f at words number)
-      → NextFits next → line_by n formats (line_behind words) next ≡ Refused number → Refusal n formats place (word ∷ words) number
+      → NextFits next → line_by n formats (line_after words) next ≡ Refused number → Refusal n formats place (word ∷ words) number
   refusal-word Names fits is go next_fits line = accepted-not (record { formats = formats; names = n }) number line
   refusal-word Refuse fits is go next_fits line =
       let e = ending place n formats fits in
@@ -175,7 +175,7 @@ module _ (n : ℕ) (formats : Formats) (place : Place) (word : List ℕ) (words 
         before = 0;
         number_is = sym (ap number_in line) ∙ (let e : n + 1 ≡ n + 0 + 1 = omega arith in e);
         within = let e : 0 ≤ length (word ∷ words) = omega arith in e;
-        behind = e.words;
+        following = e.words;
         command = e.command;
         goes_on = e.is;
         ends = λ less rest. by-next rest Refuse is ∙ line;
@@ -186,9 +186,9 @@ module _ (n : ℕ) (formats : Formats) (place : Place) (word : List ℕ) (words 
         before = suc r.before;
         number_is = r.number_is ∙ (let e : n + 1 + r.before + 1 ≡ n + suc r.before + 1 = omega arith in e);
         within = let e : suc r.before ≤ length (word ∷ words) = omega (arith, r.within) in e;
-        behind = r.behind;
+        following = r.following;
         command = r.command;
-        goes_on = by-next (take r.before words ++ r.behind) (Word f at) is ∙ r.goes_on;
+        goes_on = by-next (take r.before words ++ r.following) (Word f at) is ∙ r.goes_on;
         ends = λ less rest.
             ap (λ m. line_from n formats place (take m (word ∷ words) ++ rest)) (let e : suc r.before + 1 ≡ suc (r.before + 1) = omega arith in e)
             ∙ by-next (take (r.before + 1) words ++ rest) (Word f at) is

@@ -17,9 +17,9 @@ use Rattle.cli_words.specs.declared.line.Place.TheVariants.{Flags, Verb, Options
 use Rattle.cli_words.specs.declared.verbs.Asked.{Asked}
 use Rattle.cli_words.specs.declared.verbs.VerbOption.{VerbOption}
 use Rattle.cli_words.specs.Flags.{plain}
-use Rattle.cli_words.specs.Grammar.{are_names, behind_then, options_in, verb_in, verbs_in}
+use Rattle.cli_words.specs.Grammar.{are_names, after_then, options_in, verb_in, verbs_in}
 use Rattle.cli_words.specs.Verbs.{is_dashed, may_end, option_named, verb_named, with_option}
-use Rattle.cli_words.specs.Walk.{asked_from, behind_options, behind_verb, ended_by, line_from}
+use Rattle.cli_words.specs.Walk.{asked_from, after_options, after_verb, ended_by, line_from}
 
 -- what an option lacks, and then more options
 abbrev pub argument_in : ℕ → Asked → VerbOption → List (List ℕ) → Option Asked
@@ -38,8 +38,8 @@ pub record Rest (n : ℕ) (place : Place) (words : List (List ℕ)) (verbs : Lis
   pub first : List (List ℕ)
   pub others : List (List (List ℕ))
   pub names : List (List ℕ)
-  pub words_are : words ≡ first ++ behind_then others ++ names
-  pub count_is : count ≡ n + length first + length (behind_then others)
+  pub words_are : words ≡ first ++ after_then others ++ names
+  pub count_is : count ≡ n + length first + length (after_then others)
   pub verb : Asked
   pub verb_is : head_in n place first ≡ Some verb
   pub more : List Asked
@@ -63,7 +63,7 @@ before n place at word words verbs count r same = record {
   others = r.others;
   names = r.names;
   words_are = ap (λ ws. word ∷ ws) r.words_are;
-  count_is = let e : count ≡ n + length (word ∷ r.first) + length (behind_then r.others) = omega (arith, r.count_is) in e;
+  count_is = let e : count ≡ n + length (word ∷ r.first) + length (after_then r.others) = omega (arith, r.count_is) in e;
   verb = r.verb;
   verb_is = same ∙ r.verb_is;
   more = r.more;
@@ -81,8 +81,8 @@ before-then n asked word words verbs count may is r = record {
   names = r.names;
   words_are = ap (λ w. w ∷ words) is ∙ ap (λ ws. codes "then" ∷ ws) r.words_are;
   count_is =
-      let l = length-append (codes "then" ∷ r.first) (behind_then r.others) in
-      let e : count ≡ n + 0 + length (behind_then (r.first ∷ r.others)) = omega (arith, r.count_is, l) in e;
+      let l = length-append (codes "then" ∷ r.first) (after_then r.others) in
+      let e : count ≡ n + 0 + length (after_then (r.first ∷ r.others)) = omega (arith, r.count_is, l) in e;
   verb = asked;
   verb_is = ap (λ t. if t then Some asked else None) may;
   more = r.verb ∷ r.more;
@@ -168,20 +168,20 @@ module _ (n : ℕ) (formats : Formats) (word : List ℕ) (words : List (List ℕ
   Goes = (at : Place) → IsPast at → line_from (n + 1) formats at words ≡ Accepted command → Found (n + 1) formats at words (asked_from (n + 1) formats at words) command
 
   -- what a word makes that is none of a verb's options
-  behind-tests : Goes → (asked : Asked) (t u : Bool) → (not (may_end asked) || is_dashed word) ≡ t → bytes_eq word (codes "then") ≡ u → (may : Bool) → may_end asked ≡ may
+  following-tests : Goes → (asked : Asked) (t u : Bool) → (not (may_end asked) || is_dashed word) ≡ t → bytes_eq word (codes "then") ≡ u → (may : Bool) → may_end asked ≡ may
       → line_by n formats line_at (if t then Refuse else (if u then Word formats Verb else Names)) ≡ Accepted command
       → Found n formats (Options asked) (word ∷ words) (verbs_by (Options asked) verbs_at (if t then Refuse else (if u then Word formats Verb else Names))) command
-  behind-tests go asked true u test then_is may is_may is = refused-not (n + 1) command is
-  behind-tests go asked false u test then_is false is_may is =
+  following-tests go asked true u test then_is may is_may is = refused-not (n + 1) command is
+  following-tests go asked false u test then_is false is_may is =
       absurd (true≢false (sym (ap (λ m. not m || is_dashed word) is_may) ∙ test))
-  behind-tests go asked false true test then_is true is_may is =
+  following-tests go asked false true test then_is true is_may is =
       let f = go Verb tt is in
       record {
         same = f.same;
         rest = subst (λ vs. Rest n (Options asked) (word ∷ words) (vs ++ verbs_at formats Verb) command.names) (sym (ap (λ m. if m then asked ∷ [] else []) is_may))
             (before-then n asked word words (verbs_at formats Verb) command.names is_may ((bytes_eq-Decides word (codes "then")).0 then_is) f.rest);
       }
-  behind-tests go asked false false test then_is true is_may is =
+  following-tests go asked false false test then_is true is_may is =
       let dashed : is_dashed word ≡ false = sym (ap (λ m. not m || is_dashed word) is_may) ∙ test in
       record {
         same = sym (ap formats_in is);
@@ -192,16 +192,16 @@ module _ (n : ℕ) (formats : Formats) (word : List ℕ) (words : List (List ℕ
 
   -- at each place, by what the word is there
   found-option : Goes → (asked : Asked) (o : Option VerbOption) → option_named asked word ≡ o
-      → line_by n formats line_at (elim o [ Some option ↦ Word formats (Argument asked option) | None ↦ behind_options formats asked word ]) ≡ Accepted command
-      → Found n formats (Options asked) (word ∷ words) (verbs_by (Options asked) verbs_at (elim o [ Some option ↦ Word formats (Argument asked option) | None ↦ behind_options formats asked word ])) command
+      → line_by n formats line_at (elim o [ Some option ↦ Word formats (Argument asked option) | None ↦ after_options formats asked word ]) ≡ Accepted command
+      → Found n formats (Options asked) (word ∷ words) (verbs_by (Options asked) verbs_at (elim o [ Some option ↦ Word formats (Argument asked option) | None ↦ after_options formats asked word ])) command
   found-option go asked (Some option) named is =
       let f = go (Argument asked option) tt is in
       record { same = f.same; rest = before n (Options asked) (Argument asked option) word words (verbs_at formats (Argument asked option)) command.names f.rest (options-cons n asked word option f.rest.first named) }
-  found-option go asked None named is = behind-tests go asked (not (may_end asked) || is_dashed word) (bytes_eq word (codes "then")) refl refl (may_end asked) refl is
+  found-option go asked None named is = following-tests go asked (not (may_end asked) || is_dashed word) (bytes_eq word (codes "then")) refl refl (may_end asked) refl is
 
   found-argument : Goes → (asked : Asked) (option : VerbOption) (o : Option Asked) → with_option asked option (n + 1) word ≡ o
-      → line_by n formats line_at (behind_verb formats o) ≡ Accepted command
-      → Found n formats (Argument asked option) (word ∷ words) (verbs_by (Argument asked option) verbs_at (behind_verb formats o)) command
+      → line_by n formats line_at (after_verb formats o) ≡ Accepted command
+      → Found n formats (Argument asked option) (word ∷ words) (verbs_by (Argument asked option) verbs_at (after_verb formats o)) command
   found-argument go asked option (Some next) given is =
       let f = go (Options next) tt is in
       record {
@@ -212,8 +212,8 @@ module _ (n : ℕ) (formats : Formats) (word : List ℕ) (words : List (List ℕ
   found-argument go asked option None given is = refused-not (n + 1) command is
 
   found-verb : Goes → (o : Option Asked) → verb_named word ≡ o
-      → line_by n formats line_at (behind_verb formats o) ≡ Accepted command
-      → Found n formats Verb (word ∷ words) (verbs_by Verb verbs_at (behind_verb formats o)) command
+      → line_by n formats line_at (after_verb formats o) ≡ Accepted command
+      → Found n formats Verb (word ∷ words) (verbs_by Verb verbs_at (after_verb formats o)) command
   found-verb go (Some asked) named is =
       let f = go (Options asked) tt is in
       record {
@@ -232,8 +232,8 @@ found [] n formats (Options asked) command past is = found-stop n formats asked 
 found [] n formats (Argument asked option) command past is = refused-not (n + 1) command is
 found (word ∷ words) n formats Flags command past is = absurd past
 found (word ∷ words) n formats Verb command past is =
-    found-verb n formats word words command (λ at behind. found words (n + 1) formats at command behind) (verb_named word) refl is
+    found-verb n formats word words command (λ at following. found words (n + 1) formats at command following) (verb_named word) refl is
 found (word ∷ words) n formats (Options asked) command past is =
-    found-option n formats word words command (λ at behind. found words (n + 1) formats at command behind) asked (option_named asked word) refl is
+    found-option n formats word words command (λ at following. found words (n + 1) formats at command following) asked (option_named asked word) refl is
 found (word ∷ words) n formats (Argument asked option) command past is =
-    found-argument n formats word words command (λ at behind. found words (n + 1) formats at command behind) asked option (with_option asked option (n + 1) word) refl is
+    found-argument n formats word words command (λ at following. found words (n + 1) formats at command following) asked option (with_option asked option (n + 1) word) refl is

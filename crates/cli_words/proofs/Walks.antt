@@ -17,9 +17,9 @@ use Rattle.cli_words.specs.declared.verbs.Asked.{Asked}
 use Rattle.cli_words.specs.declared.verbs.Asked.TheVariants.{Cat, Nothing, Head, Seq}
 use Rattle.cli_words.specs.declared.verbs.VerbOption.{VerbOption}
 use Rattle.cli_words.specs.Flags.{flagged, plain}
-use Rattle.cli_words.specs.Grammar.{IsLine, are_names, behind_then, formats_by, options_in, verb_in, verbs_in}
+use Rattle.cli_words.specs.Grammar.{IsLine, are_names, after_then, formats_by, options_in, verb_in, verbs_in}
 use Rattle.cli_words.specs.Verbs.{first_verb, is_dashed, may_end, option_named, verb_named, with_option}
-use Rattle.cli_words.specs.Walk.{after, asked_from, behind_options, behind_verb, line_from}
+use Rattle.cli_words.specs.Walk.{after, asked_from, after_options, after_verb, line_from}
 use Rattle.cli_words.proofs.Rests.{line_by, verbs_by}
 
 -- the line and the verbs of a walk
@@ -51,9 +51,9 @@ option-step : (n : ℕ) (formats : Formats) (asked next : Asked) (option : VerbO
     → option_named asked word ≡ Some option → with_option asked option (n + 2) argument ≡ Some next
     → walk n formats (Options asked) (word ∷ argument ∷ words) ≡ walk (n + 2) formats (Options next) words
 option-step n formats asked next option word argument words named given =
-    step n formats (Options asked) word (argument ∷ words) (Word formats (Argument asked option)) (ap (λ o. elim o [ Some option ↦ Word formats (Argument asked option) | None ↦ behind_options formats asked word ]) named)
+    step n formats (Options asked) word (argument ∷ words) (Word formats (Argument asked option)) (ap (λ o. elim o [ Some option ↦ Word formats (Argument asked option) | None ↦ after_options formats asked word ]) named)
     ∙ step (n + 1) formats (Argument asked option) argument words (Word formats (Options next))
-    (ap (λ m. behind_verb formats (with_option asked option m argument)) (let e : n + 1 + 1 ≡ n + 2 = omega arith in e) ∙ ap (behind_verb formats) given)
+    (ap (λ m. after_verb formats (with_option asked option m argument)) (let e : n + 1 + 1 ≡ n + 2 = omega arith in e) ∙ ap (after_verb formats) given)
     ∙ ap (λ m. walk m formats (Options next) words) (let e : n + 1 + 1 ≡ n + 2 = omega arith in e)
 
 abbrev OptionsWalk : List (List ℕ) → Type 0
@@ -113,13 +113,13 @@ then-step : (n : ℕ) (formats : Formats) (asked : Asked) (words : List (List �
     → walk n formats (Options asked) (codes "then" ∷ words) ≡ (line_from (n + 1) formats Verb words, asked ∷ asked_from (n + 1) formats Verb words)
 then-step n formats asked words may =
     step n formats (Options asked) (codes "then") words (Word formats Verb)
-    (ap (λ o. elim o [ Some option ↦ Word formats (Argument asked option) | None ↦ behind_options formats asked (codes "then") ]) (not-option-then asked)
+    (ap (λ o. elim o [ Some option ↦ Word formats (Argument asked option) | None ↦ after_options formats asked (codes "then") ]) (not-option-then asked)
     ∙ ap (λ m. if not m || false then Refuse else Word formats Verb) may)
     ∙ ap (λ m. (line_from (n + 1) formats Verb words, (if m then asked ∷ [] else []) ++ asked_from (n + 1) formats Verb words)) may
 
 name-step : (n : ℕ) (formats : Formats) (asked : Asked) (name : List ℕ) (words : List (List ℕ)) → verb_named name ≡ Some asked
     → walk n formats Verb (name ∷ words) ≡ walk (n + 1) formats (Options asked) words
-name-step n formats asked name words named = step n formats Verb name words (Word formats (Options asked)) (ap (behind_verb formats) named)
+name-step n formats asked name words named = step n formats Verb name words (Word formats (Options asked)) (ap (after_verb formats) named)
 
 -- the walk up to a file name
 are-tests : (d t : Bool) → not d && not t ≡ true → (d ≡ false) × (t ≡ false)
@@ -133,7 +133,7 @@ names-walk [] n formats asked may are = ap (λ m. (if m then Accepted (record { 
 names-walk (name ∷ names) n formats asked may are =
     let tests = are-tests (is_dashed name) (bytes_eq name (codes "then")) are in
     step n formats (Options asked) name names Names
-    (ap (λ o. elim o [ Some option ↦ Word formats (Argument asked option) | None ↦ behind_options formats asked name ]) (not-option asked name tests.0)
+    (ap (λ o. elim o [ Some option ↦ Word formats (Argument asked option) | None ↦ after_options formats asked name ]) (not-option asked name tests.0)
     ∙ ap (λ m. if not m || is_dashed name then Refuse else (if bytes_eq name (codes "then") then Word formats Verb else Names)) may
     ∙ ap (λ d. if d then Refuse else (if bytes_eq name (codes "then") then Word formats Verb else Names)) tests.0
     ∙ ap (λ t. if t then Word formats Verb else Names) tests.1)
@@ -142,11 +142,11 @@ names-walk (name ∷ names) n formats asked may are =
 -- the walk over further verbs, and up to a file name
 abbrev OthersWalk : List (List ℕ) → List (List (List ℕ)) → Type 0
 OthersWalk names others = (n : ℕ) (formats : Formats) (asked : Asked) (more : List Asked) → may_end asked ≡ true → verbs_in n others ≡ Some more
-    → walk n formats (Options asked) (behind_then others ++ names) ≡ accepted (n + length (behind_then others)) formats (asked ∷ more)
+    → walk n formats (Options asked) (after_then others ++ names) ≡ accepted (n + length (after_then others)) formats (asked ∷ more)
 
-abbrev options_behind : ℕ → List (List ℕ) → Option Asked → Option Asked
-options_behind n options (Some asked) = options_in n asked options
-options_behind n options None = None
+abbrev options_after : ℕ → List (List ℕ) → Option Asked → Option Asked
+options_after n options (Some asked) = options_in n asked options
+options_after n options None = None
 
 abbrev put-first : Asked → Line × List Asked → Line × List Asked
 put-first asked end = (end.0, asked ∷ end.1)
@@ -154,39 +154,39 @@ put-first asked end = (end.0, asked ∷ end.1)
 module _ (names : List (List ℕ)) (others : List (List (List ℕ))) (go : OthersWalk names others) (n : ℕ) (formats : Formats) (asked : Asked) (more : List Asked) (may : may_end asked ≡ true) where
   -- by the verb that comes next
   others-more : (verb : List (List ℕ)) (a : Asked) (m : ℕ) (o : Option (List Asked)) → may_end a ≡ true → verbs_in m others ≡ o → option_map (λ more. a ∷ more) o ≡ Some more
-      → walk m formats (Options a) (behind_then others ++ names) ≡ accepted (m + length (behind_then others)) formats more
+      → walk m formats (Options a) (after_then others ++ names) ≡ accepted (m + length (after_then others)) formats more
   others-more verb a m None may_a others_are is = none-some more is
   others-more verb a m (Some rest) may_a others_are is =
-      go m formats a rest may_a others_are ∙ ap (accepted (m + length (behind_then others)) formats) (some-same (a ∷ rest) more is)
+      go m formats a rest may_a others_are ∙ ap (accepted (m + length (after_then others)) formats) (some-same (a ∷ rest) more is)
 
   others-options : (name : List ℕ) (options : List (List ℕ)) (a : Asked) (o : Option Asked) → verb_named name ≡ Some a → options_in (n + 1 + 1) a options ≡ o
       → elim o [ Some b ↦ option_map (λ more. b ∷ more) (verbs_in (n + 1 + length (name ∷ options)) others) | None ↦ None ] ≡ Some more
-      → walk (n + 1) formats Verb (name ∷ options ++ (behind_then others ++ names)) ≡ accepted (n + length (codes "then" ∷ name ∷ options) + length (behind_then others)) formats more
+      → walk (n + 1) formats Verb (name ∷ options ++ (after_then others ++ names)) ≡ accepted (n + length (codes "then" ∷ name ∷ options) + length (after_then others)) formats more
   others-options name options a None named given is = none-some more is
   others-options name options a (Some b) named given is =
-      let over = options-walk options (n + 1 + 1) formats a b (behind_then others ++ names) given in
-      name-step (n + 1) formats a name (options ++ (behind_then others ++ names)) named
+      let over = options-walk options (n + 1 + 1) formats a b (after_then others ++ names) given in
+      name-step (n + 1) formats a name (options ++ (after_then others ++ names)) named
       ∙ over.0
-      ∙ ap (λ m. walk m formats (Options b) (behind_then others ++ names)) (let e : n + 1 + 1 + length options ≡ n + 1 + length (name ∷ options) = omega arith in e)
+      ∙ ap (λ m. walk m formats (Options b) (after_then others ++ names)) (let e : n + 1 + 1 + length options ≡ n + 1 + length (name ∷ options) = omega arith in e)
       ∙ others-more (name ∷ options) b (n + 1 + length (name ∷ options)) (verbs_in (n + 1 + length (name ∷ options)) others) over.1 refl is
-      ∙ ap (λ m. accepted m formats more) (let e : n + 1 + length (name ∷ options) + length (behind_then others) ≡ n + length (codes "then" ∷ name ∷ options) + length (behind_then others) = omega arith in e)
+      ∙ ap (λ m. accepted m formats more) (let e : n + 1 + length (name ∷ options) + length (after_then others) ≡ n + length (codes "then" ∷ name ∷ options) + length (after_then others) = omega arith in e)
 
   others-name : (name : List ℕ) (options : List (List ℕ)) (o : Option Asked) → verb_named name ≡ o
-      → elim (options_behind (n + 1 + 1) options o) [ Some b ↦ option_map (λ more. b ∷ more) (verbs_in (n + 1 + length (name ∷ options)) others) | None ↦ None ] ≡ Some more
-      → walk (n + 1) formats Verb (name ∷ options ++ (behind_then others ++ names)) ≡ accepted (n + length (codes "then" ∷ name ∷ options) + length (behind_then others)) formats more
+      → elim (options_after (n + 1 + 1) options o) [ Some b ↦ option_map (λ more. b ∷ more) (verbs_in (n + 1 + length (name ∷ options)) others) | None ↦ None ] ≡ Some more
+      → walk (n + 1) formats Verb (name ∷ options ++ (after_then others ++ names)) ≡ accepted (n + length (codes "then" ∷ name ∷ options) + length (after_then others)) formats more
   others-name name options None named is = none-some more is
   others-name name options (Some a) named is = others-options name options a (options_in (n + 1 + 1) a options) named refl is
 
   others-verb : (verb : List (List ℕ)) → verbs_in n (verb ∷ others) ≡ Some more
-      → walk n formats (Options asked) (behind_then (verb ∷ others) ++ names) ≡ accepted (n + length (behind_then (verb ∷ others))) formats (asked ∷ more)
+      → walk n formats (Options asked) (after_then (verb ∷ others) ++ names) ≡ accepted (n + length (after_then (verb ∷ others))) formats (asked ∷ more)
   others-verb [] is = none-some more is
   others-verb (name ∷ options) is =
-      ap (walk n formats (Options asked)) (append_assoc (codes "then" ∷ name ∷ options) (behind_then others) names)
-      ∙ then-step n formats asked (name ∷ options ++ (behind_then others ++ names)) may
+      ap (walk n formats (Options asked)) (append_assoc (codes "then" ∷ name ∷ options) (after_then others) names)
+      ∙ then-step n formats asked (name ∷ options ++ (after_then others ++ names)) may
       ∙ ap (put-first asked) (others-name name options (verb_named name) refl is)
       ∙ ap (λ m. accepted m formats (asked ∷ more))
-      (let l = length-append (codes "then" ∷ name ∷ options) (behind_then others) in
-      let e : n + length (codes "then" ∷ name ∷ options) + length (behind_then others) ≡ n + length (behind_then ((name ∷ options) ∷ others)) = omega (arith, l) in e)
+      (let l = length-append (codes "then" ∷ name ∷ options) (after_then others) in
+      let e : n + length (codes "then" ∷ name ∷ options) + length (after_then others) ≡ n + length (after_then ((name ∷ options) ∷ others)) = omega (arith, l) in e)
 
 pub others-walk : (names : List (List ℕ)) → are_names names ≡ true → (others : List (List (List ℕ))) → OthersWalk names others
 others-walk names are [] n formats asked more may is =
@@ -202,7 +202,7 @@ flags-step : (flags : List (List ℕ)) (n : ℕ) (formats last : Formats) (flag 
     → walk n formats Flags (flag ∷ flags ++ tail) ≡ walk (n + length (flag ∷ flags)) last Flags tail
 flags-step flags n formats last flag tail None go is_flag is = none-some last is
 flags-step flags n formats last flag tail (Some next) go is_flag is =
-    step n formats Flags flag (flags ++ tail) (Word next Flags) (ap (λ o. elim o [ Some next ↦ Word next Flags | None ↦ behind_verb formats (first_verb flag) ]) is_flag)
+    step n formats Flags flag (flags ++ tail) (Word next Flags) (ap (λ o. elim o [ Some next ↦ Word next Flags | None ↦ after_verb formats (first_verb flag) ]) is_flag)
     ∙ go next is
     ∙ ap (λ m. walk m last Flags tail) (let e : n + 1 + length flags ≡ n + length (flag ∷ flags) = omega arith in e)
 
@@ -211,7 +211,7 @@ flags-walk : (flags : List (List ℕ)) (n : ℕ) (formats last : Formats) (tail 
 flags-walk [] n formats last tail is =
     ap (λ f. walk n f Flags tail) (some-same formats last is) ∙ ap (λ m. walk m last Flags tail) (let e : n ≡ n + 0 = omega arith in e)
 flags-walk (flag ∷ flags) n formats last tail is =
-    flags-step flags n formats last flag tail (flagged flag formats) (λ next behind. flags-walk flags (n + 1) next last tail behind) refl is
+    flags-step flags n formats last flag tail (flagged flag formats) (λ next following. flags-walk flags (n + 1) next last tail following) refl is
 
 -- the name of a verb is no flag
 verb-no-flag : (word : List ℕ) (formats : Formats) (name : List ℕ) → bytes_eq word name ≡ true → flagged name formats ≡ None → flagged word formats ≡ None
@@ -237,7 +237,7 @@ first-name : (n : ℕ) (formats : Formats) (asked : Asked) (name : List ℕ) (wo
     → walk n formats Flags (name ∷ words) ≡ walk (n + 1) formats (Options asked) words
 first-name n formats asked name words named =
     step n formats Flags name words (Word formats (Options asked))
-    (ap (λ o. elim o [ Some next ↦ Word next Flags | None ↦ behind_verb formats (first_verb name) ]) (first-no-flag name formats asked named) ∙ ap (behind_verb formats) named)
+    (ap (λ o. elim o [ Some next ↦ Word next Flags | None ↦ after_verb formats (first_verb name) ]) (first-no-flag name formats asked named) ∙ ap (after_verb formats) named)
 
 first-walk : (n : ℕ) (formats : Formats) (name : List ℕ) (options : List (List ℕ)) (verb : Asked) (tail : List (List ℕ)) (o : Option Asked) → first_verb name ≡ o
     → elim o [ Some asked ↦ options_in (n + 1) asked options | None ↦ None ] ≡ Some verb
@@ -257,19 +257,19 @@ verb-walk (name ∷ options) n formats verb tail is = first-walk n formats name 
 
 -- the walk through a command line
 pub line-walk : (words : List (List ℕ)) (formats : Formats) (verbs : List Asked) (names : List (List ℕ)) (line : IsLine words formats verbs names)
-    → walk 0 plain Flags words ≡ accepted (length (line.flags ++ line.first ++ behind_then line.others)) formats verbs
+    → walk 0 plain Flags words ≡ accepted (length (line.flags ++ line.first ++ after_then line.others)) formats verbs
 line-walk words formats verbs names line =
     let flags = line.flags in
     let first = line.first in
     let others = line.others in
-    let over = verb-walk first (length flags) formats line.verb (behind_then others ++ names) line.verb_is in
-    ap (walk 0 plain Flags) (line.words_are ∙ append_assoc (flags ++ first) (behind_then others) names ∙ append_assoc flags first (behind_then others ++ names))
-    ∙ flags-walk flags 0 plain formats (first ++ (behind_then others ++ names)) line.formats_are
-    ∙ ap (λ m. walk m formats Flags (first ++ (behind_then others ++ names))) (let e : 0 + length flags ≡ length flags = omega arith in e)
+    let over = verb-walk first (length flags) formats line.verb (after_then others ++ names) line.verb_is in
+    ap (walk 0 plain Flags) (line.words_are ∙ append_assoc (flags ++ first) (after_then others) names ∙ append_assoc flags first (after_then others ++ names))
+    ∙ flags-walk flags 0 plain formats (first ++ (after_then others ++ names)) line.formats_are
+    ∙ ap (λ m. walk m formats Flags (first ++ (after_then others ++ names))) (let e : 0 + length flags ≡ length flags = omega arith in e)
     ∙ over.0
     ∙ others-walk names line.are_names others (length flags + length first) formats line.verb line.more over.1 line.more_are
-    ∙ ap (λ vs. accepted (length flags + length first + length (behind_then others)) formats vs) (sym line.verbs_are)
+    ∙ ap (λ vs. accepted (length flags + length first + length (after_then others)) formats vs) (sym line.verbs_are)
     ∙ ap (λ m. accepted m formats verbs)
-    (let a = length-append (flags ++ first) (behind_then others) in
+    (let a = length-append (flags ++ first) (after_then others) in
     let b = length-append flags first in
-    let e : length flags + length first + length (behind_then others) ≡ length (flags ++ first ++ behind_then others) = omega (arith, a, b) in e)
+    let e : length flags + length first + length (after_then others) ≡ length (flags ++ first ++ after_then others) = omega (arith, a, b) in e)

@@ -39,8 +39,8 @@ verbs_in n (verb ∷ verbs) = elim (verb_in (n + 1) verb_named verb) [
   | None ↦ None
 ]
 
-abbrev pub behind_then : List (List (List ℕ)) → List (List ℕ)
-behind_then verbs = flat_map (λ verb. codes "then" ∷ verb) verbs
+abbrev pub after_then : List (List (List ℕ)) → List (List ℕ)
+after_then verbs = flat_map (λ verb. codes "then" ∷ verb) verbs
 
 -- file names: the first is neither `then` nor like an option
 abbrev pub are_names : List (List ℕ) → Bool
@@ -52,7 +52,7 @@ pub record IsLine (words : List (List ℕ)) (formats : Formats) (verbs : List As
   pub flags : List (List ℕ)
   pub first : List (List ℕ)
   pub others : List (List (List ℕ))
-  pub words_are : words ≡ flags ++ first ++ behind_then others ++ names
+  pub words_are : words ≡ flags ++ first ++ after_then others ++ names
   pub formats_are : formats_by plain flags ≡ Some formats
   pub verb : Asked
   pub verb_is : verb_in (length flags) first_verb first ≡ Some verb
@@ -63,11 +63,11 @@ pub record IsLine (words : List (List ℕ)) (formats : Formats) (verbs : List As
 
 -- some command line begins with these words
 pub record CanGoOn (words : List (List ℕ)) : Type 0 where
-  pub behind : List (List ℕ)
+  pub following : List (List ℕ)
   pub formats : Formats
   pub verbs : List Asked
   pub names : List (List ℕ)
-  pub is : IsLine (words ++ behind) formats verbs names
+  pub is : IsLine (words ++ following) formats verbs names
 
 -- These words are no command line, and this is the number of the first of them with which none goes on, one past the last
 -- where words lack.

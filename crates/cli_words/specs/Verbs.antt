@@ -2,6 +2,7 @@
 use Rattle.std.specs.Prelude.{ℕ, ℤ, pos, negsuc, ◌^◌, ◌==◌, nat_le, Bool, true, false, not, ◌&&◌, if◌then◌else◌, List, [], ◌∷◌, codes, Option, Some, None}
 use Rattle.std.specs.Option.{option_map}
 use Rattle.std.specs.Str.{bytes_eq}
+use Rattle.mlr_spec.specs.Ascii.{dash}
 use Rattle.mlr_spec.specs.Infer.{are_digits, kind_of, unsigned}
 use Rattle.mlr_spec.specs.declared.infer.Kind.{Kind}
 use Rattle.mlr_spec.specs.declared.infer.Kind.TheVariants.{Int}
@@ -68,4 +69,4 @@ may_end _ = true
 -- a word that would be an option
 abbrev pub is_dashed : List ℕ → Bool
 is_dashed [] = false
-is_dashed (b ∷ word) = b == 45
+is_dashed (b ∷ word) = b == dash

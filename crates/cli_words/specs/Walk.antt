@@ -13,20 +13,20 @@ use Rattle.cli_words.specs.Flags.{flagged, plain}
 use Rattle.cli_words.specs.Verbs.{first_verb, is_dashed, may_end, option_named, verb_named, with_option}
 
 -- what the next word, which has this number, makes of what was read
-abbrev pub behind_verb : Formats → Option Asked → Next
-behind_verb formats (Some asked) = Word formats (Options asked)
-behind_verb formats None = Refuse
+abbrev pub after_verb : Formats → Option Asked → Next
+after_verb formats (Some asked) = Word formats (Options asked)
+after_verb formats None = Refuse
 
-abbrev pub behind_options : Formats → Asked → List ℕ → Next
-behind_options formats asked word =
+abbrev pub after_options : Formats → Asked → List ℕ → Next
+after_options formats asked word =
     if not (may_end asked) || is_dashed word then Refuse else (
     if bytes_eq word (codes "then") then Word formats Verb else Names)
 
 abbrev pub after : ℕ → Formats → Place → List ℕ → Next
-after n formats Flags word = elim (flagged word formats) [ Some next ↦ Word next Flags | None ↦ behind_verb formats (first_verb word) ]
-after n formats Verb word = behind_verb formats (verb_named word)
-after n formats (Options asked) word = elim (option_named asked word) [ Some option ↦ Word formats (Argument asked option) | None ↦ behind_options formats asked word ]
-after n formats (Argument asked option) word = behind_verb formats (with_option asked option n word)
+after n formats Flags word = elim (flagged word formats) [ Some next ↦ Word next Flags | None ↦ after_verb formats (first_verb word) ]
+after n formats Verb word = after_verb formats (verb_named word)
+after n formats (Options asked) word = elim (option_named asked word) [ Some option ↦ Word formats (Argument asked option) | None ↦ after_options formats asked word ]
+after n formats (Argument asked option) word = after_verb formats (with_option asked option n word)
 
 -- whether a command line may end here
 abbrev pub may_stop : Place → Bool

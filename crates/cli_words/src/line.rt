@@ -4,7 +4,7 @@ ghost use Rattle.cli_words.specs.declared.flags.Formats.{Formats as SpecFormats}
 ghost use Rattle.cli_words.specs.declared.line.Line.{Line as SpecLine};
 ghost use Rattle.cli_words.specs.declared.verbs.Asked.{Asked as SpecAsked};
 ghost use Rattle.cli_words.specs.Grammar.{IsLine, IsRefusedAt, Reads, names_of};
-ghost use Rattle.cli_words.specs.Walk.{after, asked, behind_options, behind_verb, ended, may_stop, walked};
+ghost use Rattle.cli_words.specs.Walk.{after, asked, after_options, after_verb, ended, may_stop, walked};
 
 use crate::flags::{Formats, flagged, plain};
 use crate::verbs::{
@@ -56,8 +56,8 @@ enum Next {
 }
 
 /// Behind a verb, if there is one, its options may come.
-fn behind_verb(formats: Formats, asked: Option<Asked>) -> Next
-    ensures { result ≡ behind_verb formats asked }
+fn after_verb(formats: Formats, asked: Option<Asked>) -> Next
+    ensures { result ≡ after_verb formats asked }
 {
     match asked {
         Some(asked) => Next::Word(formats, Place::Options(asked)),
@@ -66,8 +66,8 @@ fn behind_verb(formats: Formats, asked: Option<Asked>) -> Next
 }
 
 /// What a word makes of a verb where it is none of its options.
-fn behind_options(alloc: Global, formats: Formats, asked: Asked, word: &[u8]) -> Next
-    ensures { result ≡ behind_options formats asked word.now }
+fn after_options(alloc: Global, formats: Formats, asked: Asked, word: &[u8]) -> Next
+    ensures { result ≡ after_options formats asked word.now }
 {
     if !may_end(alloc, asked) || is_dashed(word) {
         Next::Refuse
@@ -85,15 +85,15 @@ fn after(alloc: Global, number: usize, formats: Formats, place: Place, word: &[u
     match place {
         Place::Flags => match flagged(word, formats) {
             Some(next) => Next::Word(next, Place::Flags),
-            None => behind_verb(formats, first_verb(word)),
+            None => after_verb(formats, first_verb(word)),
         },
-        Place::Verb => behind_verb(formats, verb_named(word)),
+        Place::Verb => after_verb(formats, verb_named(word)),
         Place::Options(asked) => match option_named(asked, word) {
             Some(option) => Next::Word(formats, Place::Argument(asked, option)),
-            None => behind_options(alloc, formats, asked, word),
+            None => after_options(alloc, formats, asked, word),
         },
         Place::Argument(asked, option) => {
-            behind_verb(formats, with_option(asked, option, number, word))
+            after_verb(formats, with_option(asked, option, number, word))
         }
     }
 }
@@ -147,7 +147,9 @@ fn walk(alloc: Global, words: &[Bytes]) -> Line
 /// The verbs of a command line in their order. It takes memory for the list alone. What it gives of words that are refused
 /// is open.
 pub fn verbs_of(alloc: Global, words: &[Bytes]) -> Result<Vec<Asked>, NoMemory>
-    ensures { IfOk result (λ verbs. (formats : SpecFormats) (all : List SpecAsked) (names : List (List ℕ)) → IsLine words.now formats all names → verbs.items ≡ all) }
+    ensures { IfOk result (λ verbs. (formats : SpecFormats) (all : List SpecAsked)
+        (names : List (List ℕ))
+        → IsLine words.now formats all names → verbs.items ≡ all) }
 {
     asked(alloc, words)
 }
@@ -201,8 +203,11 @@ pub fn names_of(words: &[Bytes], command: Command) -> &[Bytes]
 /// Laws of the grammar: a command line has one reading, words are refused at one place, and all words are the one or the
 /// other.
 pub fn grammar_laws()
-    ensures one { (words : List (List ℕ)) (formats other : SpecFormats) (verbs more : List SpecAsked) (names rest : List (List ℕ)) → IsLine words formats verbs names → IsLine words other more rest
-        → (formats ≡ other) × (verbs ≡ more) × (names ≡ rest) }
-    ensures place { (words : List (List ℕ)) (number other : ℕ) → IsRefusedAt words number → IsRefusedAt words other → number ≡ other }
+    ensures one { (words : List (List ℕ)) (formats other : SpecFormats)
+        (verbs more : List SpecAsked) (names rest : List (List ℕ))
+        → IsLine words formats verbs names → IsLine words other more rest → (formats ≡ other)
+        × (verbs ≡ more) × (names ≡ rest) }
+    ensures place { (words : List (List ℕ)) (number other : ℕ) → IsRefusedAt words number
+        → IsRefusedAt words other → number ≡ other }
     ensures some { (words : List (List ℕ)) → (line : SpecLine) × Reads words line }
 {}

@@ -201,7 +201,13 @@ pub(crate) fn may_end(alloc: Global, asked: Asked) -> bool
 
 /// The options of `seqgen` with the name of their field. It takes no memory.
 pub fn numbers_of(field: Bytes, numbers: Numbers) -> SeqSpec
-    ensures { result ≡ (record { field = field; start = numbers.start; stop = numbers.stop; step = numbers.step }) }
+    ensures { result ≡ (record {
+      field = field;
+      start = numbers.start;
+      stop = numbers.stop;
+      step =
+          numbers.step;
+    }) }
 {
     SeqSpec {
         field,

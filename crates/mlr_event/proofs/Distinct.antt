@@ -11,7 +11,7 @@ use Rattle.std.proofs.lemmas.Fmt.{decimal_injective}
 use Rattle.std.proofs.lemmas.Slice.Eq.{bytes_eq-Decides}
 use Rattle.mlr_spec.proofs.Splitting.{cases_Option}
 use Rattle.mlr_spec.specs.Pairs.{are_distinct}
-use Rattle.mlr_event.specs.Reading.{suffixed, is_among, first_free, free_name, distinct_behind, distinct_names}
+use Rattle.mlr_event.specs.Reading.{suffixed, is_among, first_free, free_name, distinct_after, distinct_names}
 
 pub bytes_eq-swap : (a b : List ℕ) → bytes_eq a b ≡ bytes_eq b a
 bytes_eq-swap a b =
@@ -156,19 +156,19 @@ distinct-last (n ∷ names) name distinct free =
     (ap not (list_any-append (bytes_eq n) names (name ∷ []) ∙ ap₂ (λ a b. a || (b || false)) (not-true (list_any (bytes_eq n) names) parts.0) (bytes_eq-swap n name ∙ apart.0)))
     (distinct-last names name parts.1 apart.1)
 
-distinct-behind : (before names : List (List ℕ)) → length before + length names < 2 ^ 63 → are_distinct before ≡ true → are_distinct (before ++ distinct_behind before names) ≡ true
-distinct-behind before [] few distinct = ap are_distinct (append-nil before) ∙ distinct
-distinct-behind before (name ∷ names) few distinct =
+distinct-following : (before names : List (List ℕ)) → length before + length names < 2 ^ 63 → are_distinct before ≡ true → are_distinct (before ++ distinct_after before names) ≡ true
+distinct-following before [] few distinct = ap are_distinct (append-nil before) ∙ distinct
+distinct-following before (name ∷ names) few distinct =
     let free = free_name before name in
-    let front = before ++ free ∷ [] in
-    ap are_distinct (sym (append_assoc before (free ∷ []) (distinct_behind front names)))
-    ∙ distinct-behind front names (omega (arith, length-append before (free ∷ []))) (distinct-last before free distinct (free_name-free before name (omega arith)))
+    let prefix = before ++ free ∷ [] in
+    ap are_distinct (sym (append_assoc before (free ∷ []) (distinct_after prefix names)))
+    ∙ distinct-following prefix names (omega (arith, length-append before (free ∷ []))) (distinct-last before free distinct (free_name-free before name (omega arith)))
 
 -- Names that were made distinct are.
 pub are_distinct-names : (names : List (List ℕ)) → length names < 2 ^ 63 → are_distinct (distinct_names names) ≡ true
-are_distinct-names names few = distinct-behind [] names (omega arith) refl
+are_distinct-names names few = distinct-following [] names (omega arith) refl
 
 -- as many distinct names as names
-pub length-distinct : (before names : List (List ℕ)) → length (distinct_behind before names) ≡ length names
+pub length-distinct : (before names : List (List ℕ)) → length (distinct_after before names) ≡ length names
 length-distinct before [] = refl
 length-distinct before (name ∷ names) = ap suc (length-distinct (before ++ free_name before name ∷ []) names)

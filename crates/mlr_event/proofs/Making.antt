@@ -7,7 +7,7 @@ use Rattle.std.proofs.lemmas.List.Elements.{filter-append}
 use Rattle.std.proofs.lemmas.List.Folds.{list_any-append}
 use Rattle.mlr_event.specs.declared.event.Event.{Event}
 use Rattle.mlr_event.specs.declared.event.Event.TheVariants as event
-use Rattle.mlr_event.specs.Verb.{IsQuiet, Verb, gives, is_fault, is_last, is_open, is_record, made, made_behind, others, then_unless_fault}
+use Rattle.mlr_event.specs.Verb.{IsQuiet, Verb, gives, is_fault, is_last, is_open, is_record, made, made_after, others, then_unless_fault}
 
 -- without a fault, more comes behind
 pub no-fault : (xs ys : List Event) → list_any is_fault xs ≡ false → then_unless_fault xs ys ≡ xs ++ ys
@@ -40,27 +40,27 @@ then-assoc xs ys zs = elim (cases_Bool (list_any is_fault xs)) as (λ _. then_un
         ]
 
 module _ (verb : Verb) where
-  made-append : (before xs ys : List Event) → made_behind verb before (xs ++ ys) ≡ then_unless_fault (made_behind verb before xs) (made_behind verb (before ++ xs) ys)
-  made-append before [] ys = ap (λ b. made_behind verb b ys) (sym (append-nil before))
+  made-append : (before xs ys : List Event) → made_after verb before (xs ++ ys) ≡ then_unless_fault (made_after verb before xs) (made_after verb (before ++ xs) ys)
+  made-append before [] ys = ap (λ b. made_after verb b ys) (sym (append-nil before))
   made-append before (x ∷ xs) ys =
       ap (then_unless_fault (gives verb before x)) (made-append (before ++ x ∷ []) xs ys)
-      ∙ then-assoc (gives verb before x) (made_behind verb (before ++ x ∷ []) xs) (made_behind verb ((before ++ x ∷ []) ++ xs) ys)
-      ∙ ap (λ b. then_unless_fault (made_behind verb before (x ∷ xs)) (made_behind verb b ys)) (append_assoc before (x ∷ []) xs)
+      ∙ then-assoc (gives verb before x) (made_after verb (before ++ x ∷ []) xs) (made_after verb ((before ++ x ∷ []) ++ xs) ys)
+      ∙ ap (λ b. then_unless_fault (made_after verb before (x ∷ xs)) (made_after verb b ys)) (append_assoc before (x ∷ []) xs)
 
   -- more events
-  pub made-behind : (events behind : List Event) → made verb (events ++ behind) ≡ then_unless_fault (made verb events) (made_behind verb events behind)
-  made-behind events behind =
-      ap (then_unless_fault verb.first) (made-append [] events behind) ∙ then-assoc verb.first (made_behind verb [] events) (made_behind verb events behind)
+  pub made-following : (events following : List Event) → made verb (events ++ following) ≡ then_unless_fault (made verb events) (made_after verb events following)
+  made-following events following =
+      ap (then_unless_fault verb.first) (made-append [] events following) ∙ then-assoc verb.first (made_after verb [] events) (made_after verb events following)
 
-  pub made-grows : (events behind : List Event) → (more : List Event) × (made verb (events ++ behind) ≡ made verb events ++ more)
-  made-grows events behind = elim (cases_Bool (list_any is_fault (made verb events))) [
-    | inl some ↦ ([], made-behind events behind ∙ ap (λ t. cond t (made verb events) (made verb events ++ made_behind verb events behind)) some ∙ sym (append-nil (made verb events)))
-    | inr none ↦ (made_behind verb events behind, made-behind events behind ∙ no-fault (made verb events) (made_behind verb events behind) none)
+  pub made-grows : (events following : List Event) → (more : List Event) × (made verb (events ++ following) ≡ made verb events ++ more)
+  made-grows events following = elim (cases_Bool (list_any is_fault (made verb events))) [
+    | inl some ↦ ([], made-following events following ∙ ap (λ t. cond t (made verb events) (made verb events ++ made_after verb events following)) some ∙ sym (append-nil (made verb events)))
+    | inr none ↦ (made_after verb events following, made-following events following ∙ no-fault (made verb events) (made_after verb events following) none)
   ]
 
   pub made-more : (events : List Event) (e : Event) → list_any is_fault (made verb events) ≡ false → made verb (events ++ e ∷ []) ≡ made verb events ++ gives verb events e
   made-more events e none =
-      made-behind events (e ∷ []) ∙ no-fault (made verb events) (made_behind verb events (e ∷ [])) none ∙ ap (λ t. made verb events ++ t) (then-nothing (gives verb events e))
+      made-following events (e ∷ []) ∙ no-fault (made verb events) (made_after verb events (e ∷ [])) none ∙ ap (λ t. made verb events ++ t) (then-nothing (gives verb events e))
 
 abbrev other : Event → Bool
 other e = not (is_record e)
@@ -102,27 +102,27 @@ module _ (verb : Verb) (quiet : IsQuiet verb) (none : verb.effects ≡ false) wh
   gives-fault before (event.End ctx) open_is = absurd (let e : true ≡ false = open_is in cc)
   gives-fault before (event.Fault fault) open_is = absurd (let e : true ≡ false = open_is in cc)
 
-  made-open : (before events : List Event) → list_any is_last events ≡ false → (list_any is_fault (made_behind verb before events) ≡ false) × (others (made_behind verb before events) ≡ others events)
+  made-open : (before events : List Event) → list_any is_last events ≡ false → (list_any is_fault (made_after verb before events) ≡ false) × (others (made_after verb before events) ≡ others events)
   made-open before [] open_is = (refl, refl)
   made-open before (e ∷ events) open_is =
       let parts = or_parts (is_last e) (list_any is_last events) open_is in
       let g = gives verb before e in
-      let m = made_behind verb (before ++ e ∷ []) events in
+      let m = made_after verb (before ++ e ∷ []) events in
       let later = made-open (before ++ e ∷ []) events parts.1 in
       let clean : list_any is_fault g ≡ false = gives-fault before e parts.0 in
-      let whole : made_behind verb before (e ∷ events) ≡ g ++ m = no-fault g m clean in (
+      let whole : made_after verb before (e ∷ events) ≡ g ++ m = no-fault g m clean in (
         ap (list_any is_fault) whole ∙ list_any-append is_fault g m ∙ ap₂ (λ a b. a || b) clean later.0,
         ap others whole ∙ filter-append other g m ∙ ap₂ (λ a b. a ++ b) (gives-others before e) later.1 ∙ sym (filter-append other (e ∷ []) events),
       )
 
   made-so-far : (events : List Event) → is_open events ≡ true → (list_any is_fault (made verb events) ≡ false) × (others (made verb events) ≡ others events)
   made-so-far events open_is =
-      let behind = made_behind verb [] events in
+      let following = made_after verb [] events in
       let so_far = made-open [] events (not-true (list_any is_last events) open_is) in
       let clean : list_any is_fault verb.first ≡ false = records-fault verb.first (quiet none).first in
-      let whole : made verb events ≡ verb.first ++ behind = no-fault verb.first behind clean in (
-        ap (list_any is_fault) whole ∙ list_any-append is_fault verb.first behind ∙ ap₂ (λ a b. a || b) clean so_far.0,
-        ap others whole ∙ filter-append other verb.first behind ∙ ap₂ (λ a b. a ++ b) (records-others verb.first (quiet none).first) so_far.1,
+      let whole : made verb events ≡ verb.first ++ following = no-fault verb.first following clean in (
+        ap (list_any is_fault) whole ∙ list_any-append is_fault verb.first following ∙ ap₂ (λ a b. a || b) clean so_far.0,
+        ap others whole ∙ filter-append other verb.first following ∙ ap₂ (λ a b. a ++ b) (records-others verb.first (quiet none).first) so_far.1,
       )
 
   -- an event adds what it gives

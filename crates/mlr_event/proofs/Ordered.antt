@@ -4,7 +4,7 @@ use Rattle.std.specs.List.{list_any, list_all}
 use Rattle.std.proofs.lemmas.Bool.{and_parts, cases_Bool, not-true, or_parts}
 use Rattle.mlr_event.specs.declared.event.Event.{Event}
 use Rattle.mlr_event.specs.declared.event.Event.TheVariants as event
-use Rattle.mlr_event.specs.Verb.{KeepsOrder, Verb, gives, is_end, is_fault, is_last, is_list, is_open, is_part, is_record, made, made_behind, then_unless_fault}
+use Rattle.mlr_event.specs.Verb.{KeepsOrder, Verb, gives, is_end, is_fault, is_last, is_list, is_open, is_part, is_record, made, made_after, then_unless_fault}
 use Rattle.mlr_event.proofs.Making.{no-fault, then-nothing}
 
 -- a list that ends in one event more is open before it
@@ -52,9 +52,9 @@ part-then xs ys part list =
         ap₂ (λ a b. not (a || b)) (last-is x ∙ ap₂ (λ a b. a || b) e.0 f.0) (not-true (list_any is_last xs) (neither xs e.1 f.1))
 
 module _ (verb : Verb) (order : KeepsOrder verb) where
-  behind-list : (before events : List Event) → is_list events ≡ true → is_list (made_behind verb before events) ≡ true
-  behind-list before [] list = refl
-  behind-list before (e ∷ []) list = ap is_list (then-nothing (gives verb before e)) ∙ alone e
+  following-list : (before events : List Event) → is_list events ≡ true → is_list (made_after verb before events) ≡ true
+  following-list before [] list = refl
+  following-list before (e ∷ []) list = ap is_list (then-nothing (gives verb before e)) ∙ alone e
     where
       alone : (e : Event) → is_list (gives verb before e) ≡ true
       alone (event.Rec fields ctx) = (and_parts (not (list_any is_end (verb.now before fields ctx))) (is_list (verb.now before fields ctx)) (order.now before fields ctx)).1
@@ -62,9 +62,9 @@ module _ (verb : Verb) (order : KeepsOrder verb) where
       alone (event.Out target piece) = refl
       alone (event.End ctx) = part-then (verb.late before ctx) (event.End ctx ∷ []) (order.late before ctx) refl
       alone (event.Fault fault) = refl
-  behind-list before (e ∷ f ∷ events) list =
+  following-list before (e ∷ f ∷ events) list =
       let parts = and_parts (not (is_last e)) (is_list (f ∷ events)) list in
-      part-then (gives verb before e) (made_behind verb (before ++ e ∷ []) (f ∷ events)) (inner e (not-true (is_last e) parts.0)) (behind-list (before ++ e ∷ []) (f ∷ events) parts.1)
+      part-then (gives verb before e) (made_after verb (before ++ e ∷ []) (f ∷ events)) (inner e (not-true (is_last e) parts.0)) (following-list (before ++ e ∷ []) (f ∷ events) parts.1)
     where
       inner : (e : Event) → is_last e ≡ false → is_part (gives verb before e) ≡ true
       inner (event.Rec fields ctx) is = order.now before fields ctx
@@ -74,4 +74,4 @@ module _ (verb : Verb) (order : KeepsOrder verb) where
       inner (event.Fault fault) is = absurd (let e : true ≡ false = is in cc)
 
   pub made-list : (events : List Event) → is_list events ≡ true → is_list (made verb events) ≡ true
-  made-list events list = part-then verb.first (made_behind verb [] events) order.first (behind-list [] events list)
+  made-list events list = part-then verb.first (made_after verb [] events) order.first (following-list [] events list)

@@ -9,7 +9,7 @@ use Rattle.std.proofs.lemmas.List.{append-nil, map-append, length-map}
 use Rattle.mlr_spec.specs.Tree.{Tree}
 use Rattle.mlr_spec.specs.Pairs.{value_at, place_at, keys_of, are_distinct}
 use Rattle.mlr_spec.proofs.Pairs.{are_distinct-twice}
-use Rattle.mlr_event.specs.Reading.{is_among, free_name, distinct_behind, record_of}
+use Rattle.mlr_event.specs.Reading.{is_among, free_name, distinct_after, record_of}
 use Rattle.mlr_event.specs.Rows.{with_field, with_fields}
 use Rattle.mlr_event.proofs.Distinct.{bytes_eq-swap}
 
@@ -59,8 +59,8 @@ pub with_fields-more : (dedupe : Bool) (pairs : List (List ℕ × Tree)) (name :
 with_fields-more false pairs name names value values = refl
 with_fields-more true pairs name names value values =
     let free = free_name (keys_of pairs) name in
-    append_assoc pairs ((free, value) ∷ []) (zip (distinct_behind (keys_of (pairs ++ (free, value) ∷ [])) names) values)
-    ∙ ap (λ keys. pairs ++ (free, value) ∷ zip (distinct_behind keys names) values) (map-append (λ pair. pair.0) pairs ((free, value) ∷ []))
+    append_assoc pairs ((free, value) ∷ []) (zip (distinct_after (keys_of (pairs ++ (free, value) ∷ [])) names) values)
+    ∙ ap (λ keys. pairs ++ (free, value) ∷ zip (distinct_after keys names) values) (map-append (λ pair. pair.0) pairs ((free, value) ∷ []))
 
 pub record_of-is : (dedupe : Bool) (names : List (List ℕ)) (values : List Tree) → record_of dedupe names values ≡ with_fields dedupe [] names values
 record_of-is true names values = refl

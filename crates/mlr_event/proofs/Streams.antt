@@ -5,15 +5,15 @@ use Rattle.mlr_event.specs.declared.event.Event.TheVariants as event
 use Rattle.mlr_event.specs.declared.options.Comments.{Comments}
 use Rattle.mlr_event.specs.declared.options.Comments.TheVariants.{Keep, Skip, Pass}
 use Rattle.mlr_event.specs.Reading.{Item, comment, fields, fault, events_of, ctx_after, next, comment_items}
-use Rattle.mlr_event.specs.Stream.{has_fault, events_behind, ctx_behind}
+use Rattle.mlr_event.specs.Stream.{has_fault, events_after, ctx_after_events}
 
-pub events_of-append : (at : Ctx) (items more : List Item) → events_of at (items ++ more) ≡ events_of at items ++ events_behind (has_fault items) (ctx_after at items) more
+pub events_of-append : (at : Ctx) (items more : List Item) → events_of at (items ++ more) ≡ events_of at items ++ events_after (has_fault items) (ctx_after at items) more
 events_of-append at [] more = refl
 events_of-append at (comment text ∷ items) more = ap (λ events. event.Text text ∷ events) (events_of-append at items more)
 events_of-append at (fields pairs ∷ items) more = ap (λ events. event.Rec pairs (next at) ∷ events) (events_of-append (next at) items more)
 events_of-append at (fault f ∷ items) more = refl
 
-pub ctx_after-append : (at : Ctx) (items more : List Item) → ctx_after at (items ++ more) ≡ ctx_behind (has_fault items) (ctx_after at items) more
+pub ctx_after-append : (at : Ctx) (items more : List Item) → ctx_after at (items ++ more) ≡ ctx_after_events (has_fault items) (ctx_after at items) more
 ctx_after-append at [] more = refl
 ctx_after-append at (comment text ∷ items) more = ctx_after-append at items more
 ctx_after-append at (fields pairs ∷ items) more = ctx_after-append (next at) items more

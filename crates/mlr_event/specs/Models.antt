@@ -20,7 +20,7 @@ pub cat-orderly : KeepsOrder cat
 cat-orderly = record { first = refl; now = λ before fields ctx. refl; late = λ before ctx. refl }
 
 pub cat-closes : StaysClosed cat
-cat-closes before behind is = absurd (let e : false ≡ true = is in cc)
+cat-closes before following is = absurd (let e : false ≡ true = is in cc)
 
 pub cat-gives : (before : List Event) (e : Event) → gives cat before e ≡ e ∷ []
 cat-gives before (event.Rec fields ctx) = refl
@@ -60,8 +60,8 @@ tac_gives held (event.End ctx) = last_first held ++ event.End ctx ∷ []
 tac_gives held (event.Fault fault) = event.Fault fault ∷ []
 
 -- while more may come, it holds back all records
-abbrev pub TacStands : Bool → List Row → List Event → Type 0
-TacStands broken held given = (broken ≡ false) × (is_open given ≡ true → held ≡ flat_map row_of given)
+abbrev pub TacRepresents : Bool → List Row → List Event → Type 0
+TacRepresents broken held given = (broken ≡ false) × (is_open given ≡ true → held ≡ flat_map row_of given)
 
 pub records-alone : (rows : List Row) → list_all is_record (last_first rows) ≡ true
 records-alone [] = refl
@@ -74,4 +74,4 @@ pub tac-orderly : KeepsOrder tac
 tac-orderly = record { first = refl; now = λ before fields ctx. refl; late = λ before ctx. records-part (last_first (flat_map row_of before)) (records-alone (flat_map row_of before)) }
 
 pub tac-closes : StaysClosed tac
-tac-closes before behind is = absurd (let e : false ≡ true = is in cc)
+tac-closes before following is = absurd (let e : false ≡ true = is in cc)

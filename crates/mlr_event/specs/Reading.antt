@@ -3,6 +3,7 @@ use Rattle.std.specs.Prelude.{ℕ, ◌+◌, Bool, true, false, not, if◌then◌
 use Rattle.std.specs.List.{list_any, find, range_with_len, zip}
 use Rattle.std.specs.Str.{bytes_eq}
 use Rattle.std.specs.Fmt.{decimal}
+use Rattle.mlr_spec.specs.Ascii.{line_feed, underscore}
 use Rattle.mlr_spec.specs.Tree.{Tree}
 use Rattle.mlr_spec.specs.Pairs.{put_each}
 use Rattle.mlr_spec.specs.Split.{begins_with}
@@ -46,12 +47,12 @@ is_comment (Pass prefix) line = begins_with prefix line
 abbrev pub comment_items : Comments → List ℕ → List Item
 comment_items Keep line = []
 comment_items (Skip prefix) line = []
-comment_items (Pass prefix) line = comment (line ++ 10 ∷ []) ∷ []
+comment_items (Pass prefix) line = comment (line ++ line_feed ∷ []) ∷ []
 
 -- a name that is there gets the suffix `_k`, with the least k from 2 up that makes a name that isn't there; one of the
 -- first numbers does, since there are more of them than names
 abbrev pub suffixed : List ℕ → ℕ → List ℕ
-suffixed name k = name ++ 95 ∷ decimal k
+suffixed name k = name ++ underscore ∷ decimal k
 
 abbrev pub is_among : List (List ℕ) → List ℕ → Bool
 is_among names name = list_any (bytes_eq name) names
@@ -64,12 +65,12 @@ free_name names name =
     if is_among names name then elim (first_free names name) [ Some k ↦ suffixed name k | None ↦ name ] else name
 
 -- names in a row, each made distinct from those before it
-abbrev pub distinct_behind : List (List ℕ) → List (List ℕ) → List (List ℕ)
-distinct_behind before [] = []
-distinct_behind before (name ∷ names) = free_name before name ∷ distinct_behind (before ++ free_name before name ∷ []) names
+abbrev pub distinct_after : List (List ℕ) → List (List ℕ) → List (List ℕ)
+distinct_after before [] = []
+distinct_after before (name ∷ names) = free_name before name ∷ distinct_after (before ++ free_name before name ∷ []) names
 
 abbrev pub distinct_names : List (List ℕ) → List (List ℕ)
-distinct_names names = distinct_behind [] names
+distinct_names names = distinct_after [] names
 
 -- the record of these names and values: names that repeat are made distinct, or the last value stands at the first place
 abbrev pub record_of : Bool → List (List ℕ) → List Tree → List (List ℕ × Tree)

@@ -12,8 +12,8 @@ has_fault (fields pairs ∷ items) = has_fault items
 has_fault (fault f ∷ items) = true
 
 -- what more items give, and the context behind them, where a fault has come or not
-abbrev pub events_behind : Bool → Ctx → List Item → List Event
-events_behind stopped at items = if stopped then [] else events_of at items
+abbrev pub events_after : Bool → Ctx → List Item → List Event
+events_after stopped at items = if stopped then [] else events_of at items
 
-abbrev pub ctx_behind : Bool → Ctx → List Item → Ctx
-ctx_behind stopped at items = if stopped then at else ctx_after at items
+abbrev pub ctx_after_events : Bool → Ctx → List Item → Ctx
+ctx_after_events stopped at items = if stopped then at else ctx_after at items

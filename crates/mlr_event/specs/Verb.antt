@@ -70,13 +70,13 @@ gives verb before (event.End ctx) = then_unless_fault (verb.late before ctx) (ev
 gives verb before (event.Fault fault) = event.Fault fault ∷ []
 
 -- what events give one after another, behind others
-abbrev pub made_behind : Verb → List Event → List Event → List Event
-made_behind verb before [] = []
-made_behind verb before (e ∷ events) = then_unless_fault (gives verb before e) (made_behind verb (before ++ e ∷ []) events)
+abbrev pub made_after : Verb → List Event → List Event → List Event
+made_after verb before [] = []
+made_after verb before (e ∷ events) = then_unless_fault (gives verb before e) (made_after verb (before ++ e ∷ []) events)
 
 -- what a verb makes of a list of events
 abbrev pub made : Verb → List Event → List Event
-made verb events = then_unless_fault verb.first (made_behind verb [] events)
+made verb events = then_unless_fault verb.first (made_after verb [] events)
 
 -- a verb without effects gives records alone
 pub record GivesRecords (verb : Verb) : Type 0 where
@@ -95,8 +95,8 @@ pub record KeepsOrder (verb : Verb) : Type 0 where
 
 -- a verb that is closed gives nothing more
 abbrev pub StaysClosed : Verb → Type 0
-StaysClosed verb = (before behind : List Event) → verb.closed before ≡ true →
-    ((fields : List (List ℕ × Tree)) (ctx : Ctx) → verb.now (before ++ behind) fields ctx ≡ []) × ((ctx : Ctx) → verb.late (before ++ behind) ctx ≡ [])
+StaysClosed verb = (before following : List Event) → verb.closed before ≡ true →
+    ((fields : List (List ℕ × Tree)) (ctx : Ctx) → verb.now (before ++ following) fields ctx ≡ []) × ((ctx : Ctx) → verb.late (before ++ following) ctx ≡ [])
 
 -- the texts, pieces and faults, and the end
 abbrev pub others : List Event → List Event

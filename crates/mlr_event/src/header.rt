@@ -32,7 +32,8 @@ impl Model for Header {
 
     ghost view = { λ header. header.names.items };
 
-    ghost invariant = { λ header. (header.keys.items ≡ distinct_names header.names.items) × (length header.names.items < 2 ^ 62) };
+    ghost invariant = { λ header. (header.keys.items ≡ distinct_names header.names.items)
+        × (length header.names.items < 2 ^ 62) };
 }
 
 /// More fields than any memory holds.

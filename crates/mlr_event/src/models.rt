@@ -18,7 +18,7 @@ pub struct Cat {
 impl Cat {
     /// A verb that was given nothing. It takes no memory.
     pub fn new() -> Self
-        ensures { ⟦<Cat as Step>⟧.stands result [] }
+        ensures { ⟦<Cat as Step>⟧.represents result [] }
     {
         Cat { broken: false }
     }
@@ -31,7 +31,7 @@ impl Step for Cat {
 
     ghost verb = { λ s. cat };
 
-    ghost stands = { λ s given. s.broken ≡ false };
+    ghost represents = { λ s given. s.broken ≡ false };
 
     ghost broken = { λ s. s.broken ≡ true };
 
@@ -74,7 +74,7 @@ pub struct Tac {
 impl Tac {
     /// A verb that was given nothing. It takes no memory.
     pub fn new(alloc: Global) -> Self
-        ensures { ⟦<Tac as Step>⟧.stands result [] }
+        ensures { ⟦<Tac as Step>⟧.represents result [] }
     {
         Tac {
             held: Vec::new(alloc),
@@ -85,11 +85,11 @@ impl Tac {
 
 impl Step for Tac {
     ghost use Rattle.std.specs.Prelude.{◌≡◌, [], ◌∷◌, false, true};
-    ghost use Rattle.mlr_event.specs.Models.{TacStands, never-both, tac, tac-closes, tac-orderly, tac-quiet};
+    ghost use Rattle.mlr_event.specs.Models.{TacRepresents, never-both, tac, tac-closes, tac-orderly, tac-quiet};
 
     ghost verb = { λ s. tac };
 
-    ghost stands = { λ s given. TacStands s.broken s.held.items given };
+    ghost represents = { λ s given. TacRepresents s.broken s.held.items given };
 
     ghost broken = { λ s. s.broken ≡ true };
 
@@ -128,7 +128,8 @@ pub(crate) fn take(
     event: Event,
     out: &mut Events,
 ) -> Result<(), NoMemory>
-    ensures held { OnOk result (is_last event ≡ false → held.new.items ≡ held.old.items ++ row_of event) }
+    ensures held { OnOk result (is_last event ≡ false
+        → held.new.items ≡ held.old.items ++ row_of event) }
     ensures out { OnOk result (out.new ≡ out.old ++ tac_gives held.old.items event) }
 {
     match event {

@@ -45,7 +45,8 @@ pub fn push_comment(
     line: &[u8],
     out: &mut Events,
 ) -> Result<(), NoMemory>
-    ensures { OnOk result ((at : Ctx) → out.new ≡ out.old ++ events_of at (comment_items comments.now line.now)) }
+    ensures { OnOk result ((at : Ctx)
+        → out.new ≡ out.old ++ events_of at (comment_items comments.now line.now)) }
 {
     if let Comments::Pass(_) = comments {
         let mut text = Bytes::copy_of(alloc, line)?;
@@ -163,7 +164,8 @@ pub fn put_text(
     record: &mut Record,
 ) -> Result<(), NoMemory>
     requires { length record.old < 2 ^ 63 }
-    ensures { OnOk result (record.new ≡ with_field opts.now.dedupe name.now (tree_of_data opts.now.infer text.now) record.old) }
+    ensures { OnOk result (record.new ≡ with_field opts.now.dedupe name.now
+        (tree_of_data opts.now.infer text.now) record.old) }
 {
     let value = from_data(alloc, text, opts.infer)?;
     put_field(alloc, record, name, value, opts.dedupe)
@@ -179,7 +181,8 @@ pub fn push_text(
     record: &mut Record,
 ) -> Result<(), NoMemory>
     requires { value_at name.now record.old ≡ None }
-    ensures { OnOk result (record.new ≡ record.old ++ (name.now, tree_of_data opts.now.infer text.now) ∷ []) }
+    ensures { OnOk result (record.new ≡ record.old
+        ++ (name.now, tree_of_data opts.now.infer text.now) ∷ []) }
 {
     let value = from_data(alloc, text, opts.infer)?;
     record.push(name, value)

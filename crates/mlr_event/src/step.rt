@@ -13,22 +13,27 @@ pub trait Step {
     ghost verb: { Self → Verb };
 
     /// It has begun, and was given these events.
-    ghost stands: { Self → List SpecEvent → Type 0 };
+    ghost represents: { Self → List SpecEvent → Type 0 };
 
     /// A call found no memory.
     ghost broken: { Self → Type 0 };
 
     /// Takes an event, and puts behind `out` what it gives after those before. No end and no fault may have come before.
     fn step(&mut self, event: Event, out: &mut Events) -> Result<(), NoMemory>
-        requires { (given : List SpecEvent) × stands self.old given × (is_open given ≡ true) }
+        requires { (given : List SpecEvent) × represents self.old given × (is_open given ≡ true) }
         ensures verb { verb self.new ≡ verb self.old }
-        ensures stands { OnOk result ((given : List SpecEvent) → stands self.old given → is_open given ≡ true → stands self.new (given ++ event ∷ [])) }
-        ensures adds { OnOk result ((given : List SpecEvent) → stands self.old given → is_open given ≡ true → Adds out.old out.new (made (verb self.old) given) (made (verb self.old) (given ++ event ∷ []))) }
+        ensures represents { OnOk result ((given : List SpecEvent) → represents self.old given
+            → is_open given ≡ true → represents self.new (given ++ event ∷ [])) }
+        ensures adds { OnOk result ((given : List SpecEvent) → represents self.old given
+            → is_open given ≡ true
+            → Adds out.old out.new (made (verb self.old) given)
+            (made (verb self.old) (given ++ event ∷ []))) }
         ensures err { OnErr result (broken self.new) };
 
     /// Whether more records give nothing. It takes no memory.
     fn closed(&self) -> bool
-        ensures { (given : List SpecEvent) → stands self.now given → result ≡ (verb self.now).closed given };
+        ensures { (given : List SpecEvent) → represents self.now given
+            → result ≡ (verb self.now).closed given };
 
     /// Whether it may give anything but records. It takes no memory.
     fn has_effects(&self) -> bool
@@ -39,7 +44,7 @@ pub trait Step {
         ensures { IsTrue result ↔ broken self.now };
 
     /// An object that stands for a list found memory in all calls.
-    ghost whole: { (s : Self) (given : List SpecEvent) → stands s given → broken s → ⊥ };
+    ghost whole: { (s : Self) (given : List SpecEvent) → represents s given → broken s → ⊥ };
 
     /// Without effects it gives records alone.
     ghost quiet: { (s : Self) → IsQuiet (verb s) };

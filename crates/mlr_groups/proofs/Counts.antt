@@ -39,14 +39,14 @@ module _ (names : List (List ℕ)) (before : List Fields) (fields : Fields) (cou
           ∙ ap (set (map (count_in names before) (groups_in names before)) p) (is ∙ ap capped (sym (length-append (members names at.0 before) (fields ∷ []))))
           ∙ sym (states-known count_of names before fields at.0 at.1 p there)
 
-    module _ (behind : length counts ≤ p) where
+    module _ (following : length counts ≤ p) where
       pub counts-new : counts ++ 1 ∷ [] ≡ map (count_in names (before ++ fields ∷ [])) (groups_in names (before ++ fields ∷ []))
       counts-new =
-          ap (λ ns. ns ++ 1 ∷ []) are ∙ sym (states-new count_of names before fields at.0 at.1 (place-new names before fields p at (omega (arith, behind, as-many))))
+          ap (λ ns. ns ++ 1 ∷ []) are ∙ sym (states-new count_of names before fields at.0 at.1 (place-new names before fields p at (omega (arith, following, as-many))))
 
       -- no record of a new group came before
       pub tally-new : tally names before fields ≡ Some 0
       tally-new =
-          let free = place-new names before fields p at (omega (arith, behind, as-many)) in
+          let free = place-new names before fields p at (omega (arith, following, as-many)) in
           let none = sym (any-once texts_eq texts_eq-Decides at.0 (filter_map (group_of names) before)) ∙ free in
           ap (option_map (count_in names before)) at.1 ∙ ap (λ records. Some (count_of records)) (members-none names at.0 before none)

@@ -17,40 +17,40 @@ escaped-plain : (n : ℕ) (text : List ℕ) → escaped (suc n ∷ text) ≡ suc
 escaped-plain n text = ap (λ t. cond t (0 ∷ 1 ∷ escaped text) (suc n ∷ escaped text)) (eqb-suc-zero n)
 
 -- as texts with more behind them
-plain-before : (n : ℕ) (text behind : List ℕ) → escaped (suc n ∷ text) ++ 0 ∷ 0 ∷ behind ≡ suc n ∷ escaped text ++ 0 ∷ 0 ∷ behind
-plain-before n text behind = ap (λ t. t ++ 0 ∷ 0 ∷ behind) (escaped-plain n text)
+plain-before : (n : ℕ) (text following : List ℕ) → escaped (suc n ∷ text) ++ 0 ∷ 0 ∷ following ≡ suc n ∷ escaped text ++ 0 ∷ 0 ∷ following
+plain-before n text following = ap (λ t. t ++ 0 ∷ 0 ∷ following) (escaped-plain n text)
 
 -- the end of the first text is known, and so are the text and what is behind it
-split : (text other behind rest : List ℕ) → escaped text ++ 0 ∷ 0 ∷ behind ≡ escaped other ++ 0 ∷ 0 ∷ rest → (text ≡ other) × (behind ≡ rest)
-split [] [] behind rest same = (refl, (let e : behind ≡ rest = cc in e))
-split [] (zero ∷ other) behind rest same = absurd (let e : zero ≡ suc zero = cc in cc)
-split [] (suc n ∷ other) behind rest same =
-    let opened : 0 ∷ 0 ∷ behind ≡ suc n ∷ escaped other ++ 0 ∷ 0 ∷ rest = same ∙ plain-before n other rest in
+split : (text other following rest : List ℕ) → escaped text ++ 0 ∷ 0 ∷ following ≡ escaped other ++ 0 ∷ 0 ∷ rest → (text ≡ other) × (following ≡ rest)
+split [] [] following rest same = (refl, (let e : following ≡ rest = cc in e))
+split [] (zero ∷ other) following rest same = absurd (let e : zero ≡ suc zero = cc in cc)
+split [] (suc n ∷ other) following rest same =
+    let opened : 0 ∷ 0 ∷ following ≡ suc n ∷ escaped other ++ 0 ∷ 0 ∷ rest = same ∙ plain-before n other rest in
     absurd (let e : zero ≡ suc n = cc in cc)
-split (zero ∷ text) [] behind rest same = absurd (let e : suc zero ≡ zero = cc in cc)
-split (suc n ∷ text) [] behind rest same =
-    let opened : suc n ∷ escaped text ++ 0 ∷ 0 ∷ behind ≡ 0 ∷ 0 ∷ rest = sym (plain-before n text behind) ∙ same in
+split (zero ∷ text) [] following rest same = absurd (let e : suc zero ≡ zero = cc in cc)
+split (suc n ∷ text) [] following rest same =
+    let opened : suc n ∷ escaped text ++ 0 ∷ 0 ∷ following ≡ 0 ∷ 0 ∷ rest = sym (plain-before n text following) ∙ same in
     absurd (let e : suc n ≡ zero = cc in cc)
-split (zero ∷ text) (zero ∷ other) behind rest same =
-    let parts = split text other behind rest (let e : escaped text ++ 0 ∷ 0 ∷ behind ≡ escaped other ++ 0 ∷ 0 ∷ rest = cc in e) in
+split (zero ∷ text) (zero ∷ other) following rest same =
+    let parts = split text other following rest (let e : escaped text ++ 0 ∷ 0 ∷ following ≡ escaped other ++ 0 ∷ 0 ∷ rest = cc in e) in
     (ap (λ t. zero ∷ t) parts.0, parts.1)
-split (zero ∷ text) (suc n ∷ other) behind rest same =
-    let opened : 0 ∷ 1 ∷ escaped text ++ 0 ∷ 0 ∷ behind ≡ suc n ∷ escaped other ++ 0 ∷ 0 ∷ rest = same ∙ plain-before n other rest in
+split (zero ∷ text) (suc n ∷ other) following rest same =
+    let opened : 0 ∷ 1 ∷ escaped text ++ 0 ∷ 0 ∷ following ≡ suc n ∷ escaped other ++ 0 ∷ 0 ∷ rest = same ∙ plain-before n other rest in
     absurd (let e : zero ≡ suc n = cc in cc)
-split (suc n ∷ text) (zero ∷ other) behind rest same =
-    let opened : suc n ∷ escaped text ++ 0 ∷ 0 ∷ behind ≡ 0 ∷ 1 ∷ escaped other ++ 0 ∷ 0 ∷ rest = sym (plain-before n text behind) ∙ same in
+split (suc n ∷ text) (zero ∷ other) following rest same =
+    let opened : suc n ∷ escaped text ++ 0 ∷ 0 ∷ following ≡ 0 ∷ 1 ∷ escaped other ++ 0 ∷ 0 ∷ rest = sym (plain-before n text following) ∙ same in
     absurd (let e : suc n ≡ zero = cc in cc)
-split (suc n ∷ text) (suc m ∷ other) behind rest same =
-    let opened : suc n ∷ escaped text ++ 0 ∷ 0 ∷ behind ≡ suc m ∷ escaped other ++ 0 ∷ 0 ∷ rest =
-    sym (plain-before n text behind) ∙ same ∙ plain-before m other rest in
+split (suc n ∷ text) (suc m ∷ other) following rest same =
+    let opened : suc n ∷ escaped text ++ 0 ∷ 0 ∷ following ≡ suc m ∷ escaped other ++ 0 ∷ 0 ∷ rest =
+    sym (plain-before n text following) ∙ same ∙ plain-before m other rest in
     let first : suc n ≡ suc m = cc in
-    let parts = split text other behind rest (let e : escaped text ++ 0 ∷ 0 ∷ behind ≡ escaped other ++ 0 ∷ 0 ∷ rest = cc in e) in
+    let parts = split text other following rest (let e : escaped text ++ 0 ∷ 0 ∷ following ≡ escaped other ++ 0 ∷ 0 ∷ rest = cc in e) in
     (ap₂ (λ b t. b ∷ t) first parts.0, parts.1)
 
-not-empty : (text behind : List ℕ) → escaped text ++ 0 ∷ 0 ∷ behind ≡ [] → ⊥
-not-empty [] behind same = let e : 0 ∷ 0 ∷ behind ≡ [] = same in cc
-not-empty (zero ∷ text) behind same = let e : 0 ∷ 1 ∷ escaped text ++ 0 ∷ 0 ∷ behind ≡ [] = same in cc
-not-empty (suc n ∷ text) behind same = let e : suc n ∷ escaped text ++ 0 ∷ 0 ∷ behind ≡ [] = sym (plain-before n text behind) ∙ same in cc
+not-empty : (text following : List ℕ) → escaped text ++ 0 ∷ 0 ∷ following ≡ [] → ⊥
+not-empty [] following same = let e : 0 ∷ 0 ∷ following ≡ [] = same in cc
+not-empty (zero ∷ text) following same = let e : 0 ∷ 1 ∷ escaped text ++ 0 ∷ 0 ∷ following ≡ [] = same in cc
+not-empty (suc n ∷ text) following same = let e : suc n ∷ escaped text ++ 0 ∷ 0 ∷ following ≡ [] = sym (plain-before n text following) ∙ same in cc
 
 -- Texts that have one key are the same.
 pub key-injective : (texts other : List (List ℕ)) → key_of texts ≡ key_of other → texts ≡ other

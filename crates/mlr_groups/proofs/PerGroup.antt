@@ -41,9 +41,9 @@ pub members-none : (names texts : List (List ℕ)) (records : List Fields) → l
 members-none names texts [] none = refl
 members-none names texts (fields ∷ records) none =
     elim (cases_Option (group_of names fields)) as (λ _. members names texts (fields ∷ records) ≡ []) [
-      | inl lacks ↦
-          ap (λ t. cond t (fields ∷ members names texts records) (members names texts records)) (in-none names texts fields lacks)
-          ∙ members-none names texts records (sym (ap (λ group. list_any (texts_eq texts) (cons_option group (filter_map (group_of names) records))) lacks) ∙ none)
+      | inl runs_out ↦
+          ap (λ t. cond t (fields ∷ members names texts records) (members names texts records)) (in-none names texts fields runs_out)
+          ∙ members-none names texts records (sym (ap (λ group. list_any (texts_eq texts) (cons_option group (filter_map (group_of names) records))) runs_out) ∙ none)
       | inr has ↦
           let parts = or_parts (texts_eq texts has.0) (list_any (texts_eq texts) (filter_map (group_of names) records)) (sym (ap (λ group. list_any (texts_eq texts) (cons_option group (filter_map (group_of names) records))) has.1) ∙ none) in
           ap (λ t. cond t (fields ∷ members names texts records) (members names texts records)) (in-own names texts has.0 fields has.1 ∙ parts.0)
@@ -86,10 +86,10 @@ module _ {A : Type 0} (state : List Fields → A) (names : List (List ℕ)) wher
           ∙ ap₂ (λ states rs. states ++ state rs ∷ []) (map-same texts_eq texts_eq-Decides old new texts groups free (λ other apart. ap state (members-other names before fields texts is other apart)))
           (members-own names before fields texts is ∙ ap (λ rs. rs ++ fields ∷ []) (members-none names texts before none))
 
-slice_get-front : {A : Type 0} (xs ys : List A) (p : ℕ) → p < length xs → slice_get (xs ++ ys) p ≡ slice_get xs p
-slice_get-front [] ys p below = absurd (omega arith)
-slice_get-front (x ∷ xs) ys zero below = refl
-slice_get-front (x ∷ xs) ys (suc p) below = slice_get-front xs ys p (omega arith)
+slice_get-prefix : {A : Type 0} (xs ys : List A) (p : ℕ) → p < length xs → slice_get (xs ++ ys) p ≡ slice_get xs p
+slice_get-prefix [] ys p below = absurd (omega arith)
+slice_get-prefix (x ∷ xs) ys zero below = refl
+slice_get-prefix (x ∷ xs) ys (suc p) below = slice_get-prefix xs ys p (omega arith)
 
 -- whether a group is new is told by its place
 module _ (names : List (List ℕ)) (before : List Fields) (fields : Fields) (p : ℕ) (at : IsGroupPlace names (before ++ fields ∷ []) fields (Some p)) where
@@ -99,16 +99,16 @@ module _ (names : List (List ℕ)) (before : List Fields) (fields : Fields) (p :
       elim (cases_Bool (list_any (texts_eq at.0) (groups_in names before))) as (λ _. slice_get (groups_in names before) p ≡ Some at.0) [
         | inl known ↦ ap (λ groups. slice_get groups p) (sym (groups-known names before fields at.0 at.1 known)) ∙ at.2
         | inr new ↦
-            sym (slice_get-front (groups_in names before) (at.0 ∷ []) p below)
+            sym (slice_get-prefix (groups_in names before) (at.0 ∷ []) p below)
             ∙ ap (λ groups. slice_get groups p) (sym (groups-new names before fields at.0 at.1 new)) ∙ at.2
       ]
 
   -- Any other is that of a new group.
   pub place-new : length (groups_in names before) ≤ p → list_any (texts_eq at.0) (groups_in names before) ≡ false
-  place-new behind =
+  place-new following =
       elim (cases_Bool (list_any (texts_eq at.0) (groups_in names before))) as (λ _. list_any (texts_eq at.0) (groups_in names before) ≡ false) [
         | inl known ↦
             let within = slice_get_within (groups_in names before) p at.0 (ap (λ groups. slice_get groups p) (sym (groups-known names before fields at.0 at.1 known)) ∙ at.2) in
-            absurd (omega (arith, behind, within))
+            absurd (omega (arith, following, within))
         | inr new ↦ new
       ]

@@ -1,4 +1,4 @@
 pub mod Grouping
 pub mod Keys
 pub mod Tallying
-pub mod Standing
+pub mod Represents

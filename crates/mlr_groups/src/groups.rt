@@ -1,6 +1,6 @@
 ghost use Rattle.std.specs.Prelude.{◌≡◌, ◌++◌, ◌∷◌, [], ℕ, List, length, IfOk, OnOk};
 ghost use Rattle.mlr_groups.specs.Grouping.{Fields, IsGroupPlace, groups_in};
-ghost use Rattle.mlr_groups.specs.Standing.{GroupsOf};
+ghost use Rattle.mlr_groups.specs.Represents.{GroupsOf};
 
 use crate::keys::{KeyTable, append_group};
 use mlr_event::Names;
@@ -34,7 +34,8 @@ impl Groups {
 
     /// How many groups there are.
     pub fn len(&self) -> usize
-        ensures { (names : List (List ℕ)) (before : List Fields) → GroupsOf names before self.now → result ≡ length (groups_in names before) }
+        ensures { (names : List (List ℕ)) (before : List Fields) → GroupsOf names before self.now
+            → result ≡ length (groups_in names before) }
     {
         self.table.len()
     }
@@ -42,8 +43,12 @@ impl Groups {
     /// The place of a record's group, which counts from 0; a new group is put last. A record that lacks a named field is
     /// in no group. It takes memory for a new group, and where the key of one is longer than those before.
     pub fn enter(&mut self, fields: &Record) -> Result<Option<usize>, NoMemory>
-        ensures stands { OnOk result ((names : List (List ℕ)) (before : List Fields) → GroupsOf names before self.old → GroupsOf names (before ++ fields.now ∷ []) self.new) }
-        ensures place { IfOk result (λ place. (names : List (List ℕ)) (before : List Fields) → GroupsOf names before self.old → IsGroupPlace names (before ++ fields.now ∷ []) fields.now place) }
+        ensures represents { OnOk result ((names : List (List ℕ)) (before : List Fields)
+            → GroupsOf names before self.old
+            → GroupsOf names (before ++ fields.now ∷ []) self.new) }
+        ensures place { IfOk result (λ place. (names : List (List ℕ)) (before : List Fields)
+            → GroupsOf names before self.old
+            → IsGroupPlace names (before ++ fields.now ∷ []) fields.now place) }
     {
         if self.names.len() == 0 && self.table.len() > 0 {
             // All records are in one group, and it is there.

@@ -45,7 +45,8 @@ pub(crate) fn append_group(
     fields: &Record,
     key: &mut Bytes,
 ) -> Result<bool, NoMemory>
-    ensures { IfOk result (λ has. option_map (λ texts. key.old ++ key_of texts) (group_of names.now fields.now) ≡ (if has then Some key.new else None)) }
+    ensures { IfOk result (λ has. option_map (λ texts. key.old ++ key_of texts)
+        (group_of names.now fields.now) ≡ (if has then Some key.new else None)) }
 {
     for name in names.as_slice() {
         let Some(value) = fields.get(name.as_slice()) else {

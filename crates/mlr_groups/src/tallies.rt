@@ -1,6 +1,6 @@
 ghost use Rattle.std.specs.Prelude.{◌≡◌, ◌++◌, ◌∷◌, ◌+◌, [], ℕ, List, IfOk, OnOk};
 ghost use Rattle.mlr_groups.specs.Grouping.{Fields};
-ghost use Rattle.mlr_groups.specs.Standing.{TalliesOf};
+ghost use Rattle.mlr_groups.specs.Represents.{TalliesOf};
 ghost use Rattle.mlr_groups.specs.Tallying.{capped, tally};
 
 use crate::groups::Groups;
@@ -30,8 +30,11 @@ impl Tallies {
     /// Counts a record, and answers how many of its group came before it. A record that lacks a named field is in no
     /// group. It takes memory for a new group, and where the key of one is longer than those before.
     pub fn count(&mut self, fields: &Record) -> Result<Option<u64>, NoMemory>
-        ensures stands { OnOk result ((names : List (List ℕ)) (before : List Fields) → TalliesOf names before self.old → TalliesOf names (before ++ fields.now ∷ []) self.new) }
-        ensures count { IfOk result (λ count. (names : List (List ℕ)) (before : List Fields) → TalliesOf names before self.old → count ≡ tally names before fields.now) }
+        ensures represents { OnOk result ((names : List (List ℕ)) (before : List Fields)
+            → TalliesOf names before self.old
+            → TalliesOf names (before ++ fields.now ∷ []) self.new) }
+        ensures count { IfOk result (λ count. (names : List (List ℕ)) (before : List Fields)
+            → TalliesOf names before self.old → count ≡ tally names before fields.now) }
     {
         let Some(place) = self.groups.enter(fields)? else {
             return Ok(None);

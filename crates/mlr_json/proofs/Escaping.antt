@@ -38,17 +38,17 @@ cons_of (b ∷ text) h =
     let all : length (b ∷ text) - 1 ≡ length text = omega arith in
     ap (λ x. b ∷ x) (sym (ap (λ n. take n text) all ∙ take-length text))
 
-module _ (text front behind into new : List ℕ) (front_is : front ≡ take (position_or_len is_escaped text) text) (behind_is : behind ≡ drop (position_or_len is_escaped text) text) (new_is : new ≡ into ++ front) where
-  pub run_is : new ++ flat_map escaped behind ≡ into ++ flat_map escaped text
-  run_is = rw (new_is, front_is, behind_is, append_assoc) (ap (λ x. into ++ x) (sym (flat_map_escaped-split text)))
+module _ (text prefix following into new : List ℕ) (prefix_is : prefix ≡ take (position_or_len is_escaped text) text) (after_is : following ≡ drop (position_or_len is_escaped text) text) (new_is : new ≡ into ++ prefix) where
+  pub run_is : new ++ flat_map escaped following ≡ into ++ flat_map escaped text
+  run_is = rw (new_is, prefix_is, after_is, append_assoc) (ap (λ x. into ++ x) (sym (flat_map_escaped-split text)))
 
-  pub run_with_escape : (last : List ℕ) → 1 ≤ length behind → last ≡ new ++ escaped (get_or behind 0 0) → last ++ flat_map escaped (take (length behind - 1) (drop 1 behind)) ≡ into ++ flat_map escaped text
+  pub run_with_escape : (last : List ℕ) → 1 ≤ length following → last ≡ new ++ escaped (get_or following 0 0) → last ++ flat_map escaped (take (length following - 1) (drop 1 following)) ≡ into ++ flat_map escaped text
   run_with_escape last some last_is =
-      rw (last_is, append_assoc) (ap (λ x. new ++ flat_map escaped x) (sym (cons_of behind some)) ∙ run_is)
+      rw (last_is, append_assoc) (ap (λ x. new ++ flat_map escaped x) (sym (cons_of following some)) ∙ run_is)
 
-  pub first_is_escaped : 1 ≤ length behind → is_escaped (get_or behind 0 0) ≡ true
+  pub first_is_escaped : 1 ≤ length following → is_escaped (get_or following 0 0) ≡ true
   first_is_escaped some =
       let place = position_or_len is_escaped text in
-      let below : place < length text = omega (arith, length-drop place text, ap length behind_is) in
-      ap is_escaped (ap (λ x. get_or x 0 0) behind_is ∙ get_or-drop place text 0 0 ∙ ap (λ n. get_or text n 0) (add-zero place))
+      let below : place < length text = omega (arith, length-drop place text, ap length after_is) in
+      ap is_escaped (ap (λ x. get_or x 0 0) after_is ∙ get_or-drop place text 0 0 ∙ ap (λ n. get_or text n 0) (add-zero place))
       ∙ passes_at_first is_escaped text 0 below

@@ -76,33 +76,33 @@ abbrev pub IsIn : List Frame → List Token → List Token → List Token → Ty
 IsIn frames before inner tokens = Awaits frames before × (tokens ≡ before ++ inner)
 
 -- tokens that frames and a phase stand for
-abbrev pub Stands : List Frame → Phase → List Token → Type 0
-Stands frames phase.Value tokens = Awaits frames tokens
-Stands [] phase.FirstItem tokens = ⊥
-Stands (Map pairs key ∷ frames) phase.FirstItem tokens = ⊥
-Stands (Array items ∷ frames) phase.FirstItem tokens = (before : List Token) × IsIn frames before (sign BeginArray ∷ []) tokens × (items ≡ [])
-Stands [] phase.FirstKey tokens = ⊥
-Stands (Array items ∷ frames) phase.FirstKey tokens = ⊥
-Stands (Map pairs key ∷ frames) phase.FirstKey tokens = (before : List Token) × IsIn frames before (sign BeginMap ∷ []) tokens × (pairs ≡ [])
-Stands [] phase.Key tokens = ⊥
-Stands (Array items ∷ frames) phase.Key tokens = ⊥
-Stands (Map pairs key ∷ frames) phase.Key tokens =
+abbrev pub Represents : List Frame → Phase → List Token → Type 0
+Represents frames phase.Value tokens = Awaits frames tokens
+Represents [] phase.FirstItem tokens = ⊥
+Represents (Map pairs key ∷ frames) phase.FirstItem tokens = ⊥
+Represents (Array items ∷ frames) phase.FirstItem tokens = (before : List Token) × IsIn frames before (sign BeginArray ∷ []) tokens × (items ≡ [])
+Represents [] phase.FirstKey tokens = ⊥
+Represents (Array items ∷ frames) phase.FirstKey tokens = ⊥
+Represents (Map pairs key ∷ frames) phase.FirstKey tokens = (before : List Token) × IsIn frames before (sign BeginMap ∷ []) tokens × (pairs ≡ [])
+Represents [] phase.Key tokens = ⊥
+Represents (Array items ∷ frames) phase.Key tokens = ⊥
+Represents (Map pairs key ∷ frames) phase.Key tokens =
     (before : List Token) × (read : List (List ℕ × Syntax)) × IsIn frames before (sign BeginMap ∷ each_member read) tokens × (pairs ≡ put_each [] (valued read))
-Stands [] phase.Colon tokens = ⊥
-Stands (Array items ∷ frames) phase.Colon tokens = ⊥
-Stands (Map pairs key ∷ frames) phase.Colon tokens =
+Represents [] phase.Colon tokens = ⊥
+Represents (Array items ∷ frames) phase.Colon tokens = ⊥
+Represents (Map pairs key ∷ frames) phase.Colon tokens =
     (before : List Token) × (read : List (List ℕ × Syntax)) × IsIn frames before (sign BeginMap ∷ each_member read ++ (text_token key ∷ [])) tokens × (pairs ≡ put_each [] (valued read))
-Stands [] phase.Later tokens = ⊥
-Stands (Array items ∷ frames) phase.Later tokens =
+Represents [] phase.Later tokens = ⊥
+Represents (Array items ∷ frames) phase.Later tokens =
     (before : List Token) × (read : List Syntax) × (last : Syntax) × IsIn frames before (sign BeginArray ∷ each_item read ++ tokens_in last) tokens
     × (items ≡ map value_of (read ++ last ∷ []))
-Stands (Map pairs key ∷ frames) phase.Later tokens =
+Represents (Map pairs key ∷ frames) phase.Later tokens =
     (before : List Token) × (read : List (List ℕ × Syntax)) × (last : List ℕ × Syntax) × IsIn frames before (sign BeginMap ∷ each_member read ++ member_text last) tokens
     × (pairs ≡ put_each [] (valued (read ++ last ∷ [])))
 
 -- where a step leads, for the tokens up to it
 abbrev pub Leads : Step → List Token → Type 0
-Leads (on frames at) tokens = Stands frames at tokens
+Leads (on frames at) tokens = Represents frames at tokens
 Leads (whole value) tokens = (syntax : Syntax) × (tokens ≡ tokens_in syntax) × (value ≡ value_of syntax)
 Leads wrong tokens = Unit {0}
 
@@ -129,7 +129,7 @@ leads-value (Map pairs key ∷ frames) tokens s h = (
 )
 
 -- the first item of an array is awaited
-pub awaits-first : (items : List Tree) (frames : List Frame) (tokens : List Token) → Stands (Array items ∷ frames) phase.FirstItem tokens → Awaits (Array items ∷ frames) tokens
+pub awaits-first : (items : List Tree) (frames : List Frame) (tokens : List Token) → Represents (Array items ∷ frames) phase.FirstItem tokens → Awaits (Array items ∷ frames) tokens
 awaits-first items frames tokens h = (h.0, [], h.1.0, h.2, h.1.1)
 
 -- a value that ends with this token
@@ -155,7 +155,7 @@ each_member-push members last =
     ∙ sym (flat_map-append (λ m. member_text m ++ sign Comma ∷ []) members (last ∷ []))
 
 -- a token that is a value by itself
-leads-scalar : (s : Syntax) (t : Token) (frames : List Frame) (at : Phase) (tokens : List Token) → tokens_in s ≡ t ∷ [] → takes_value at ≡ true → Stands frames at tokens
+leads-scalar : (s : Syntax) (t : Token) (frames : List Frame) (at : Phase) (tokens : List Token) → tokens_in s ≡ t ∷ [] → takes_value at ≡ true → Represents frames at tokens
     → Leads (with_value (value_of s) frames) (tokens ++ t ∷ [])
 leads-scalar s t frames phase.Value tokens is takes h = subst (λ x. Leads (with_value (value_of s) frames) (tokens ++ x)) is (leads-value frames tokens s h)
 leads-scalar s t (Array items ∷ frames) phase.FirstItem tokens is takes h =
@@ -169,7 +169,7 @@ leads-scalar s t frames phase.Colon tokens is takes h = absurd (let e : false �
 leads-scalar s t frames phase.Later tokens is takes h = absurd (let e : false ≡ true = takes in cc)
 
 -- a key
-leads-key : (key : List ℕ) (frames : List Frame) (at : Phase) (tokens : List Token) → takes_key at ≡ true → Stands frames at tokens
+leads-key : (key : List ℕ) (frames : List Frame) (at : Phase) (tokens : List Token) → takes_key at ≡ true → Represents frames at tokens
     → Leads (with_key key frames) (tokens ++ text_token key ∷ [])
 leads-key key [] at tokens takes h = tt
 leads-key key (Array items ∷ frames) at tokens takes h = tt
@@ -182,7 +182,7 @@ leads-key key (Map pairs last ∷ frames) phase.Colon tokens takes h = absurd (l
 leads-key key (Map pairs last ∷ frames) phase.Later tokens takes h = absurd (let e : false ≡ true = takes in cc)
 
 -- a bracket that opens
-leads-map : (frames : List Frame) (at : Phase) (tokens : List Token) → Stands frames at tokens → Leads (step_mark frames at BeginMap) (tokens ++ sign BeginMap ∷ [])
+leads-map : (frames : List Frame) (at : Phase) (tokens : List Token) → Represents frames at tokens → Leads (step_mark frames at BeginMap) (tokens ++ sign BeginMap ∷ [])
 leads-map frames phase.Value tokens h = (tokens, (h, refl), refl)
 leads-map (Array items ∷ frames) phase.FirstItem tokens h = (tokens, (awaits-first items frames tokens h, refl), refl)
 leads-map [] phase.FirstItem tokens h = absurd h
@@ -192,7 +192,7 @@ leads-map frames phase.Key tokens h = tt
 leads-map frames phase.Colon tokens h = tt
 leads-map frames phase.Later tokens h = tt
 
-leads-array : (frames : List Frame) (at : Phase) (tokens : List Token) → Stands frames at tokens → Leads (step_mark frames at BeginArray) (tokens ++ sign BeginArray ∷ [])
+leads-array : (frames : List Frame) (at : Phase) (tokens : List Token) → Represents frames at tokens → Leads (step_mark frames at BeginArray) (tokens ++ sign BeginArray ∷ [])
 leads-array frames phase.Value tokens h = (tokens, (h, refl), refl)
 leads-array (Array items ∷ frames) phase.FirstItem tokens h = (tokens, (awaits-first items frames tokens h, refl), refl)
 leads-array [] phase.FirstItem tokens h = absurd h
@@ -203,7 +203,7 @@ leads-array frames phase.Colon tokens h = tt
 leads-array frames phase.Later tokens h = tt
 
 -- a bracket that closes
-leads-map_end : (frames : List Frame) (at : Phase) (tokens : List Token) → Stands frames at tokens → Leads (map_ended frames at) (tokens ++ sign EndMap ∷ [])
+leads-map_end : (frames : List Frame) (at : Phase) (tokens : List Token) → Represents frames at tokens → Leads (map_ended frames at) (tokens ++ sign EndMap ∷ [])
 leads-map_end [] at tokens h = tt
 leads-map_end (Array items ∷ frames) at tokens h = tt
 leads-map_end (Map pairs key ∷ frames) phase.FirstKey tokens h =
@@ -219,7 +219,7 @@ leads-map_end (Map pairs key ∷ frames) phase.FirstItem tokens h = tt
 leads-map_end (Map pairs key ∷ frames) phase.Key tokens h = tt
 leads-map_end (Map pairs key ∷ frames) phase.Colon tokens h = tt
 
-leads-array_end : (frames : List Frame) (at : Phase) (tokens : List Token) → Stands frames at tokens → Leads (array_ended frames at) (tokens ++ sign EndArray ∷ [])
+leads-array_end : (frames : List Frame) (at : Phase) (tokens : List Token) → Represents frames at tokens → Leads (array_ended frames at) (tokens ++ sign EndArray ∷ [])
 leads-array_end [] at tokens h = tt
 leads-array_end (Map pairs key ∷ frames) at tokens h = tt
 leads-array_end (Array items ∷ frames) phase.FirstItem tokens h =
@@ -235,7 +235,7 @@ leads-array_end (Array items ∷ frames) phase.FirstKey tokens h = tt
 leads-array_end (Array items ∷ frames) phase.Key tokens h = tt
 leads-array_end (Array items ∷ frames) phase.Colon tokens h = tt
 
-leads-colon : (frames : List Frame) (at : Phase) (tokens : List Token) → Stands frames at tokens → Leads (colon_read frames at) (tokens ++ sign Colon ∷ [])
+leads-colon : (frames : List Frame) (at : Phase) (tokens : List Token) → Represents frames at tokens → Leads (colon_read frames at) (tokens ++ sign Colon ∷ [])
 leads-colon [] phase.Colon tokens h = absurd h
 leads-colon (Array items ∷ frames) phase.Colon tokens h = absurd h
 leads-colon (Map pairs key ∷ frames) phase.Colon tokens h =
@@ -246,7 +246,7 @@ leads-colon frames phase.FirstKey tokens h = tt
 leads-colon frames phase.Key tokens h = tt
 leads-colon frames phase.Later tokens h = tt
 
-leads-comma : (frames : List Frame) (at : Phase) (tokens : List Token) → Stands frames at tokens → Leads (comma_read frames at) (tokens ++ sign Comma ∷ [])
+leads-comma : (frames : List Frame) (at : Phase) (tokens : List Token) → Represents frames at tokens → Leads (comma_read frames at) (tokens ++ sign Comma ∷ [])
 leads-comma [] phase.Later tokens h = tt
 leads-comma (Array items ∷ frames) phase.Later tokens h = (
   h.0,
@@ -267,7 +267,7 @@ leads-comma frames phase.FirstKey tokens h = tt
 leads-comma frames phase.Key tokens h = tt
 leads-comma frames phase.Colon tokens h = tt
 
-leads-text : (t : List ℕ) (frames : List Frame) (at : Phase) (tokens : List Token) → Stands frames at tokens → Leads (step frames at (text_token t)) (tokens ++ text_token t ∷ [])
+leads-text : (t : List ℕ) (frames : List Frame) (at : Phase) (tokens : List Token) → Represents frames at tokens → Leads (step frames at (text_token t)) (tokens ++ text_token t ∷ [])
 unfolding step
 leads-text t frames phase.Value tokens h = leads-scalar (text t) (text_token t) frames phase.Value tokens refl refl h
 leads-text t frames phase.FirstItem tokens h = leads-scalar (text t) (text_token t) frames phase.FirstItem tokens refl refl h
@@ -276,7 +276,7 @@ leads-text t frames phase.Key tokens h = leads-key t frames phase.Key tokens ref
 leads-text t frames phase.Colon tokens h = tt
 leads-text t frames phase.Later tokens h = tt
 
-leads-word : (value : Tree) (frames : List Frame) (at : Phase) (tokens : List Token) → Stands frames at tokens → Leads (step frames at (word_token value)) (tokens ++ word_token value ∷ [])
+leads-word : (value : Tree) (frames : List Frame) (at : Phase) (tokens : List Token) → Represents frames at tokens → Leads (step frames at (word_token value)) (tokens ++ word_token value ∷ [])
 unfolding step
 leads-word value frames phase.Value tokens h = leads-scalar (word value) (word_token value) frames phase.Value tokens refl refl h
 leads-word value frames phase.FirstItem tokens h = leads-scalar (word value) (word_token value) frames phase.FirstItem tokens refl refl h
@@ -286,7 +286,7 @@ leads-word value frames phase.Colon tokens h = tt
 leads-word value frames phase.Later tokens h = tt
 
 -- each step leads where the grammar leads
-pub leads : (frames : List Frame) (at : Phase) (token : Token) (tokens : List Token) → Stands frames at tokens → Leads (step frames at token) (tokens ++ token ∷ [])
+pub leads : (frames : List Frame) (at : Phase) (token : Token) (tokens : List Token) → Represents frames at tokens → Leads (step frames at token) (tokens ++ token ∷ [])
 unfolding step
 leads frames at (text_token t) tokens h = leads-text t frames at tokens h
 leads frames at (word_token value) tokens h = leads-word value frames at tokens h

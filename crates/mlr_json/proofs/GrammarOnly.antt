@@ -10,20 +10,20 @@ use Rattle.mlr_spec.specs.JsonGrammar.{Syntax, tokens_in, value_of, Begins, is_o
 use Rattle.mlr_json.specs.declared.frame.Frame.{Frame}
 use Rattle.mlr_json.specs.declared.frame.Phase.{Phase}
 use Rattle.mlr_json.specs.declared.frame.Phase.TheVariants as phase
-use Rattle.mlr_json.specs.Machine.{Step, on, whole, wrong, step, Outcome, read, syntax, deep, outcome_behind, outcome_cut, outcome_from}
-use Rattle.mlr_json.proofs.Grammar.{Stands, Leads, leads}
-use Rattle.mlr_json.proofs.GrammarRuns.{begins-front, stands-begins, whole_then, run, run_on, run-cons, run-whole}
+use Rattle.mlr_json.specs.Machine.{Step, on, whole, wrong, step, Outcome, read, syntax, deep, outcome_after, outcome_cut, outcome_from}
+use Rattle.mlr_json.proofs.Grammar.{Represents, Leads, leads}
+use Rattle.mlr_json.proofs.GrammarRuns.{begins-prefix, represents-begins, whole_then, run, run_on, run-cons, run-whole}
 use Rattle.mlr_json.proofs.GrammarOutcome.{one_if, Balanced, balanced, count-push, run-append, run-push, run_on-nil, begins-run, bare-push, Reads, reads-nothing, reads-push, level-push, outcome_on, outcome-step, Holds}
 
 -- a run leads where the grammar leads
-leads-run : (frames : List Frame) (at : Phase) (before tokens : List Token) → Stands frames at before → Leads (run frames at tokens) (before ++ tokens)
-leads-run frames at before [] h = subst (Stands frames at) (sym (append-nil before)) h
+leads-run : (frames : List Frame) (at : Phase) (before tokens : List Token) → Represents frames at before → Leads (run frames at tokens) (before ++ tokens)
+leads-run frames at before [] h = subst (Represents frames at) (sym (append-nil before)) h
 leads-run frames at before (t ∷ tokens) h =
     subst (λ s. Leads s (before ++ t ∷ tokens)) (sym (run-cons frames at t tokens))
     (subst (Leads (run_on (step frames at t) tokens)) (append_assoc before (t ∷ []) tokens)
-    (on-step (step frames at t) (before ++ t ∷ []) tokens (λ more next stands. leads-run more next (before ++ t ∷ []) tokens stands) (leads frames at t before h)))
+    (on-step (step frames at t) (before ++ t ∷ []) tokens (λ more next represents. leads-run more next (before ++ t ∷ []) tokens represents) (leads frames at t before h)))
   where
-    on-step : (s : Step) (xs ys : List Token) → ((more : List Frame) (next : Phase) → Stands more next xs → Leads (run more next ys) (xs ++ ys)) → Leads s xs → Leads (run_on s ys) (xs ++ ys)
+    on-step : (s : Step) (xs ys : List Token) → ((more : List Frame) (next : Phase) → Represents more next xs → Leads (run more next ys) (xs ++ ys)) → Leads s xs → Leads (run_on s ys) (xs ++ ys)
     on-step (on more next) xs ys later h = later more next h
     on-step (whole value) xs [] later h = (h.0, append-nil xs ∙ h.1, h.2)
     on-step (whole value) xs (y ∷ ys) later h = tt
@@ -66,7 +66,7 @@ level-run frames at before (t ∷ tokens) h =
 -- the outcome behind tokens that were passed
 abbrev outcome_at : ℕ → Step → List (ℕ × Token) → Option ℕ → Outcome
 outcome_at end (on frames at) tokens stop = outcome_from end frames at tokens stop
-outcome_at end (whole value) tokens stop = outcome_behind value tokens stop
+outcome_at end (whole value) tokens stop = outcome_after value tokens stop
 outcome_at end wrong tokens stop = syntax end
 
 module _ (end : ℕ) (stop : Option ℕ) where
@@ -78,9 +78,9 @@ module _ (end : ℕ) (stop : Option ℕ) where
   passes-step done before tokens place t frames at reads shallow later (on more next) is right =
       let balance : length more + one_if (is_closing t) ≡ length frames + one_if (is_opening t) = subst (λ x. Balanced x (length frames) t) is (balanced frames at t) in
       let level : count_by is_opening (bare done ++ t ∷ []) ≡ count_by is_closing (bare done ++ t ∷ []) + length more = level-push done frames at t (length more) reads balance in
-      let front : take (length (bare done) + 1) (bare (done ++ (place, t) ∷ before)) ≡ bare done ++ t ∷ [] =
+      let prefix : take (length (bare done) + 1) (bare (done ++ (place, t) ∷ before)) ≡ bare done ++ t ∷ [] =
       ap (take (length (bare done) + 1)) (map-append (λ x. x.1) done ((place, t) ∷ before)) ∙ take-append-add (bare done) (t ∷ bare before) 1 in
-      let low : level_of (bare done ++ t ∷ []) ≤ 100 = subst (λ x. level_of x ≤ 100) front (shallow (length (bare done) + 1)) in
+      let low : level_of (bare done ++ t ∷ []) ≤ 100 = subst (λ x. level_of x ≤ 100) prefix (shallow (length (bare done) + 1)) in
       let few : length more ≤ 100 = omega arith in
       ap (λ b. cond b (deep place) (outcome_from end more next (before ++ tokens) stop)) (le-ltb 100 (length more) few)
       ∙ later more next (reads-push done frames at place t more next reads is few) right
@@ -106,52 +106,52 @@ module _ (end : ℕ) (stop : Option ℕ) where
       ap (λ x. outcome_from end [] phase.Value x stop) parts
       ∙ passes [] before tokens [] phase.Value reads-nothing shallow (begins-run (bare before) begins)
 
-  wrong-place : (before behind : List (ℕ × Token)) (p : ℕ) (t : Token) → Begins (bare before) → (Begins (bare before ++ t ∷ []) → ⊥) → (s : Step) → run [] phase.Value (bare before) ≡ s
-      → outcome_at end s ((p, t) ∷ behind) stop ≡ syntax p
-  wrong-place before behind p t begins not (on frames at) is =
-      outcome-step end frames at p t behind stop ∙ stuck (step frames at t) refl
+  wrong-place : (before following : List (ℕ × Token)) (p : ℕ) (t : Token) → Begins (bare before) → (Begins (bare before ++ t ∷ []) → ⊥) → (s : Step) → run [] phase.Value (bare before) ≡ s
+      → outcome_at end s ((p, t) ∷ following) stop ≡ syntax p
+  wrong-place before following p t begins not (on frames at) is =
+      outcome-step end frames at p t following stop ∙ stuck (step frames at t) refl
     where
-      stands : Stands frames at (bare before)
-      stands = subst (λ s. Leads s (bare before)) is (leads-run [] phase.Value [] (bare before) refl)
+      represents : Represents frames at (bare before)
+      represents = subst (λ s. Leads s (bare before)) is (leads-run [] phase.Value [] (bare before) refl)
 
-      stuck : (s : Step) → step frames at t ≡ s → outcome_on end behind stop p s ≡ syntax p
-      stuck (on more next) e = absurd (not (stands-begins more next (bare before ++ t ∷ []) (subst (λ s. Leads s (bare before ++ t ∷ [])) e (leads frames at t (bare before) stands))))
+      stuck : (s : Step) → step frames at t ≡ s → outcome_on end following stop p s ≡ syntax p
+      stuck (on more next) e = absurd (not (represents-begins more next (bare before ++ t ∷ []) (subst (λ s. Leads s (bare before ++ t ∷ [])) e (leads frames at t (bare before) represents))))
       stuck (whole value) e =
-          let came = subst (λ s. Leads s (bare before ++ t ∷ [])) e (leads frames at t (bare before) stands) in
+          let came = subst (λ s. Leads s (bare before ++ t ∷ [])) e (leads frames at t (bare before) represents) in
           absurd (not (record { syntax = came.0; more = []; whole = append-nil (bare before ++ t ∷ []) ∙ came.1 }))
       stuck wrong e = refl
-  wrong-place before behind p t begins not (whole value) is = refl
-  wrong-place before behind p t begins not wrong is = absurd (begins-run (bare before) begins is)
+  wrong-place before following p t begins not (whole value) is = refl
+  wrong-place before following p t begins not wrong is = absurd (begins-run (bare before) begins is)
 
-  deep-place : (before behind : List (ℕ × Token)) (p : ℕ) (t : Token) → Begins (bare before ++ t ∷ []) → level_of (bare before ++ t ∷ []) ≡ 101 → (s : Step) → run [] phase.Value (bare before) ≡ s
-      → outcome_at end s ((p, t) ∷ behind) stop ≡ deep p
-  deep-place before behind p t begins level (on frames at) is =
-      outcome-step end frames at p t behind stop ∙ opened (step frames at t) refl
+  deep-place : (before following : List (ℕ × Token)) (p : ℕ) (t : Token) → Begins (bare before ++ t ∷ []) → level_of (bare before ++ t ∷ []) ≡ 101 → (s : Step) → run [] phase.Value (bare before) ≡ s
+      → outcome_at end s ((p, t) ∷ following) stop ≡ deep p
+  deep-place before following p t begins level (on frames at) is =
+      outcome-step end frames at p t following stop ∙ opened (step frames at t) refl
     where
       ran : run [] phase.Value (bare before ++ t ∷ []) ≡ step frames at t
       ran = run-push [] phase.Value (bare before) t frames at is ∙ run_on-nil (step frames at t)
 
-      opened : (s : Step) → step frames at t ≡ s → outcome_on end behind stop p s ≡ deep p
+      opened : (s : Step) → step frames at t ≡ s → outcome_on end following stop p s ≡ deep p
       opened (on more next) e =
           let l : count_by is_opening (bare before ++ t ∷ []) ≡ count_by is_closing (bare before ++ t ∷ []) + length more =
           subst (λ s. LevelAt s (bare before ++ t ∷ [])) (ran ∙ e) (level-run [] phase.Value [] (bare before ++ t ∷ []) refl) in
           let many : 100 < length more = omega arith in
-          ap (λ b. cond b (deep p) (outcome_from end more next behind stop)) (lt-ltb 100 (length more) many)
+          ap (λ b. cond b (deep p) (outcome_from end more next following stop)) (lt-ltb 100 (length more) many)
       opened (whole value) e =
           let l : count_by is_opening (bare before ++ t ∷ []) ≡ count_by is_closing (bare before ++ t ∷ []) + 0 =
           subst (λ s. LevelAt s (bare before ++ t ∷ [])) (ran ∙ e) (level-run [] phase.Value [] (bare before ++ t ∷ []) refl) in
           absurd (omega arith)
       opened wrong e = absurd (begins-run (bare before ++ t ∷ []) begins (ran ∙ e))
-  deep-place before behind p t begins level (whole value) is =
+  deep-place before following p t begins level (whole value) is =
       absurd (begins-run (bare before ++ t ∷ []) begins (run-append [] phase.Value (bare before) (t ∷ []) ∙ ap (λ s. run_on s (t ∷ [])) is))
-  deep-place before behind p t begins level wrong is =
-      absurd (begins-run (bare before) (begins-front (bare before) (t ∷ []) begins) is)
+  deep-place before following p t begins level wrong is =
+      absurd (begins-run (bare before) (begins-prefix (bare before) (t ∷ []) begins) is)
 
   cut-place : (all : List (ℕ × Token)) (p : ℕ) → Begins (bare all) → ((stop ≡ Some p) ⊎ ((stop ≡ None) × (p ≡ end) × ((s : Syntax) → bare all ≡ tokens_in s → ⊥))) → (s : Step) → run [] phase.Value (bare all) ≡ s
       → outcome_at end s [] stop ≡ syntax p
   cut-place all p begins (inl at_p) (on frames at) is = ap (outcome_cut end) at_p
   cut-place all p begins (inr ended) (on frames at) is = ap (outcome_cut end) ended.0 ∙ ap syntax (sym ended.1)
-  cut-place all p begins (inl at_p) (whole value) is = ap (outcome_behind value []) at_p
+  cut-place all p begins (inl at_p) (whole value) is = ap (outcome_after value []) at_p
   cut-place all p begins (inr ended) (whole value) is =
       let came = subst (λ s. Leads s (bare all)) is (leads-run [] phase.Value [] (bare all) refl) in
       absurd (ended.2 came.0 came.1)
@@ -163,13 +163,13 @@ module _ (end : ℕ) (stop : Option ℕ) where
       let begins : Begins (bare all) = record { syntax = h.0; more = []; whole = append-nil (bare all) ∙ h.1 } in
       up_to all all [] (sym (append-nil all)) (subst IsShallow (sym h.1) h.3) begins
       ∙ ap (λ s. outcome_at end s [] stop) (ap (run [] phase.Value) h.1 ∙ run-whole h.0)
-      ∙ ap (outcome_behind (value_of h.0) []) h.2 ∙ ap read (sym h.4)
+      ∙ ap (outcome_after (value_of h.0) []) h.2 ∙ ap read (sym h.4)
   only all (syntax p) (inl w) =
-      up_to all w.before ((p, w.token) ∷ w.behind) w.parts w.shallow w.begins
-      ∙ wrong-place w.before w.behind p w.token w.begins w.wrong (run [] phase.Value (bare w.before)) refl
+      up_to all w.before ((p, w.token) ∷ w.following) w.parts w.shallow w.begins
+      ∙ wrong-place w.before w.following p w.token w.begins w.wrong (run [] phase.Value (bare w.before)) refl
   only all (syntax p) (inr c) =
       up_to all all [] (sym (append-nil all)) c.shallow c.begins
       ∙ cut-place all p c.begins c.stop (run [] phase.Value (bare all)) refl
   only all (deep p) d =
-      up_to all d.before ((p, d.token) ∷ d.behind) d.parts d.shallow (begins-front (bare d.before) (d.token ∷ []) d.begins)
-      ∙ deep-place d.before d.behind p d.token d.begins d.deep (run [] phase.Value (bare d.before)) refl
+      up_to all d.before ((p, d.token) ∷ d.following) d.parts d.shallow (begins-prefix (bare d.before) (d.token ∷ []) d.begins)
+      ∙ deep-place d.before d.following p d.token d.begins d.deep (run [] phase.Value (bare d.before)) refl

@@ -13,9 +13,9 @@ use Rattle.mlr_json.specs.declared.frame.Frame.{Frame}
 use Rattle.mlr_json.specs.declared.frame.Frame.TheVariants.{Array, Map}
 use Rattle.mlr_json.specs.declared.frame.Phase.{Phase}
 use Rattle.mlr_json.specs.declared.frame.Phase.TheVariants as phase
-use Rattle.mlr_json.specs.Machine.{Step, on, whole, wrong, with_value, with_key, step, step_mark, map_ended, array_ended, comma_read, colon_read, Outcome, read, syntax, deep, outcome_behind, outcome_cut, outcome_from}
-use Rattle.mlr_json.proofs.Grammar.{Stands, Leads, leads}
-use Rattle.mlr_json.proofs.GrammarRuns.{begins-front, stands-begins, whole_then, run, run_on, run-cons, run-whole}
+use Rattle.mlr_json.specs.Machine.{Step, on, whole, wrong, with_value, with_key, step, step_mark, map_ended, array_ended, comma_read, colon_read, Outcome, read, syntax, deep, outcome_after, outcome_cut, outcome_from}
+use Rattle.mlr_json.proofs.Grammar.{Represents, Leads, leads}
+use Rattle.mlr_json.proofs.GrammarRuns.{begins-prefix, represents-begins, whole_then, run, run_on, run-cons, run-whole}
 
 -- ---- how deep the frames stand
 
@@ -179,13 +179,13 @@ begins-run tokens h is =
 -- ---- what was read so far
 
 pub record Reads (before : List (ℕ × Token)) (frames : List Frame) (at : Phase) : Type 0 where
-  pub stands : Stands frames at (bare before)
+  pub represents : Represents frames at (bare before)
   pub runs : run [] phase.Value (bare before) ≡ on frames at
   pub level : count_by is_opening (bare before) ≡ count_by is_closing (bare before) + length frames
   pub shallow : IsShallow (bare before)
 
 pub reads-nothing : Reads [] [] phase.Value
-reads-nothing = record { stands = refl; runs = refl; level = refl; shallow = λ n. none n }
+reads-nothing = record { represents = refl; runs = refl; level = refl; shallow = λ n. none n }
   where
     none : (n : ℕ) → level_of (take n []) ≤ 100
     none zero = omega arith
@@ -215,7 +215,7 @@ reads-push before frames at place t more next h is few =
     let level : count_by is_opening (bare before ++ t ∷ []) ≡ count_by is_closing (bare before ++ t ∷ []) + length more =
     level-push before frames at t (length more) h (subst (λ s. Balanced s (length frames) t) is (balanced frames at t)) in
     record {
-      stands = subst (Stands more next) (sym b) (subst (λ s. Leads s (bare before ++ t ∷ [])) is (leads frames at t (bare before) h.stands));
+      represents = subst (Represents more next) (sym b) (subst (λ s. Leads s (bare before ++ t ∷ [])) is (leads frames at t (bare before) h.represents));
       runs = ap (run [] phase.Value) b ∙ run-push [] phase.Value (bare before) t frames at h.runs ∙ run_on-nil (step frames at t) ∙ is;
       level = subst (λ x. count_by is_opening x ≡ count_by is_closing x + length more) (sym b) level;
       shallow = subst IsShallow (sym b) (shallow-push (bare before) t h.shallow (omega arith));
@@ -228,17 +228,17 @@ Holds all stop end (read value) = (s : Syntax) × (bare all ≡ tokens_in s) × 
 Holds all stop end (syntax place) = IsWrongAt all place ⊎ IsCutAt (record { tokens = all; stop = stop }) end place
 Holds all stop end (deep place) = IsDeepAt all place
 
-whole-stops : (all before behind : List (ℕ × Token)) (place end p : ℕ) (t : Token) (value : Tree) (stop : Option ℕ) (frames : List Frame) (at : Phase)
-    → all ≡ before ++ (p, t) ∷ behind → Reads before frames at → step frames at t ≡ whole value → Holds all stop end (outcome_behind value behind stop)
+whole-stops : (all before following : List (ℕ × Token)) (place end p : ℕ) (t : Token) (value : Tree) (stop : Option ℕ) (frames : List Frame) (at : Phase)
+    → all ≡ before ++ (p, t) ∷ following → Reads before frames at → step frames at t ≡ whole value → Holds all stop end (outcome_after value following stop)
 whole-stops all before [] place end p t value None frames at parts h is =
     let b : bare all ≡ bare before ++ t ∷ [] = ap bare parts ∙ bare-push before p t in
-    let came = subst (λ s. Leads s (bare before ++ t ∷ [])) is (leads frames at t (bare before) h.stands) in
+    let came = subst (λ s. Leads s (bare before ++ t ∷ [])) is (leads frames at t (bare before) h.represents) in
     let level : count_by is_opening (bare before ++ t ∷ []) ≡ count_by is_closing (bare before ++ t ∷ []) + 0 =
     level-push before frames at t 0 h (zero-add (one_if (is_closing t)) ∙ subst (λ s. Balanced s (length frames) t) is (balanced frames at t)) in
     (came.0, b ∙ came.1, refl, subst IsShallow came.1 (shallow-push (bare before) t h.shallow (omega arith)), came.2)
 whole-stops all before [] place end p t value (Some q) frames at parts h is =
     let b : bare all ≡ bare before ++ t ∷ [] = ap bare parts ∙ bare-push before p t in
-    let came = subst (λ s. Leads s (bare before ++ t ∷ [])) is (leads frames at t (bare before) h.stands) in
+    let came = subst (λ s. Leads s (bare before ++ t ∷ [])) is (leads frames at t (bare before) h.represents) in
     let level : count_by is_opening (bare before ++ t ∷ []) ≡ count_by is_closing (bare before ++ t ∷ []) + 0 =
     level-push before frames at t 0 h (zero-add (one_if (is_closing t)) ∙ subst (λ s. Balanced s (length frames) t) is (balanced frames at t)) in
     inr (record {
@@ -246,9 +246,9 @@ whole-stops all before [] place end p t value (Some q) frames at parts h is =
       shallow = subst IsShallow (sym b) (shallow-push (bare before) t h.shallow (omega arith));
       stop = inl refl;
     })
-whole-stops all before ((q, u) ∷ behind) place end p t value stop frames at parts h is =
+whole-stops all before ((q, u) ∷ following) place end p t value stop frames at parts h is =
     let b : bare (before ++ (p, t) ∷ []) ≡ bare before ++ t ∷ [] = bare-push before p t in
-    let came = subst (λ s. Leads s (bare before ++ t ∷ [])) is (leads frames at t (bare before) h.stands) in
+    let came = subst (λ s. Leads s (bare before ++ t ∷ [])) is (leads frames at t (bare before) h.represents) in
     let level : count_by is_opening (bare before ++ t ∷ []) ≡ count_by is_closing (bare before ++ t ∷ []) + 0 =
     level-push before frames at t 0 h (zero-add (one_if (is_closing t)) ∙ subst (λ s. Balanced s (length frames) t) is (balanced frames at t)) in
     let ran : run [] phase.Value (bare (before ++ (p, t) ∷ [])) ≡ whole value =
@@ -256,8 +256,8 @@ whole-stops all before ((q, u) ∷ behind) place end p t value stop frames at pa
     inl (record {
       before = before ++ (p, t) ∷ [];
       token = u;
-      behind = behind;
-      parts = parts ∙ sym (append_assoc before ((p, t) ∷ []) ((q, u) ∷ behind));
+      following = following;
+      parts = parts ∙ sym (append_assoc before ((p, t) ∷ []) ((q, u) ∷ following));
       begins = record { syntax = came.0; more = []; whole = append-nil (bare (before ++ (p, t) ∷ [])) ∙ b ∙ came.1 };
       shallow = subst IsShallow (sym b) (shallow-push (bare before) t h.shallow (omega arith));
       wrong = λ begins. begins-run (bare (before ++ (p, t) ∷ []) ++ u ∷ []) begins
@@ -265,9 +265,9 @@ whole-stops all before ((q, u) ∷ behind) place end p t value stop frames at pa
     })
 
 cut-holds : (all : List (ℕ × Token)) (end : ℕ) (stop : Option ℕ) (frames : List Frame) (at : Phase) → Reads all frames at → Holds all stop end (outcome_cut end stop)
-cut-holds all end (Some place) frames at h = inr (record { begins = stands-begins frames at (bare all) h.stands; shallow = h.shallow; stop = inl refl })
+cut-holds all end (Some place) frames at h = inr (record { begins = represents-begins frames at (bare all) h.represents; shallow = h.shallow; stop = inl refl })
 cut-holds all end None frames at h = inr (record {
-  begins = stands-begins frames at (bare all) h.stands;
+  begins = represents-begins frames at (bare all) h.represents;
   shallow = h.shallow;
   stop = inr (refl, refl, λ s is. let e : on frames at ≡ whole (value_of s) = sym h.runs ∙ ap (run [] phase.Value) is ∙ run-whole s in cc);
 })
@@ -278,14 +278,14 @@ at_most_one false = omega arith
 
 abbrev pub outcome_on : ℕ → List (ℕ × Token) → Option ℕ → ℕ → Step → Outcome
 outcome_on end tokens stop place (on more next) = cond (ltb 100 (length more)) (deep place) (outcome_from end more next tokens stop)
-outcome_on end tokens stop place (whole value) = outcome_behind value tokens stop
+outcome_on end tokens stop place (whole value) = outcome_after value tokens stop
 outcome_on end tokens stop place wrong = syntax place
 
 pub outcome-step : (end : ℕ) (frames : List Frame) (at : Phase) (place : ℕ) (t : Token) (tokens : List (ℕ × Token)) (stop : Option ℕ)
     → outcome_from end frames at ((place, t) ∷ tokens) stop ≡ outcome_on end tokens stop place (step frames at t)
 outcome-step end frames at place t tokens stop = elim (step frames at t) as (λ s. elim s as (λ _. Outcome) [
   | on more next ↦ cond (ltb 100 (length more)) (deep place) (outcome_from end more next tokens stop)
-  | whole value ↦ outcome_behind value tokens stop
+  | whole value ↦ outcome_after value tokens stop
   | wrong ↦ syntax place
 ] ≡ outcome_on end tokens stop place s) [
   | on more next ↦ refl
@@ -301,9 +301,9 @@ holds-step all before tokens end stop frames at place t parts h later wrong is =
     inl (record {
       before = before;
       token = t;
-      behind = tokens;
+      following = tokens;
       parts = parts;
-      begins = stands-begins frames at (bare before) h.stands;
+      begins = represents-begins frames at (bare before) h.represents;
       shallow = h.shallow;
       wrong = λ begins. begins-run (bare before ++ t ∷ []) begins (run-push [] phase.Value (bare before) t frames at h.runs ∙ run_on-nil (step frames at t) ∙ is);
     })
@@ -319,9 +319,9 @@ holds-step all before tokens end stop frames at place t parts h later (on more n
           rw past (record {
             before = before;
             token = t;
-            behind = tokens;
+            following = tokens;
             parts = parts;
-            begins = stands-begins more next (bare before ++ t ∷ []) (subst (λ s. Leads s (bare before ++ t ∷ [])) is (leads frames at t (bare before) h.stands));
+            begins = represents-begins more next (bare before ++ t ∷ []) (subst (λ s. Leads s (bare before ++ t ∷ [])) is (leads frames at t (bare before) h.represents));
             shallow = h.shallow;
             deep = omega arith;
           })

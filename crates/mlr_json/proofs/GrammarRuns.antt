@@ -11,10 +11,10 @@ use Rattle.mlr_json.specs.declared.frame.Frame.TheVariants.{Array, Map}
 use Rattle.mlr_json.specs.declared.frame.Phase.{Phase}
 use Rattle.mlr_json.specs.declared.frame.Phase.TheVariants as phase
 use Rattle.mlr_json.specs.Machine.{Step, on, whole, wrong, takes_value, takes_key, with_value, step}
-use Rattle.mlr_json.proofs.Grammar.{elements_of, members_of, member_text, each_item, each_member, Awaits, Stands, Leads, leads, items-tokens, members-tokens, awaits-first}
+use Rattle.mlr_json.proofs.Grammar.{elements_of, members_of, member_text, each_item, each_member, Awaits, Represents, Leads, leads, items-tokens, members-tokens, awaits-first}
 
-pub begins-front : (a b : List Token) → Begins (a ++ b) → Begins a
-begins-front a b h = record { syntax = h.syntax; more = b ++ h.more; whole = sym (append_assoc a b h.more) ∙ h.whole }
+pub begins-prefix : (a b : List Token) → Begins (a ++ b) → Begins a
+begins-prefix a b h = record { syntax = h.syntax; more = b ++ h.more; whole = sym (append_assoc a b h.more) ∙ h.whole }
 
 -- where a value is awaited, any value may come
 awaits-begins : (frames : List Frame) (tokens : List Token) (s : Syntax) → Awaits frames tokens → Begins (tokens ++ tokens_in s)
@@ -24,49 +24,49 @@ awaits-begins (Array items ∷ frames) tokens s h =
     let whole : h.0 ++ tokens_in bigger ≡ (tokens ++ tokens_in s) ++ sign EndArray ∷ [] =
     ap (λ t. h.0 ++ (sign BeginArray ∷ t ++ sign EndArray ∷ [])) (items-tokens h.1 s)
     ∙ sym (ap (λ t. (t ++ tokens_in s) ++ sign EndArray ∷ []) h.4 ∙ simp append_assoc) in
-    begins-front (tokens ++ tokens_in s) (sign EndArray ∷ []) (subst Begins whole (awaits-begins frames h.0 bigger h.2))
+    begins-prefix (tokens ++ tokens_in s) (sign EndArray ∷ []) (subst Begins whole (awaits-begins frames h.0 bigger h.2))
 awaits-begins (Map pairs key ∷ frames) tokens s h =
     let bigger : Syntax = object (members_of (h.1 ++ (key, s) ∷ [])) in
     let whole : h.0 ++ tokens_in bigger ≡ (tokens ++ tokens_in s) ++ sign EndMap ∷ [] =
     ap (λ t. h.0 ++ (sign BeginMap ∷ t ++ sign EndMap ∷ [])) (members-tokens h.1 (key, s))
     ∙ sym (ap (λ t. (t ++ tokens_in s) ++ sign EndMap ∷ []) h.4 ∙ simp append_assoc) in
-    begins-front (tokens ++ tokens_in s) (sign EndMap ∷ []) (subst Begins whole (awaits-begins frames h.0 bigger h.2))
+    begins-prefix (tokens ++ tokens_in s) (sign EndMap ∷ []) (subst Begins whole (awaits-begins frames h.0 bigger h.2))
 
 -- a front of a value that is awaited
-front-begins : (frames : List Frame) (before tokens inner rest : List Token) (s : Syntax) → Awaits frames before → tokens ≡ before ++ inner → tokens_in s ≡ inner ++ rest → Begins tokens
-front-begins frames before tokens inner rest s h is front =
+prefix-begins : (frames : List Frame) (before tokens inner rest : List Token) (s : Syntax) → Awaits frames before → tokens ≡ before ++ inner → tokens_in s ≡ inner ++ rest → Begins tokens
+prefix-begins frames before tokens inner rest s h is prefix =
     subst Begins (sym is)
-    (begins-front (before ++ inner) rest
-    (subst Begins (ap (λ t. before ++ t) front ∙ sym (append_assoc before inner rest)) (awaits-begins frames before s h)))
+    (begins-prefix (before ++ inner) rest
+    (subst Begins (ap (λ t. before ++ t) prefix ∙ sym (append_assoc before inner rest)) (awaits-begins frames before s h)))
 
-pub stands-begins : (frames : List Frame) (at : Phase) (tokens : List Token) → Stands frames at tokens → Begins tokens
-stands-begins frames phase.Value tokens h = begins-front tokens (text_token [] ∷ []) (awaits-begins frames tokens (text []) h)
-stands-begins [] phase.FirstItem tokens h = absurd h
-stands-begins (Map pairs key ∷ frames) phase.FirstItem tokens h = absurd h
-stands-begins (Array items ∷ frames) phase.FirstItem tokens h =
-    front-begins frames h.0 tokens (sign BeginArray ∷ []) (sign EndArray ∷ []) (elements no_elements) h.1.0 h.1.1 refl
-stands-begins [] phase.FirstKey tokens h = absurd h
-stands-begins (Array items ∷ frames) phase.FirstKey tokens h = absurd h
-stands-begins (Map pairs key ∷ frames) phase.FirstKey tokens h =
-    front-begins frames h.0 tokens (sign BeginMap ∷ []) (sign EndMap ∷ []) (object no_members) h.1.0 h.1.1 refl
-stands-begins [] phase.Key tokens h = absurd h
-stands-begins (Array items ∷ frames) phase.Key tokens h = absurd h
-stands-begins (Map pairs key ∷ frames) phase.Key tokens h =
+pub represents-begins : (frames : List Frame) (at : Phase) (tokens : List Token) → Represents frames at tokens → Begins tokens
+represents-begins frames phase.Value tokens h = begins-prefix tokens (text_token [] ∷ []) (awaits-begins frames tokens (text []) h)
+represents-begins [] phase.FirstItem tokens h = absurd h
+represents-begins (Map pairs key ∷ frames) phase.FirstItem tokens h = absurd h
+represents-begins (Array items ∷ frames) phase.FirstItem tokens h =
+    prefix-begins frames h.0 tokens (sign BeginArray ∷ []) (sign EndArray ∷ []) (elements no_elements) h.1.0 h.1.1 refl
+represents-begins [] phase.FirstKey tokens h = absurd h
+represents-begins (Array items ∷ frames) phase.FirstKey tokens h = absurd h
+represents-begins (Map pairs key ∷ frames) phase.FirstKey tokens h =
+    prefix-begins frames h.0 tokens (sign BeginMap ∷ []) (sign EndMap ∷ []) (object no_members) h.1.0 h.1.1 refl
+represents-begins [] phase.Key tokens h = absurd h
+represents-begins (Array items ∷ frames) phase.Key tokens h = absurd h
+represents-begins (Map pairs key ∷ frames) phase.Key tokens h =
     let last : List ℕ × Syntax = ([], text []) in
-    front-begins frames h.0 tokens (sign BeginMap ∷ each_member h.1) (member_text last ++ sign EndMap ∷ []) (object (members_of (h.1 ++ last ∷ []))) h.2.0 h.2.1
+    prefix-begins frames h.0 tokens (sign BeginMap ∷ each_member h.1) (member_text last ++ sign EndMap ∷ []) (object (members_of (h.1 ++ last ∷ []))) h.2.0 h.2.1
     (ap (λ t. sign BeginMap ∷ t ++ sign EndMap ∷ []) (members-tokens h.1 last) ∙ simp append_assoc)
-stands-begins [] phase.Colon tokens h = absurd h
-stands-begins (Array items ∷ frames) phase.Colon tokens h = absurd h
-stands-begins (Map pairs key ∷ frames) phase.Colon tokens h =
+represents-begins [] phase.Colon tokens h = absurd h
+represents-begins (Array items ∷ frames) phase.Colon tokens h = absurd h
+represents-begins (Map pairs key ∷ frames) phase.Colon tokens h =
     let last : List ℕ × Syntax = (key, text []) in
-    front-begins frames h.0 tokens (sign BeginMap ∷ each_member h.1 ++ text_token key ∷ []) (sign Colon ∷ text_token [] ∷ sign EndMap ∷ []) (object (members_of (h.1 ++ last ∷ []))) h.2.0 h.2.1
+    prefix-begins frames h.0 tokens (sign BeginMap ∷ each_member h.1 ++ text_token key ∷ []) (sign Colon ∷ text_token [] ∷ sign EndMap ∷ []) (object (members_of (h.1 ++ last ∷ []))) h.2.0 h.2.1
     (ap (λ t. sign BeginMap ∷ t ++ sign EndMap ∷ []) (members-tokens h.1 last) ∙ simp append_assoc)
-stands-begins [] phase.Later tokens h = absurd h
-stands-begins (Array items ∷ frames) phase.Later tokens h =
-    front-begins frames h.0 tokens (sign BeginArray ∷ each_item h.1 ++ tokens_in h.2) (sign EndArray ∷ []) (elements (elements_of (h.1 ++ h.2 ∷ []))) h.3.0 h.3.1
+represents-begins [] phase.Later tokens h = absurd h
+represents-begins (Array items ∷ frames) phase.Later tokens h =
+    prefix-begins frames h.0 tokens (sign BeginArray ∷ each_item h.1 ++ tokens_in h.2) (sign EndArray ∷ []) (elements (elements_of (h.1 ++ h.2 ∷ []))) h.3.0 h.3.1
     (ap (λ t. sign BeginArray ∷ t ++ sign EndArray ∷ []) (items-tokens h.1 h.2))
-stands-begins (Map pairs key ∷ frames) phase.Later tokens h =
-    front-begins frames h.0 tokens (sign BeginMap ∷ each_member h.1 ++ member_text h.2) (sign EndMap ∷ []) (object (members_of (h.1 ++ h.2 ∷ []))) h.3.0 h.3.1
+represents-begins (Map pairs key ∷ frames) phase.Later tokens h =
+    prefix-begins frames h.0 tokens (sign BeginMap ∷ each_member h.1 ++ member_text h.2) (sign EndMap ∷ []) (object (members_of (h.1 ++ h.2 ∷ []))) h.3.0 h.3.1
     (ap (λ t. sign BeginMap ∷ t ++ sign EndMap ∷ []) (members-tokens h.1 h.2))
 
 -- behind a whole value no token may come

@@ -7,7 +7,7 @@ use Rattle.std.proofs.lemmas.Bool.{or_parts, or_right, eqb-true, cases_Bool, and
 use Rattle.std.proofs.lemmas.Slice.Eq.{bytes_eq-Decides}
 use Rattle.mlr_spec.specs.declared.infer.Kind.{Kind}
 use Rattle.mlr_spec.specs.declared.infer.Kind.TheVariants.{Empty, Str, Int, Frac, Wide}
-use Rattle.mlr_spec.specs.Infer.{digit, are_digits, number, is_negative, unsigned, base_of, base_of_letter, is_based, is_e, is_fraction, whole, word as word_kind, kind_behind_sign, kind_of}
+use Rattle.mlr_spec.specs.Infer.{digit, are_digits, number, is_negative, unsigned, base_of, base_of_letter, is_based, is_e, is_fraction, whole, word as word_kind, kind_after_sign, kind_of}
 use Rattle.mlr_spec.specs.Tree.{Tree}
 use Rattle.mlr_spec.specs.JsonTokens.{is_word_byte, number_of_kind, word_value, Token, word_token, token_of_word}
 use Rattle.mlr_value.specs.Fraction.{fraction_from}
@@ -148,9 +148,9 @@ IsNumber (Int n) = Unit {0}
 IsNumber Frac = Unit {0}
 IsNumber Wide = Unit {0}
 
-behind-sign-words : (negative : Bool) (t : List ℕ) → IsNumber (kind_behind_sign false negative t) → list_all is_word_byte t ≡ true
-unfolding kind_behind_sign
-behind-sign-words negative t h =
+following-sign-words : (negative : Bool) (t : List ℕ) → IsNumber (kind_after_sign false negative t) → list_all is_word_byte t ≡ true
+unfolding kind_after_sign
+following-sign-words negative t h =
     elim (cases_Bool (are_digits 10 t)) [
       | inl y ↦ are_digits-words 10 t (omega arith) y
       | inr n1 ↦ elim (cases_Bool (is_based t)) [
@@ -158,7 +158,7 @@ behind-sign-words negative t h =
         | inr n2 ↦ elim (cases_Bool (is_fraction t)) [
           | inl y ↦ fraction-words false false t (fraction_from-whole t ∙ y)
           | inr n3 ↦
-              let str : kind_behind_sign false negative t ≡ Str = rw (n1, n2, n3) refl in
+              let str : kind_after_sign false negative t ≡ Str = rw (n1, n2, n3) refl in
               absurd (subst IsNumber str h)
         ]
       ]
@@ -166,14 +166,14 @@ behind-sign-words negative t h =
 
 pub number-words : (t : List ℕ) → IsNumber (kind_of plain t) → list_all is_word_byte t ≡ true
 number-words [] h = refl
-number-words (b ∷ t) h = unsigned-words (b ∷ t) (behind-sign-words (is_negative (b ∷ t)) (unsigned (b ∷ t)) h)
+number-words (b ∷ t) h = unsigned-words (b ∷ t) (following-sign-words (is_negative (b ∷ t)) (unsigned (b ∷ t)) h)
 
 no-keyword : (t keyword : List ℕ) → IsNumber (kind_of plain t) → kind_of plain keyword ≡ Str → bytes_eq t keyword ≡ false
 no-keyword t keyword h str =
     false_from_ne_true (bytes_eq t keyword) (λ e. subst IsNumber (ap (kind_of plain) ((bytes_eq-Decides t keyword).0 e) ∙ str) h)
 
 pub number-value : (t : List ℕ) (value : Tree) → IsNumber (kind_of plain t) → number_of_kind (kind_of plain t) false t ≡ Some value → token_of_word plain t ≡ Some (word_token value)
-unfolding kind_behind_sign
+unfolding kind_after_sign
 number-value t value h is =
     let w : word_value plain t ≡ Some value = rw (no-keyword t (codes "true") h refl, no-keyword t (codes "false") h refl, no-keyword t (codes "null") h refl) is in
     ap (λ o. elim o [ Some v ↦ Some (word_token v) | None ↦ None ]) w

@@ -6,7 +6,7 @@ use Rattle.std.proofs.lemmas.List.{take-append-le, length-append}
 use Rattle.std.proofs.lemmas.List.Folds.{prefix_len-append}
 use Rattle.std.proofs.lemmas.List.Sums.{prefix_len-le-length}
 use Rattle.mlr_spec.specs.Infer.{number}
-use Rattle.mlr_spec.specs.JsonTokens.{Piece, raw, unit, Lexeme, blank, mark, word, quote, piece, Front, found, begun, bad, mark_of, is_blank, is_word_byte, is_hex, is_raw, escape_of, front_unmarked, front_outside, front_unit, front_escape, front_inside, front_of}
+use Rattle.mlr_spec.specs.JsonTokens.{Piece, raw, unit, Lexeme, blank, mark, word, quote, piece, Scanned, found, begun, bad, mark_of, is_blank, is_word_byte, is_hex, is_raw, escape_of, lexeme_unmarked, lexeme_outside, lexeme_of_unit, lexeme_of_escape, lexeme_inside, first_lexeme}
 use Rattle.mlr_json.specs.Stable.{is_run, StaysFound}
 
 -- a run that ends before the text ends there with bytes behind it too
@@ -41,36 +41,36 @@ run-found p make text more lexeme len runs is run =
     ap₂ (λ t n. found (make t) n) (taken-stays p text more ends) (run-stays p text more ends) ∙ is
 
 -- the front of a text by its first byte
-blank-front : (b : ℕ) (t : List ℕ) → is_blank b ≡ true → front_unmarked (b ∷ t) ≡ found blank (prefix_len is_blank (b ∷ t))
-blank-front b t y =
+blank-prefix : (b : ℕ) (t : List ℕ) → is_blank b ≡ true → lexeme_unmarked (b ∷ t) ≡ found blank (prefix_len is_blank (b ∷ t))
+blank-prefix b t y =
     ap (λ v. cond v (found blank (prefix_len is_blank (b ∷ t))) (cond (b == 34) (found quote 1)
     (cond (is_word_byte b) (found (word (take_while is_word_byte (b ∷ t))) (prefix_len is_word_byte (b ∷ t))) (bad 0)))) y
 
-word-front : (b : ℕ) (t : List ℕ) → is_blank b ≡ false → (b == 34) ≡ false → is_word_byte b ≡ true
-    → front_unmarked (b ∷ t) ≡ found (word (take_while is_word_byte (b ∷ t))) (prefix_len is_word_byte (b ∷ t))
-word-front b t n1 n2 y =
-    let last : Front = found (word (take_while is_word_byte (b ∷ t))) (prefix_len is_word_byte (b ∷ t)) in
+word-prefix : (b : ℕ) (t : List ℕ) → is_blank b ≡ false → (b == 34) ≡ false → is_word_byte b ≡ true
+    → lexeme_unmarked (b ∷ t) ≡ found (word (take_while is_word_byte (b ∷ t))) (prefix_len is_word_byte (b ∷ t))
+word-prefix b t n1 n2 y =
+    let last : Scanned = found (word (take_while is_word_byte (b ∷ t))) (prefix_len is_word_byte (b ∷ t)) in
     ap (λ v. cond v (found blank (prefix_len is_blank (b ∷ t))) (cond (b == 34) (found quote 1) (cond (is_word_byte b) last (bad 0)))) n1
     ∙ ap (λ v. cond v (found quote 1) (cond (is_word_byte b) last (bad 0))) n2 ∙ ap (λ v. cond v last (bad 0)) y
 
-raw-front : (b : ℕ) (t : List ℕ) → (b == 34) ≡ false → (b == 92) ≡ false → front_inside (b ∷ t) ≡ found (piece (raw (take_while is_raw (b ∷ t)))) (prefix_len is_raw (b ∷ t))
-unfolding front_inside
-raw-front b t n1 n2 =
-    let last : Front = found (piece (raw (take_while is_raw (b ∷ t)))) (prefix_len is_raw (b ∷ t)) in
-    ap (λ v. cond v (found quote 1) (cond (b == 92) (front_escape t) last)) n1 ∙ ap (λ v. cond v (front_escape t) last) n2
+raw-prefix : (b : ℕ) (t : List ℕ) → (b == 34) ≡ false → (b == 92) ≡ false → lexeme_inside (b ∷ t) ≡ found (piece (raw (take_while is_raw (b ∷ t)))) (prefix_len is_raw (b ∷ t))
+unfolding lexeme_inside
+raw-prefix b t n1 n2 =
+    let last : Scanned = found (piece (raw (take_while is_raw (b ∷ t)))) (prefix_len is_raw (b ∷ t)) in
+    ap (λ v. cond v (found quote 1) (cond (b == 92) (lexeme_of_escape t) last)) n1 ∙ ap (λ v. cond v (lexeme_of_escape t) last) n2
 
-unmarked-stays : (b : ℕ) (t more : List ℕ) (lexeme : Lexeme) (len : ℕ) → front_unmarked (b ∷ t) ≡ found lexeme len → RunOf lexeme len (b ∷ t) → front_unmarked (b ∷ (t ++ more)) ≡ found lexeme len
+unmarked-stays : (b : ℕ) (t more : List ℕ) (lexeme : Lexeme) (len : ℕ) → lexeme_unmarked (b ∷ t) ≡ found lexeme len → RunOf lexeme len (b ∷ t) → lexeme_unmarked (b ∷ (t ++ more)) ≡ found lexeme len
 unmarked-stays b t more lexeme len is run =
     elim (cases_Bool (is_blank b)) [
       | inl y ↦
-          blank-front b (t ++ more) y ∙ run-found is_blank (λ _. blank) (b ∷ t) more lexeme len (λ _. refl) (sym (blank-front b t y) ∙ is) run
+          blank-prefix b (t ++ more) y ∙ run-found is_blank (λ _. blank) (b ∷ t) more lexeme len (λ _. refl) (sym (blank-prefix b t y) ∙ is) run
       | inr n1 ↦ elim (cases_Bool (b == 34)) [
         | inl y ↦
             let here : found quote 1 ≡ found lexeme len = sym (rw (n1, y) refl) ∙ is in
             rw (n1, y) here
         | inr n2 ↦ elim (cases_Bool (is_word_byte b)) [
           | inl y ↦
-              word-front b (t ++ more) n1 n2 y ∙ run-found is_word_byte word (b ∷ t) more lexeme len (λ _. refl) (sym (word-front b t n1 n2 y) ∙ is) run
+              word-prefix b (t ++ more) n1 n2 y ∙ run-found is_word_byte word (b ∷ t) more lexeme len (λ _. refl) (sym (word-prefix b t n1 n2 y) ∙ is) run
           | inr n3 ↦
               let here : bad 0 ≡ found lexeme len = sym (rw (n1, n2, n3) refl) ∙ is in
               absurd (let e : bad 0 ≡ found lexeme len = here in cc)
@@ -78,16 +78,16 @@ unmarked-stays b t more lexeme len is run =
       ]
     ]
 
-outside-stays : (b : ℕ) (t more : List ℕ) (lexeme : Lexeme) (len : ℕ) → front_outside (b ∷ t) ≡ found lexeme len → RunOf lexeme len (b ∷ t) → front_outside (b ∷ (t ++ more)) ≡ found lexeme len
-unfolding front_outside
+outside-stays : (b : ℕ) (t more : List ℕ) (lexeme : Lexeme) (len : ℕ) → lexeme_outside (b ∷ t) ≡ found lexeme len → RunOf lexeme len (b ∷ t) → lexeme_outside (b ∷ (t ++ more)) ≡ found lexeme len
+unfolding lexeme_outside
 outside-stays b t more lexeme len is run =
-    elim (mark_of b) as (λ o. (elim o as (λ _. Front) [ Some m ↦ found (mark m) 1 | None ↦ front_unmarked (b ∷ t) ] ≡ found lexeme len)
-    → (elim o as (λ _. Front) [ Some m ↦ found (mark m) 1 | None ↦ front_unmarked (b ∷ (t ++ more)) ] ≡ found lexeme len)) [
+    elim (mark_of b) as (λ o. (elim o as (λ _. Scanned) [ Some m ↦ found (mark m) 1 | None ↦ lexeme_unmarked (b ∷ t) ] ≡ found lexeme len)
+    → (elim o as (λ _. Scanned) [ Some m ↦ found (mark m) 1 | None ↦ lexeme_unmarked (b ∷ (t ++ more)) ] ≡ found lexeme len)) [
       | Some m ↦ λ h. h
       | None ↦ λ h. unmarked-stays b t more lexeme len h run
     ] is
 
-unit-stays : (text more : List ℕ) (lexeme : Lexeme) (len : ℕ) → front_unit text ≡ found lexeme len → front_unit (text ++ more) ≡ found lexeme len
+unit-stays : (text more : List ℕ) (lexeme : Lexeme) (len : ℕ) → lexeme_of_unit text ≡ found lexeme len → lexeme_of_unit (text ++ more) ≡ found lexeme len
 unit-stays text more lexeme len is =
     elim (cases_Bool (nat_le 4 (prefix_len is_hex text))) [
       | inl y ↦
@@ -114,20 +114,20 @@ unit-stays text more lexeme len is =
               omega arith
         ]
 
-pub escape-stays : (text more : List ℕ) (lexeme : Lexeme) (len : ℕ) → front_escape text ≡ found lexeme len → front_escape (text ++ more) ≡ found lexeme len
+pub escape-stays : (text more : List ℕ) (lexeme : Lexeme) (len : ℕ) → lexeme_of_escape text ≡ found lexeme len → lexeme_of_escape (text ++ more) ≡ found lexeme len
 escape-stays [] more lexeme len is = absurd (let e : begun ≡ found lexeme len = is in cc)
 escape-stays (c ∷ text) more lexeme len is =
     elim (cases_Bool (c == 117)) [
       | inl y ↦
-          let here : front_unit text ≡ found lexeme len = sym (rw y refl) ∙ is in
+          let here : lexeme_of_unit text ≡ found lexeme len = sym (rw y refl) ∙ is in
           rw y (unit-stays text more lexeme len here)
       | inr n ↦
           let here : cond (nat_lt 0 (escape_of c)) (found (piece (raw (escape_of c ∷ []))) 2) (bad 1) ≡ found lexeme len = sym (rw n refl) ∙ is in
           rw n here
     ]
 
-inside-stays : (b : ℕ) (t more : List ℕ) (lexeme : Lexeme) (len : ℕ) → front_inside (b ∷ t) ≡ found lexeme len → RunOf lexeme len (b ∷ t) → front_inside (b ∷ (t ++ more)) ≡ found lexeme len
-unfolding front_inside
+inside-stays : (b : ℕ) (t more : List ℕ) (lexeme : Lexeme) (len : ℕ) → lexeme_inside (b ∷ t) ≡ found lexeme len → RunOf lexeme len (b ∷ t) → lexeme_inside (b ∷ (t ++ more)) ≡ found lexeme len
+unfolding lexeme_inside
 inside-stays b t more lexeme len is run =
     elim (cases_Bool (b == 34)) [
       | inl y ↦
@@ -135,15 +135,15 @@ inside-stays b t more lexeme len is run =
           rw y here
       | inr n1 ↦ elim (cases_Bool (b == 92)) [
         | inl y ↦
-            let here : front_escape t ≡ found lexeme len = sym (rw (n1, y) refl) ∙ is in
+            let here : lexeme_of_escape t ≡ found lexeme len = sym (rw (n1, y) refl) ∙ is in
             rw (n1, y) (escape-stays t more lexeme len here)
         | inr n2 ↦
-            raw-front b (t ++ more) n1 n2 ∙ run-found is_raw (λ x. piece (raw x)) (b ∷ t) more lexeme len (λ _. refl) (sym (raw-front b t n1 n2) ∙ is) run
+            raw-prefix b (t ++ more) n1 n2 ∙ run-found is_raw (λ x. piece (raw x)) (b ∷ t) more lexeme len (λ _. refl) (sym (raw-prefix b t n1 n2) ∙ is) run
       ]
     ]
 
 pub stays-found : (inside : Bool) (text more : List ℕ) → StaysFound inside text more
-unfolding front_outside front_inside
+unfolding lexeme_outside lexeme_inside
 stays-found true [] more lexeme len is run = absurd (let e : begun ≡ found lexeme len = is in cc)
 stays-found false [] more lexeme len is run = absurd (let e : begun ≡ found lexeme len = is in cc)
 stays-found true (b ∷ t) more lexeme len is run = inside-stays b t more lexeme len is run

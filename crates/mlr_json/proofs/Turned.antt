@@ -3,7 +3,7 @@ use Rattle.std.proofs.Common.{◌≡◌, ℕ, ◌+◌, ◌-◌, ◌<◌, ◌≤�
 use Rattle.std.proofs.lemmas.Bool.{le-ltb}
 use Rattle.std.proofs.lemmas.List.{length-reverse}
 use Rattle.mlr_spec.specs.Tree.{Tree}
-use Rattle.mlr_spec.specs.JsonTokens.{Lexeme, blank, mark, word, quote, piece, found, begun, bad, front_outside, is_inside, Token, text_token, Tokens, and_token, or_stop, token_of_word, tokens_outside, tokens_of, lexemes_from}
+use Rattle.mlr_spec.specs.JsonTokens.{Lexeme, blank, mark, word, quote, piece, found, begun, bad, lexeme_outside, is_inside, Token, text_token, Tokens, and_token, or_stop, token_of_word, tokens_outside, tokens_of, lexemes_from}
 use Rattle.mlr_json.specs.declared.frame.Frame.{Frame}
 use Rattle.mlr_json.specs.declared.frame.Frame.TheVariants.{Array, Map}
 use Rattle.mlr_json.specs.declared.frame.Phase.{Phase}
@@ -12,11 +12,11 @@ use Rattle.mlr_json.specs.declared.machine.Machine.{Machine}
 use Rattle.mlr_json.specs.declared.read.JsonRead.{JsonRead}
 use Rattle.mlr_json.specs.declared.read.JsonRead.TheVariants as answer
 use Rattle.mlr_json.specs.Answer.{Says}
-use Rattle.mlr_json.specs.Machine.{Step, on, whole, wrong, Outcome, read, syntax, deep, step, outcome_from, outcome_behind, outcome_of}
+use Rattle.mlr_json.specs.Machine.{Step, on, whole, wrong, Outcome, read, syntax, deep, step, outcome_from, outcome_after, outcome_of}
 use Rattle.mlr_json.specs.Readable.{plain}
 use Rattle.mlr_json.specs.Steps.{frames_of, takes_text}
 use Rattle.mlr_json.specs.Reading.{lexemes_left, tokens_left, stopped}
-use Rattle.mlr_json.specs.Turns.{outcome_at, behind_at, is_token, IsAnswer, IsRead}
+use Rattle.mlr_json.specs.Turns.{outcome_at, after_at, is_token, IsAnswer, IsRead}
 use Rattle.mlr_json.proofs.GrammarAnswer.{outcome-says, outcome-only}
 use Rattle.mlr_json.proofs.Left.{left-found, outside-begun, outside-bad}
 
@@ -35,7 +35,7 @@ cut-by-step end frames at place rest token = by-step (step frames at token)
   where
     by-step : (s : Step) → (elim s [
       | on more next ↦ cond (ltb 100 (length more)) (deep place) (outcome_from end more next [] (Some rest))
-      | whole value ↦ outcome_behind value [] (Some rest)
+      | whole value ↦ outcome_after value [] (Some rest)
       | wrong ↦ syntax place
     ]) ≡ cut_step end place rest s
     by-step (on more next) = refl
@@ -81,30 +81,30 @@ text-refused end frames phase.Later place text more takes = refl
 
 -- behind a whole value
 module _ (end : ℕ) (value : Tree) (text : List ℕ) (fits : length text ≤ end) where
-  pub behind-begun : front_outside text ≡ begun → behind_at value (tokens_left end text) ≡ read value
-  behind-begun is = ap (behind_at value) (outside-begun end text fits is)
+  pub following-begun : lexeme_outside text ≡ begun → after_at value (tokens_left end text) ≡ read value
+  following-begun is = ap (after_at value) (outside-begun end text fits is)
 
-  pub behind-bad : (offset : ℕ) → offset < length text → front_outside text ≡ bad offset → behind_at value (tokens_left end text) ≡ syntax (end - (length text - offset))
-  behind-bad offset within is = ap (behind_at value) (outside-bad end text fits offset within is)
+  pub following-bad : (offset : ℕ) → offset < length text → lexeme_outside text ≡ bad offset → after_at value (tokens_left end text) ≡ syntax (end - (length text - offset))
+  following-bad offset within is = ap (after_at value) (outside-bad end text fits offset within is)
 
-  stops : (place : ℕ) (token : Option Token) (more : Tokens) → behind_at value (or_stop place token more) ≡ syntax place
+  stops : (place : ℕ) (token : Option Token) (more : Tokens) → after_at value (or_stop place token more) ≡ syntax place
   stops place None more = refl
   stops place (Some token) more = refl
 
-  pub behind-token : (l : Lexeme) (len : ℕ) → front_outside text ≡ found l len → is_token l ≡ true → behind_at value (tokens_left end text) ≡ syntax (end - length text)
-  behind-token l len is yes_token = ap (λ x. behind_at value (tokens_outside plain x.lexemes x.stop)) (left-found false end text l len fits is) ∙ by-lexeme l yes_token
+  pub following-token : (l : Lexeme) (len : ℕ) → lexeme_outside text ≡ found l len → is_token l ≡ true → after_at value (tokens_left end text) ≡ syntax (end - length text)
+  following-token l len is yes_token = ap (λ x. after_at value (tokens_outside plain x.lexemes x.stop)) (left-found false end text l len fits is) ∙ by-lexeme l yes_token
     where
-      by-lexeme : (l : Lexeme) → is_token l ≡ true → behind_at value (tokens_outside plain ((end - length text, l) ∷ (lexemes_left (is_inside false l) end (drop len text)).lexemes) (lexemes_left (is_inside false l) end (drop len text)).stop) ≡ syntax (end - length text)
+      by-lexeme : (l : Lexeme) → is_token l ≡ true → after_at value (tokens_outside plain ((end - length text, l) ∷ (lexemes_left (is_inside false l) end (drop len text)).lexemes) (lexemes_left (is_inside false l) end (drop len text)).stop) ≡ syntax (end - length text)
       by-lexeme blank no_token = absurd (let e : false ≡ true = no_token in cc)
       by-lexeme (mark m) h = refl
       by-lexeme (word w) h = stops (end - length text) (token_of_word plain w) (tokens_left end (drop len text))
       by-lexeme quote h = refl
       by-lexeme (piece p) no_token = absurd (let e : false ≡ true = no_token in cc)
 
-  pub behind-blank : (l : Lexeme) (len : ℕ) → front_outside text ≡ found l len → is_token l ≡ false → behind_at value (tokens_left end text) ≡ behind_at value (tokens_left end (drop len text))
-  behind-blank l len is no_token = ap (λ x. behind_at value (tokens_outside plain x.lexemes x.stop)) (left-found false end text l len fits is) ∙ by-lexeme l no_token
+  pub following-blank : (l : Lexeme) (len : ℕ) → lexeme_outside text ≡ found l len → is_token l ≡ false → after_at value (tokens_left end text) ≡ after_at value (tokens_left end (drop len text))
+  following-blank l len is no_token = ap (λ x. after_at value (tokens_outside plain x.lexemes x.stop)) (left-found false end text l len fits is) ∙ by-lexeme l no_token
     where
-      by-lexeme : (l : Lexeme) → is_token l ≡ false → behind_at value (tokens_outside plain ((end - length text, l) ∷ (lexemes_left (is_inside false l) end (drop len text)).lexemes) (lexemes_left (is_inside false l) end (drop len text)).stop) ≡ behind_at value (tokens_left end (drop len text))
+      by-lexeme : (l : Lexeme) → is_token l ≡ false → after_at value (tokens_outside plain ((end - length text, l) ∷ (lexemes_left (is_inside false l) end (drop len text)).lexemes) (lexemes_left (is_inside false l) end (drop len text)).stop) ≡ after_at value (tokens_left end (drop len text))
       by-lexeme blank h = refl
       by-lexeme (mark m) h = absurd (let e : true ≡ false = h in cc)
       by-lexeme (word w) h = absurd (let e : true ≡ false = h in cc)

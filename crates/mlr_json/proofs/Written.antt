@@ -6,7 +6,7 @@ use Rattle.std.proofs.lemmas.List.{append-nil, length-map}
 use Rattle.mlr_spec.specs.declared.json.JsonStyle.{JsonStyle}
 use Rattle.mlr_spec.specs.Tree.{Tree, fields_of, trees_of, items_in, map_of, array_of, is_collection}
 use Rattle.mlr_spec.specs.Json.{json_at, json_pairs, json_items, json_field, bracketed, joined, is_stacked, new_line}
-use Rattle.mlr_json.specs.Escapes.{StandsBefore}
+use Rattle.mlr_json.specs.Escapes.{RepresentsBefore}
 use Rattle.mlr_json.specs.Writing.{gap, line_end, led}
 
 json_pairs-map : (style : JsonStyle) (level : ℕ) (pairs : List (List ℕ × Tree)) → json_pairs style level (fields_of pairs) ≡ map (json_field style level) pairs
@@ -53,10 +53,10 @@ pub any-here : {A : Type 0} → (p : A → Bool) (xs : List A) (place : ℕ) (x 
 any-here p xs place x at passes = rw (drop-at xs place x at, passes) refl
 
 -- what is left behind one text more
-pub all-next : {A : Type 0} → (lines : Bool) (level : ℕ) (f : A → List ℕ) (xs : List A) (place : ℕ) (x : A) (into behind_gap new all : List ℕ) → slice_get xs place ≡ Some x →
-    into ++ led lines (place == 0) level (map f (drop place xs)) ≡ all → behind_gap ≡ into ++ gap lines (place == 0) level → new ≡ behind_gap ++ f x →
+pub all-next : {A : Type 0} → (lines : Bool) (level : ℕ) (f : A → List ℕ) (xs : List A) (place : ℕ) (x : A) (into after_gap new all : List ℕ) → slice_get xs place ≡ Some x →
+    into ++ led lines (place == 0) level (map f (drop place xs)) ≡ all → after_gap ≡ into ++ gap lines (place == 0) level → new ≡ after_gap ++ f x →
     new ++ led lines (place + 1 == 0) level (map f (drop (place + 1) xs)) ≡ all
-all-next lines level f xs place x into behind_gap new all at so_far gap_is new_is =
+all-next lines level f xs place x into after_gap new all at so_far gap_is new_is =
     let g = gap lines (place == 0) level in
     let rest = led lines (place + 1 == 0) level (map f (drop (place + 1) xs)) in
     rw (new_is, gap_is) (append_assoc (into ++ g) (f x) rest ∙ append_assoc into g (f x ++ rest) ∙ ap (λ t. into ++ t) (sym (append_assoc g (f x) rest) ∙ sym (led-next lines level f xs place x at)) ∙ so_far)
@@ -93,5 +93,5 @@ array-written style lines level items into a b c some lines_is a_is b_is c_is =
     (bracketed-parts lines level 91 93 _ into (map (json_at style (level + 1)) items) (λ e. some (sym (length-map items (json_at style (level + 1))) ∙ e)) refl)
 
 -- what an old text stands before, it stands before with more behind
-pub front-next : (old a b c x y : List ℕ) → StandsBefore old a → b ≡ a ++ x → c ≡ b ++ y → StandsBefore old c
-front-next old a b c x y front b_is c_is = (front.0 ++ x ++ y, rw (c_is, b_is, front.1, append_assoc old front.0 x, append_assoc old (front.0 ++ x) y) refl)
+pub prefix-next : (old a b c x y : List ℕ) → RepresentsBefore old a → b ≡ a ++ x → c ≡ b ++ y → RepresentsBefore old c
+prefix-next old a b c x y prefix b_is c_is = (prefix.0 ++ x ++ y, rw (c_is, b_is, prefix.1, append_assoc old prefix.0 x, append_assoc old (prefix.0 ++ x) y) refl)

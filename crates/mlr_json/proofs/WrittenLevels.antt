@@ -118,12 +118,12 @@ mutual
 count-cons : (p : Token → Bool) (t : Token) (tokens : List Token) → count_by p (t ∷ tokens) ≡ one_if (p t) + count_by p tokens
 count-cons p t tokens = sum_by-append (λ x. cond (p x) 1 0) (t ∷ []) tokens ∙ ap (λ n. n + count_by p tokens) (zero-add (one_if (p t)))
 
-front-level : (tokens : List Token) (level most n : ℕ) → Within level most tokens → count_by is_opening (take n tokens) + level ≤ count_by is_closing (take n tokens) + most
-front-level [] level most zero h = omega arith
-front-level [] level most (suc n) h = omega arith
-front-level (t ∷ tokens) level most zero h = let low : level ≤ most = h.0 in omega arith
-front-level (t ∷ tokens) level most (suc n) h =
-    let later : count_by is_opening (take n tokens) + moved level t ≤ count_by is_closing (take n tokens) + most = front-level tokens (moved level t) most n h.2 in
+prefix-level : (tokens : List Token) (level most n : ℕ) → Within level most tokens → count_by is_opening (take n tokens) + level ≤ count_by is_closing (take n tokens) + most
+prefix-level [] level most zero h = omega arith
+prefix-level [] level most (suc n) h = omega arith
+prefix-level (t ∷ tokens) level most zero h = let low : level ≤ most = h.0 in omega arith
+prefix-level (t ∷ tokens) level most (suc n) h =
+    let later : count_by is_opening (take n tokens) + moved level t ≤ count_by is_closing (take n tokens) + most = prefix-level tokens (moved level t) most n h.2 in
     let o : count_by is_opening (t ∷ take n tokens) ≡ one_if (is_opening t) + count_by is_opening (take n tokens) = count-cons is_opening t (take n tokens) in
     let c : count_by is_closing (t ∷ take n tokens) ≡ one_if (is_closing t) + count_by is_closing (take n tokens) = count-cons is_closing t (take n tokens) in
     let fits : one_if (is_closing t) ≤ level + one_if (is_opening t) = h.1 in
@@ -132,5 +132,5 @@ front-level (t ∷ tokens) level most (suc n) h =
 pub value-shallow : (v : Tree) → depth v ≤ 100 → IsShallow (tokens_in (syntax_of v))
 value-shallow v h n =
     let low : count_by is_opening (take n (tokens_in (syntax_of v))) + 0 ≤ count_by is_closing (take n (tokens_in (syntax_of v))) + 100 =
-    front-level (tokens_in (syntax_of v)) 0 100 n (value-keeps v 0 100 (omega arith)).within in
+    prefix-level (tokens_in (syntax_of v)) 0 100 n (value-keeps v 0 100 (omega arith)).within in
     omega arith

@@ -6,23 +6,23 @@ use Rattle.std.proofs.lemmas.List.{append-nil, map-append}
 use Rattle.std.proofs.lemmas.Str.{encode_ascii}
 use Rattle.mlr_spec.specs.Infer.{digit, number}
 use Rattle.mlr_spec.specs.Json.{escaped, escape_letter, hex_digit, json_string}
-use Rattle.mlr_spec.specs.JsonTokens.{Piece, raw, unit, Lexeme, blank, mark, word, quote, piece, Front, found, begun, bad, is_raw, is_hex, front_inside, front_outside, front_of, is_inside, decoded, lone_unit}
+use Rattle.mlr_spec.specs.JsonTokens.{Piece, raw, unit, Lexeme, blank, mark, word, quote, piece, Scanned, found, begun, bad, is_raw, is_hex, lexeme_inside, lexeme_outside, first_lexeme, is_inside, decoded, lone_unit}
 use Rattle.mlr_json.specs.Escapes.{is_escaped}
 use Rattle.mlr_json.proofs.Escaping.{escaped-plain}
 
 -- a text goes on with these lexemes up to the rest; `inside` and `after` say whether a string is open before and behind them
 abbrev pub Lexes : Bool → List ℕ → List Lexeme → Bool → List ℕ → Type 0
 Lexes inside t [] after rest = (t ≡ rest) × (inside ≡ after)
-Lexes inside t (l ∷ lexemes) after rest = (len : ℕ) × (front_of inside t ≡ found l len) × (0 < len) × Lexes (is_inside inside l) (drop len t) lexemes after rest
+Lexes inside t (l ∷ lexemes) after rest = (len : ℕ) × (first_lexeme inside t ≡ found l len) × (0 < len) × Lexes (is_inside inside l) (drop len t) lexemes after rest
 
 pub lexes-append : (lexemes more : List Lexeme) (a b c : Bool) (t rest end : List ℕ) → Lexes a t lexemes b rest → Lexes b rest more c end → Lexes a t (lexemes ++ more) c end
 lexes-append [] more a b c t rest end h k = subst (λ x. Lexes a x more c end) (sym h.0) (subst (λ x. Lexes x rest more c end) (sym h.1) k)
 lexes-append (l ∷ lexemes) more a b c t rest end h k = (h.0, h.1, h.2, lexes-append lexemes more (is_inside a l) b c (drop h.0 t) rest end h.3 k)
 
 -- a byte that stands for itself begins a run
-front-raw : (b : ℕ) (t : List ℕ) → is_raw b ≡ true → front_inside (b ∷ t) ≡ found (piece (raw (take_while is_raw (b ∷ t)))) (prefix_len is_raw (b ∷ t))
-unfolding front_inside
-front-raw b t h =
+prefix-raw : (b : ℕ) (t : List ℕ) → is_raw b ≡ true → lexeme_inside (b ∷ t) ≡ found (piece (raw (take_while is_raw (b ∷ t)))) (prefix_len is_raw (b ∷ t))
+unfolding lexeme_inside
+prefix-raw b t h =
     let parts = or_parts (b == 34) (b == 92) (not-true (b == 34 || b == 92) h) in
     rw (parts.0, parts.1) refl
 
@@ -35,50 +35,50 @@ run-length b t h = rw h (one-add (prefix_len is_raw t))
 
 -- one more byte before a string, which stands for itself
 module _ (b : ℕ) (text rest : List ℕ) (plain : is_raw b ≡ true) where
-  abbrev behind : List ℕ
-  behind = flat_map escaped text ++ 34 ∷ rest
+  abbrev following : List ℕ
+  following = flat_map escaped text ++ 34 ∷ rest
 
-  run-front : front_inside (b ∷ behind) ≡ found (piece (raw (b ∷ take (prefix_len is_raw behind) behind))) (suc (prefix_len is_raw behind))
-  run-front =
-      front-raw b behind plain
-      ∙ ap (λ n. found (piece (raw (take n (b ∷ behind)))) n) (run-length b behind plain)
+  run-prefix : lexeme_inside (b ∷ following) ≡ found (piece (raw (b ∷ take (prefix_len is_raw following) following))) (suc (prefix_len is_raw following))
+  run-prefix =
+      prefix-raw b following plain
+      ∙ ap (λ n. found (piece (raw (take n (b ∷ following)))) n) (run-length b following plain)
 
   abbrev Longer : Type 0
-  Longer = (pieces : List Piece) × Lexes true (b ∷ behind) (map piece pieces ++ quote ∷ []) false rest × (decoded pieces ≡ b ∷ text)
+  Longer = (pieces : List Piece) × Lexes true (b ∷ following) (map piece pieces ++ quote ∷ []) false rest × (decoded pieces ≡ b ∷ text)
 
   -- before a byte that doesn't go on with the run
-  run-alone : (pieces : List Piece) → Lexes true behind (map piece pieces ++ quote ∷ []) false rest → decoded pieces ≡ text → prefix_len is_raw behind ≡ 0 → Longer
+  run-alone : (pieces : List Piece) → Lexes true following (map piece pieces ++ quote ∷ []) false rest → decoded pieces ≡ text → prefix_len is_raw following ≡ 0 → Longer
   run-alone pieces lexes is none =
-      let front : front_inside (b ∷ behind) ≡ found (piece (raw (b ∷ []))) 1 = run-front ∙ ap (λ n. found (piece (raw (b ∷ take n behind))) (suc n)) none in
-      (raw (b ∷ []) ∷ pieces, (1, front, omega arith, lexes), ap (λ t. b ∷ t) is)
+      let prefix : lexeme_inside (b ∷ following) ≡ found (piece (raw (b ∷ []))) 1 = run-prefix ∙ ap (λ n. found (piece (raw (b ∷ take n following))) (suc n)) none in
+      (raw (b ∷ []) ∷ pieces, (1, prefix, omega arith, lexes), ap (λ t. b ∷ t) is)
 
   -- before a byte that goes on with it
-  run-longer : (pieces : List Piece) → Lexes true behind (map piece pieces ++ quote ∷ []) false rest → decoded pieces ≡ text
-      → front_inside behind ≡ found (piece (raw (take (prefix_len is_raw behind) behind))) (prefix_len is_raw behind) → Longer
-  run-longer [] lexes is front = absurd (let e : found quote lexes.0 ≡ found (piece (raw (take (prefix_len is_raw behind) behind))) (prefix_len is_raw behind) = sym lexes.1 ∙ front in cc)
-  run-longer (p ∷ pieces) lexes is front =
-      let e : found (piece p) lexes.0 ≡ found (piece (raw (take (prefix_len is_raw behind) behind))) (prefix_len is_raw behind) = sym lexes.1 ∙ front in
-      let same : p ≡ raw (take (prefix_len is_raw behind) behind) = cc in
-      let len : lexes.0 ≡ prefix_len is_raw behind = cc in (
-        raw (b ∷ take (prefix_len is_raw behind) behind) ∷ pieces,
-        (suc (prefix_len is_raw behind), run-front, omega arith, subst (λ n. Lexes true (drop n behind) (map piece pieces ++ quote ∷ []) false rest) len lexes.3),
+  run-longer : (pieces : List Piece) → Lexes true following (map piece pieces ++ quote ∷ []) false rest → decoded pieces ≡ text
+      → lexeme_inside following ≡ found (piece (raw (take (prefix_len is_raw following) following))) (prefix_len is_raw following) → Longer
+  run-longer [] lexes is prefix = absurd (let e : found quote lexes.0 ≡ found (piece (raw (take (prefix_len is_raw following) following))) (prefix_len is_raw following) = sym lexes.1 ∙ prefix in cc)
+  run-longer (p ∷ pieces) lexes is prefix =
+      let e : found (piece p) lexes.0 ≡ found (piece (raw (take (prefix_len is_raw following) following))) (prefix_len is_raw following) = sym lexes.1 ∙ prefix in
+      let same : p ≡ raw (take (prefix_len is_raw following) following) = cc in
+      let len : lexes.0 ≡ prefix_len is_raw following = cc in (
+        raw (b ∷ take (prefix_len is_raw following) following) ∷ pieces,
+        (suc (prefix_len is_raw following), run-prefix, omega arith, subst (λ n. Lexes true (drop n following) (map piece pieces ++ quote ∷ []) false rest) len lexes.3),
         ap (λ t. b ∷ t) (ap (λ q. decoded (q ∷ pieces)) (sym same) ∙ is),
       )
 
-  byte-plain : WrittenPieces text rest → (t : List ℕ) → behind ≡ t → Longer
+  byte-plain : WrittenPieces text rest → (t : List ℕ) → following ≡ t → Longer
   byte-plain h [] is = run-alone h.0 h.1 h.2 (ap (prefix_len is_raw) is)
   byte-plain h (c ∷ t) is =
       elim (cases_Bool (is_raw c)) [
-        | inl y ↦ run-longer h.0 h.1 h.2 (subst (λ x. front_inside x ≡ found (piece (raw (take (prefix_len is_raw x) x))) (prefix_len is_raw x)) (sym is) (front-raw c t y))
+        | inl y ↦ run-longer h.0 h.1 h.2 (subst (λ x. lexeme_inside x ≡ found (piece (raw (take (prefix_len is_raw x) x))) (prefix_len is_raw x)) (sym is) (prefix-raw c t y))
         | inr n ↦ run-alone h.0 h.1 h.2 (ap (prefix_len is_raw) is ∙ ap (λ v. cond v (1 + prefix_len is_raw t) 0) n)
       ]
 
 -- a byte that is escaped by a letter
-byte-letter : (b l : ℕ) (text rest : List ℕ) → WrittenPieces text rest → escaped b ≡ 92 ∷ l ∷ [] → front_inside (92 ∷ l ∷ (flat_map escaped text ++ 34 ∷ rest)) ≡ found (piece (raw (b ∷ []))) 2
+byte-letter : (b l : ℕ) (text rest : List ℕ) → WrittenPieces text rest → escaped b ≡ 92 ∷ l ∷ [] → lexeme_inside (92 ∷ l ∷ (flat_map escaped text ++ 34 ∷ rest)) ≡ found (piece (raw (b ∷ []))) 2
     → WrittenPieces (b ∷ text) rest
-byte-letter b l text rest h is front = (
+byte-letter b l text rest h is prefix = (
   raw (b ∷ []) ∷ h.0,
-  subst (λ e. Lexes true (e ++ flat_map escaped text ++ 34 ∷ rest) (piece (raw (b ∷ [])) ∷ (map piece h.0 ++ quote ∷ [])) false rest) (sym is) (2, front, omega arith, h.1),
+  subst (λ e. Lexes true (e ++ flat_map escaped text ++ 34 ∷ rest) (piece (raw (b ∷ [])) ∷ (map piece h.0 ++ quote ∷ [])) false rest) (sym is) (2, prefix, omega arith, h.1),
   ap (λ t. b ∷ t) h.2,
 )
 
@@ -110,9 +110,9 @@ module _ (b : ℕ) (text rest : List ℕ) (low : b < 32) where
   digits-number : number 16 digits ≡ b
   digits-number = rw (digit-hex (b / 16) high_digit, digit-hex (b % 16) low_digit) (omega arith)
 
-  digits-front : (t : List ℕ) → front_inside (92 ∷ 117 ∷ (digits ++ t)) ≡ found (piece (unit b)) 6
-  unfolding front_inside
-  digits-front t =
+  digits-prefix : (t : List ℕ) → lexeme_inside (92 ∷ 117 ∷ (digits ++ t)) ≡ found (piece (unit b)) 6
+  unfolding lexeme_inside
+  digits-prefix t =
       let long : prefix_len is_hex (digits ++ t) ≡ 1 + (1 + (1 + (1 + prefix_len is_hex t))) = rw (is_hex-digit (b / 16) high_digit, is_hex-digit (b % 16) low_digit) refl in
       let enough : 4 ≤ prefix_len is_hex (digits ++ t) = omega arith in
       rw (le-leb 4 (prefix_len is_hex (digits ++ t)) enough) (ap (λ n. found (piece (unit n)) 6) digits-number)
@@ -129,13 +129,13 @@ module _ (b : ℕ) (text rest : List ℕ) (low : b < 32) where
   byte-control h is = (
     unit b ∷ h.0,
     subst (λ e. Lexes true (e ++ flat_map escaped text ++ 34 ∷ rest) (piece (unit b) ∷ (map piece h.0 ++ quote ∷ [])) false rest) (sym is)
-        (6, digits-front (flat_map escaped text ++ 34 ∷ rest), omega arith, h.1),
+        (6, digits-prefix (flat_map escaped text ++ 34 ∷ rest), omega arith, h.1),
     decoded-low h.0 ∙ ap (λ t. b ∷ t) h.2,
   )
 
 -- each byte of a string, by its escape
 byte-written : (b : ℕ) (text rest : List ℕ) → WrittenPieces text rest → WrittenPieces (b ∷ text) rest
-unfolding front_inside
+unfolding lexeme_inside
 byte-written b text rest h =
     elim (cases_Bool (b == 34)) [
       | inl y ↦ let e : b ≡ 34 = eqb-true b 34 y in subst (λ x. WrittenPieces (x ∷ text) rest) (sym e) (byte-letter 34 34 text rest h refl refl)
@@ -170,13 +170,13 @@ byte-written b text rest h =
     ]
 
 pub written-pieces : (text rest : List ℕ) → WrittenPieces text rest
-unfolding front_inside
+unfolding lexeme_inside
 written-pieces [] rest = ([], (1, refl, omega arith, (refl, refl)), refl)
 written-pieces (b ∷ text) rest = byte-written b text rest (written-pieces text rest)
 
 -- a whole string, between its quotes
 pub written-string : (text rest : List ℕ) → (pieces : List Piece) × Lexes false (json_string text ++ rest) (quote ∷ map piece pieces ++ quote ∷ []) false rest × (decoded pieces ≡ text)
-unfolding front_outside
+unfolding lexeme_outside
 written-string text rest =
     let h = written-pieces text rest in
     (h.0, (1, refl, omega arith, subst (λ x. Lexes true x (map piece h.0 ++ quote ∷ []) false rest) (sym (append_assoc (flat_map escaped text) (34 ∷ []) rest)) h.1), h.2)

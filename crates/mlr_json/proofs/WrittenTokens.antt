@@ -7,7 +7,7 @@ use Rattle.std.proofs.Math.Seq.{drop-append_seam, take-append_seam}
 use Rattle.mlr_json.specs.Readable.{plain}
 use Rattle.mlr_spec.specs.declared.json.JsonMark.{JsonMark}
 use Rattle.mlr_spec.specs.Json.{json_string}
-use Rattle.mlr_spec.specs.JsonTokens.{Piece, Lexeme, blank, mark, word, quote, piece, Front, found, begun, bad, mark_of, is_blank, is_word_byte, front_inside, front_outside, front_unmarked, front_of, is_inside, decoded, Lexemes, and_lexeme, lexemes_from, lexemes_of, Token, sign, text_token, word_token, Tokens, and_token, or_stop, token_of_word, pieces_in, tokens_outside, tokens_inside, tokens_of}
+use Rattle.mlr_spec.specs.JsonTokens.{Piece, Lexeme, blank, mark, word, quote, piece, Scanned, found, begun, bad, mark_of, is_blank, is_word_byte, lexeme_inside, lexeme_outside, lexeme_unmarked, first_lexeme, is_inside, decoded, Lexemes, and_lexeme, lexemes_from, lexemes_of, Token, sign, text_token, word_token, Tokens, and_token, or_stop, token_of_word, pieces_in, tokens_outside, tokens_inside, tokens_of}
 use Rattle.mlr_spec.specs.JsonGrammar.{bare}
 use Rattle.mlr_json.proofs.WrittenStrings.{Lexes, lexes-append, written-string}
 
@@ -18,7 +18,7 @@ names placed = map (λ l. l.1) placed
 
 pub lexes-all : (lexemes : List Lexeme) (inside : Bool) (t : List ℕ) (n place : ℕ) → length t < n → Lexes inside t lexemes false []
     → (names (lexemes_from n inside place t).lexemes ≡ lexemes) × ((lexemes_from n inside place t).stop ≡ None)
-unfolding front_outside front_inside
+unfolding lexeme_outside lexeme_inside
 lexes-all lexemes inside t zero place below h = absurd (omega arith)
 lexes-all [] inside t (suc n) place below h =
     subst (λ i. (names (lexemes_from (suc n) i place t).lexemes ≡ []) × ((lexemes_from (suc n) i place t).stop ≡ None)) (sym h.1)
@@ -30,7 +30,7 @@ lexes-all (l ∷ lexemes) inside (b ∷ t) (suc n) place below h =
     let rest = lexes-all lexemes (is_inside inside l) (drop h.0 (b ∷ t)) n (place + h.0) shorter h.3 in
     subst (λ f. (names (went f).lexemes ≡ l ∷ lexemes) × ((went f).stop ≡ None)) (sym h.1) (ap (λ x. l ∷ x) rest.0, rest.1)
   where
-    went : Front → Lexemes
+    went : Scanned → Lexemes
     went f = elim f [
       | found lexeme len ↦ and_lexeme place lexeme (lexemes_from n (is_inside inside lexeme) (place + len) (drop len (b ∷ t)))
       | begun ↦ record { lexemes = []; stop = cond inside (Some (place + length (b ∷ t))) None }
@@ -45,9 +45,9 @@ Yields lexemes tokens = (placed : List (ℕ × Lexeme)) (more : List Lexeme) →
     × ((stop : Option ℕ) → (bare (tokens_outside plain placed stop).tokens ≡ tokens ++ bare (tokens_outside plain rest stop).tokens) × ((tokens_outside plain placed stop).stop ≡ (tokens_outside plain rest stop).stop))
 
 yields-append : (lexemes more : List Lexeme) (tokens later : List Token) → Yields lexemes tokens → Yields more later → Yields (lexemes ++ more) (tokens ++ later)
-yields-append lexemes more tokens later h k placed behind is =
-    let a = h placed (more ++ behind) (is ∙ append_assoc lexemes more behind) in
-    let b = k a.0 behind a.1 in
+yields-append lexemes more tokens later h k placed following is =
+    let a = h placed (more ++ following) (is ∙ append_assoc lexemes more following) in
+    let b = k a.0 following a.1 in
     (b.0, b.1, λ stop. ((a.2 stop).0 ∙ ap (λ t. tokens ++ t) (b.2 stop).0 ∙ sym (append_assoc tokens later (bare (tokens_outside plain b.0 stop).tokens)), (a.2 stop).1 ∙ (b.2 stop).1))
 
 yields-one : (l : Lexeme) (tokens : List Token)
@@ -113,10 +113,10 @@ reads-string text rest =
     record { lexemes = quote ∷ map piece h.0 ++ quote ∷ []; lexes = h.1; yields = subst (λ t. Yields (quote ∷ map piece h.0 ++ quote ∷ []) (text_token t ∷ [])) h.2 (yields-string h.0) }
 
 pub reads-mark : (b : ℕ) (m : JsonMark) (rest : List ℕ) → mark_of b ≡ Some m → Reads (b ∷ rest) (sign m ∷ []) rest
-unfolding front_outside
+unfolding lexeme_outside
 reads-mark b m rest is = record {
   lexemes = mark m ∷ [];
-  lexes = (1, subst (λ o. elim o [ Some k ↦ found (mark k) 1 | None ↦ front_unmarked (b ∷ rest) ] ≡ found (mark m) 1) (sym is) refl, omega arith, (refl, refl));
+  lexes = (1, subst (λ o. elim o [ Some k ↦ found (mark k) 1 | None ↦ lexeme_unmarked (b ∷ rest) ] ≡ found (mark m) 1) (sym is) refl, omega arith, (refl, refl));
   yields = yields-one (mark m) (sign m ∷ []) (λ place tail stop. (refl, refl));
 }
 
@@ -146,17 +146,17 @@ no-word (b ∷ t) h = ap (λ v. cond v (1 + prefix_len is_word_byte t) 0) (not-t
 
 -- blanks of which the first is a space or a line feed
 blanks-read : (b : ℕ) (t rest : List ℕ) → list_all is_blank (b ∷ t) ≡ true → is_filled rest ≡ true
-    → front_outside ((b ∷ t) ++ rest) ≡ found blank (prefix_len is_blank ((b ∷ t) ++ rest)) → Reads ((b ∷ t) ++ rest) [] rest
-blanks-read b t rest all filled front =
+    → lexeme_outside ((b ∷ t) ++ rest) ≡ found blank (prefix_len is_blank ((b ∷ t) ++ rest)) → Reads ((b ∷ t) ++ rest) [] rest
+blanks-read b t rest all filled prefix =
     let len : prefix_len is_blank ((b ∷ t) ++ rest) ≡ length (b ∷ t) = prefix-all is_blank (b ∷ t) rest all (no-blank rest filled) in
     record {
       lexemes = blank ∷ [];
-      lexes = (length (b ∷ t), front ∙ ap (found blank) len, omega arith, (drop-append_seam (b ∷ t) rest, refl));
+      lexes = (length (b ∷ t), prefix ∙ ap (found blank) len, omega arith, (drop-append_seam (b ∷ t) rest, refl));
       yields = yields-one blank [] (λ place tail stop. (refl, refl));
     }
 
 pub reads-space : (rest : List ℕ) → is_filled rest ≡ true → Reads (32 ∷ rest) [] rest
-unfolding front_outside
+unfolding lexeme_outside
 reads-space rest filled = blanks-read 32 [] rest refl filled refl
 
 spaces-blank : (n : ℕ) → list_all is_blank (replicate n 32) ≡ true
@@ -164,15 +164,15 @@ spaces-blank zero = refl
 spaces-blank (suc n) = spaces-blank n
 
 pub reads-line : (n : ℕ) (rest : List ℕ) → is_filled rest ≡ true → Reads (10 ∷ replicate n 32 ++ rest) [] rest
-unfolding front_outside
+unfolding lexeme_outside
 reads-line n rest filled = blanks-read 10 (replicate n 32) rest (spaces-blank n) filled refl
 
 -- a word
 other-byte : (b c : ℕ) → is_word_byte b ≡ true → is_word_byte c ≡ false → (b == c) ≡ false
 other-byte b c h k = false_from_ne_true (b == c) (λ e. true≢false (sym h ∙ ap is_word_byte (eqb-true b c e) ∙ k))
 
-pub word-byte-front : (b : ℕ) (t : List ℕ) → is_word_byte b ≡ true → (mark_of b ≡ None) × (is_blank b ≡ false) × ((b == 34) ≡ false)
-word-byte-front b t h = (
+pub word-byte-prefix : (b : ℕ) (t : List ℕ) → is_word_byte b ≡ true → (mark_of b ≡ None) × (is_blank b ≡ false) × ((b == 34) ≡ false)
+word-byte-prefix b t h = (
   rw (other-byte b 123 h refl, other-byte b 125 h refl, other-byte b 91 h refl, other-byte b 93 h refl, other-byte b 58 h refl, other-byte b 44 h refl) refl,
   rw (other-byte b 32 h refl, other-byte b 9 h refl, other-byte b 10 h refl, other-byte b 13 h refl) refl,
   other-byte b 34 h refl,
@@ -180,19 +180,19 @@ word-byte-front b t h = (
 
 pub reads-word : (b : ℕ) (t rest : List ℕ) (token : Token) → list_all is_word_byte (b ∷ t) ≡ true → ends_word rest ≡ true → token_of_word plain (b ∷ t) ≡ Some token
     → Reads ((b ∷ t) ++ rest) (token ∷ []) rest
-unfolding front_outside
+unfolding lexeme_outside
 reads-word b t rest token all ends is =
-    let here = word-byte-front b t (and_parts (is_word_byte b) (list_all is_word_byte t) all).0 in
+    let here = word-byte-prefix b t (and_parts (is_word_byte b) (list_all is_word_byte t) all).0 in
     let len : prefix_len is_word_byte ((b ∷ t) ++ rest) ≡ length (b ∷ t) = prefix-all is_word_byte (b ∷ t) rest all (no-word rest ends) in
-    let front : front_outside ((b ∷ t) ++ rest) ≡ found (word (b ∷ t)) (length (b ∷ t)) =
-    ap (λ o. elim o [ Some k ↦ found (mark k) 1 | None ↦ front_unmarked ((b ∷ t) ++ rest) ]) here.0
+    let prefix : lexeme_outside ((b ∷ t) ++ rest) ≡ found (word (b ∷ t)) (length (b ∷ t)) =
+    ap (λ o. elim o [ Some k ↦ found (mark k) 1 | None ↦ lexeme_unmarked ((b ∷ t) ++ rest) ]) here.0
     ∙ ap₂ (λ x y. cond x (found blank (prefix_len is_blank ((b ∷ t) ++ rest))) (cond y (found quote 1) (cond (is_word_byte b) (found (word (take_while is_word_byte ((b ∷ t) ++ rest))) (prefix_len is_word_byte ((b ∷ t) ++ rest))) (bad 0)))) here.1 here.2
     ∙ cond-true (is_word_byte b) (found (word (take_while is_word_byte ((b ∷ t) ++ rest))) (prefix_len is_word_byte ((b ∷ t) ++ rest))) (bad 0) (and_parts (is_word_byte b) (list_all is_word_byte t) all).0
     ∙ ap (λ n. found (word (take n ((b ∷ t) ++ rest))) n) len
     ∙ ap (λ w. found (word w) (length (b ∷ t))) (take-append_seam (b ∷ t) rest) in
     record {
       lexemes = word (b ∷ t) ∷ [];
-      lexes = (length (b ∷ t), front, omega arith, (drop-append_seam (b ∷ t) rest, refl));
+      lexes = (length (b ∷ t), prefix, omega arith, (drop-append_seam (b ∷ t) rest, refl));
       yields = yields-one (word (b ∷ t)) (token ∷ []) (λ place tail stop.
           subst (λ o. (bare (or_stop place o (tokens_outside plain tail stop)).tokens ≡ token ∷ bare (tokens_outside plain tail stop).tokens) × ((or_stop place o (tokens_outside plain tail stop)).stop ≡ (tokens_outside plain tail stop).stop)) (sym is) (refl, refl));
     }

@@ -14,7 +14,7 @@ use Rattle.mlr_spec.specs.Tree.{Tree, absent, empty, string, int, fraction, wide
 use Rattle.mlr_spec.specs.JsonTokens.{Token, sign, text_token, word_token, mark_of, is_word_byte, is_blank, number_of_kind, token_of_word}
 use Rattle.mlr_spec.specs.JsonGrammar.{Syntax, text, word, object, elements, Members, no_members, member_and, Elements, no_elements, element_and, tokens_in, member_tokens, later_members, element_tokens, later_elements}
 use Rattle.mlr_json.specs.Readable.{plain, IsReadable, ArePairsReadable, AreItemsReadable}
-use Rattle.mlr_json.proofs.WrittenTokens.{Reads, reads-nothing, reads-append, reads-string, reads-mark, reads-space, reads-line, reads-word, is_filled, ends_word, word-byte-front}
+use Rattle.mlr_json.proofs.WrittenTokens.{Reads, reads-nothing, reads-append, reads-string, reads-mark, reads-space, reads-line, reads-word, is_filled, ends_word, word-byte-prefix}
 use Rattle.mlr_json.proofs.NumberWords.{IsNumber, number-words, number-value}
 
 -- how a value is written
@@ -73,14 +73,14 @@ joined-read separator t [] ts [] s h k rest e = h.reads rest e
 joined-read separator t [] ts (us ∷ more) s h k rest e = absurd k
 joined-read separator t (u ∷ texts) ts [] s h k rest e = absurd k
 joined-read separator t (u ∷ texts) ts (us ∷ more) s h k rest e =
-    let behind : List ℕ = joined separator (u ∷ texts) ++ rest in
-    let here = h.reads (separator ++ behind) (s.ends behind) in
-    let comma = s.comma behind (joined-filled separator u texts us k.0 rest) in
+    let following : List ℕ = joined separator (u ∷ texts) ++ rest in
+    let here = h.reads (separator ++ following) (s.ends following) in
+    let comma = s.comma following (joined-filled separator u texts us k.0 rest) in
     let later = joined-read separator u texts us more s k.0 k.1 rest e in
     subst (λ x. Reads x (ts ++ sign Comma ∷ between_commas (us ∷ more)) rest)
-    (sym (append_assoc (t ++ separator) (joined separator (u ∷ texts)) rest ∙ append_assoc t separator behind))
-    (reads-append (t ++ (separator ++ behind)) (separator ++ behind) rest ts (sign Comma ∷ between_commas (us ∷ more)) here
-    (reads-append (separator ++ behind) behind rest (sign Comma ∷ []) (between_commas (us ∷ more)) comma later))
+    (sym (append_assoc (t ++ separator) (joined separator (u ∷ texts)) rest ∙ append_assoc t separator following))
+    (reads-append (t ++ (separator ++ following)) (separator ++ following) rest ts (sign Comma ∷ between_commas (us ∷ more)) here
+    (reads-append (separator ++ following) following rest (sign Comma ∷ []) (between_commas (us ∷ more)) comma later))
 
 line-separates : (level : ℕ) → Separates (44 ∷ new_line level)
 line-separates level = record {
@@ -155,7 +155,7 @@ number-read (b ∷ t) value h is =
     let words = number-words (b ∷ t) h in
     record {
       reads = λ rest e. reads-word b t rest (word_token value) words e (number-value (b ∷ t) value h is);
-      filled = λ rest. ap not (word-byte-front b t (and_parts (is_word_byte b) (list_all is_word_byte t) words).0).1;
+      filled = λ rest. ap not (word-byte-prefix b t (and_parts (is_word_byte b) (list_all is_word_byte t) words).0).1;
     }
 
 string-read : (t : List ℕ) → IsRead (json_string t) (text_token t ∷ [])

@@ -108,10 +108,10 @@ pub data Outcome : Type 0 where
   deep : ℕ → Outcome
 
 -- behind a whole value only blanks may stand
-abbrev pub outcome_behind : Tree → List (ℕ × Token) → Option ℕ → Outcome
-outcome_behind value ((place, token) ∷ tokens) stop = syntax place
-outcome_behind value [] (Some place) = syntax place
-outcome_behind value [] None = read value
+abbrev pub outcome_after : Tree → List (ℕ × Token) → Option ℕ → Outcome
+outcome_after value ((place, token) ∷ tokens) stop = syntax place
+outcome_after value [] (Some place) = syntax place
+outcome_after value [] None = read value
 
 -- where the tokens end within a value: at a byte that can't stand there, or at the end of the text
 abbrev pub outcome_cut : ℕ → Option ℕ → Outcome
@@ -123,7 +123,7 @@ abbrev pub outcome_from : ℕ → List Frame → Phase → List (ℕ × Token) �
 outcome_from end frames at [] stop = outcome_cut end stop
 outcome_from end frames at ((place, token) ∷ tokens) stop = elim (step frames at token) [
   | on more next ↦ if nat_lt 100 (length more) then deep place else outcome_from end more next tokens stop
-  | whole value ↦ outcome_behind value tokens stop
+  | whole value ↦ outcome_after value tokens stop
   | wrong ↦ syntax place
 ]
 

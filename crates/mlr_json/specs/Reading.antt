@@ -30,7 +30,7 @@ pieces_left end text = pieces_in (lexemes_left true end text).lexemes
 
 -- what is left begins with this lexeme, and goes on with this text
 abbrev pub IsFirst : Bool → ℕ → List ℕ → Lexeme → List ℕ → Type 0
-IsFirst inside end text lexeme behind = lexemes_left inside end text ≡ and_lexeme (end - length text) lexeme (lexemes_left (is_inside inside lexeme) end behind)
+IsFirst inside end text lexeme following = lexemes_left inside end text ≡ and_lexeme (end - length text) lexeme (lexemes_left (is_inside inside lexeme) end following)
 
 -- no tokens
 abbrev pub stopped : Option ℕ → Tokens
@@ -43,8 +43,8 @@ token_seen (read.Text text) = text_token text
 
 -- what comes next is how these tokens begin, where so many bytes are left
 abbrev pub Gives : ℕ → ℕ → Next → Tokens → Type 0
-Gives end left (next.Blank behind) tokens = tokens ≡ tokens_left end behind.now
-Gives end left (next.Token token behind) tokens = tokens ≡ and_token (end - left) (token_seen token) (tokens_left end behind.now)
+Gives end left (next.Blank following) tokens = tokens ≡ tokens_left end following.now
+Gives end left (next.Token token following) tokens = tokens ≡ and_token (end - left) (token_seen token) (tokens_left end following.now)
 Gives end left next.Refused tokens = (text : List ℕ) × (more : Tokens) × (tokens ≡ and_token (end - left) (text_token text) more)
 Gives end left (next.Cut rest) tokens = (text : List ℕ) × (tokens ≡ and_token (end - left) (text_token text) (stopped (Some (end - rest))))
 Gives end left (next.Bad rest) tokens = tokens ≡ stopped (Some (end - rest))
@@ -52,8 +52,8 @@ Gives end left next.End tokens = tokens ≡ stopped None
 
 -- less is left behind what comes next, and no more at a fault
 abbrev pub IsShorter : ℕ → Next → Type 0
-IsShorter left (next.Blank behind) = length behind.now < left
-IsShorter left (next.Token token behind) = length behind.now < left
+IsShorter left (next.Blank following) = length following.now < left
+IsShorter left (next.Token token following) = length following.now < left
 IsShorter left next.Refused = Unit {0}
 IsShorter left (next.Cut rest) = rest ≤ left
 IsShorter left (next.Bad rest) = rest ≤ left
@@ -61,8 +61,8 @@ IsShorter left next.End = Unit {0}
 
 -- a string is refused only where none is wanted, and cut off only where one is
 abbrev pub IsWanted : Bool → Next → Type 0
-IsWanted wanted (next.Blank behind) = Unit {0}
-IsWanted wanted (next.Token token behind) = Unit {0}
+IsWanted wanted (next.Blank following) = Unit {0}
+IsWanted wanted (next.Token token following) = Unit {0}
 IsWanted wanted next.Refused = wanted ≡ false
 IsWanted wanted (next.Cut rest) = wanted ≡ true
 IsWanted wanted (next.Bad rest) = Unit {0}
@@ -70,11 +70,11 @@ IsWanted wanted next.End = Unit {0}
 
 -- a string with its text, or the place where it stops
 abbrev pub IsStringEnd : ℕ → List ℕ → StringEnd → Type 0
-IsStringEnd end text (string.Closed decoded_text behind) = (decoded_text ≡ decoded (pieces_left end text)) × (inside_left end text ≡ tokens_left end behind.now)
+IsStringEnd end text (string.Closed decoded_text following) = (decoded_text ≡ decoded (pieces_left end text)) × (inside_left end text ≡ tokens_left end following.now)
 IsStringEnd end text (string.Cut rest) = inside_left end text ≡ stopped (Some (end - rest))
 
 abbrev pub EndsWithin : ℕ → StringEnd → Type 0
-EndsWithin left (string.Closed text behind) = length behind.now < left
+EndsWithin left (string.Closed text following) = length following.now < left
 EndsWithin left (string.Cut rest) = rest ≤ left
 
 -- a lexeme that comes within a string
@@ -87,13 +87,13 @@ is_of_string (piece p) = true
 
 -- what comes next within a string is how its pieces and tokens go on
 abbrev pub PieceGives : ℕ → List ℕ → PieceAt → Type 0
-PieceGives end text (at.Raw bytes behind) = (pieces_left end text ≡ raw bytes.now ∷ pieces_left end behind.now) × (inside_left end text ≡ inside_left end behind.now)
-PieceGives end text (at.Unit u behind) = (pieces_left end text ≡ unit u ∷ pieces_left end behind.now) × (inside_left end text ≡ inside_left end behind.now)
-PieceGives end text (at.Quote behind) = (pieces_left end text ≡ []) × (inside_left end text ≡ tokens_left end behind.now)
+PieceGives end text (at.Raw bytes following) = (pieces_left end text ≡ raw bytes.now ∷ pieces_left end following.now) × (inside_left end text ≡ inside_left end following.now)
+PieceGives end text (at.Unit u following) = (pieces_left end text ≡ unit u ∷ pieces_left end following.now) × (inside_left end text ≡ inside_left end following.now)
+PieceGives end text (at.Quote following) = (pieces_left end text ≡ []) × (inside_left end text ≡ tokens_left end following.now)
 PieceGives end text (at.Stop rest) = inside_left end text ≡ stopped (Some (end - rest))
 
 abbrev pub IsPieceShorter : ℕ → PieceAt → Type 0
-IsPieceShorter left (at.Raw bytes behind) = length behind.now < left
-IsPieceShorter left (at.Unit u behind) = length behind.now < left
-IsPieceShorter left (at.Quote behind) = length behind.now < left
+IsPieceShorter left (at.Raw bytes following) = length following.now < left
+IsPieceShorter left (at.Unit u following) = length following.now < left
+IsPieceShorter left (at.Quote following) = length following.now < left
 IsPieceShorter left (at.Stop rest) = rest ≤ left

@@ -5,8 +5,8 @@ use Rattle.mlr_spec.specs.JsonTokens as text
 use Rattle.mlr_spec.specs.JsonTokens.{raw, unit, escape_of}
 use Rattle.mlr_json.specs.declared.lexeme.Lexeme.{Lexeme}
 use Rattle.mlr_json.specs.declared.lexeme.Lexeme.TheVariants as lexeme
-use Rattle.mlr_json.specs.declared.lexeme.Front.{Front}
-use Rattle.mlr_json.specs.declared.lexeme.Front.TheVariants.{Found, Begun, Bad}
+use Rattle.mlr_json.specs.declared.lexeme.Scanned.{Scanned}
+use Rattle.mlr_json.specs.declared.lexeme.Scanned.TheVariants.{Found, Begun, Bad}
 
 abbrev pub lexeme_seen : Lexeme → text.Lexeme
 lexeme_seen lexeme.Blank = text.blank
@@ -16,13 +16,13 @@ lexeme_seen lexeme.Quote = text.quote
 lexeme_seen (lexeme.Raw bytes) = text.piece (raw bytes.now)
 lexeme_seen (lexeme.Unit u) = text.piece (unit u)
 
-abbrev pub front_seen : Front → text.Front
-front_seen (Found l len) = text.found (lexeme_seen l) len
-front_seen Begun = text.begun
-front_seen (Bad offset) = text.bad offset
+abbrev pub lexeme_seen : Scanned → text.Scanned
+lexeme_seen (Found l len) = text.found (lexeme_seen l) len
+lexeme_seen Begun = text.begun
+lexeme_seen (Bad offset) = text.bad offset
 
 -- a lexeme has at least one byte, and no more than the text; a bad byte stands in the text
-abbrev pub IsWithin : ℕ → Front → Type 0
+abbrev pub IsWithin : ℕ → Scanned → Type 0
 IsWithin n (Found l len) = (1 ≤ len) × (len ≤ n)
 IsWithin n Begun = Unit {0}
 IsWithin n (Bad offset) = offset < n

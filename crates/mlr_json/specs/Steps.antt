@@ -15,15 +15,15 @@ abbrev pub frames_of : Machine → List Frame
 frames_of machine = reverse machine.frames.items
 
 -- a machine at these frames and this phase
-pub record Stands (machine : Machine) (frames : List Frame) (at : Phase) : Type 0 where
+pub record Represents (machine : Machine) (frames : List Frame) (at : Phase) : Type 0 where
   pub frames_are : frames_of machine ≡ frames
   pub phase_is : machine.phase ≡ at
 
 -- what went, and the machine afterwards, are this step
 abbrev pub IsStep : Step → Went → Machine → Type 0
-IsStep (on frames at) On machine = Stands machine frames at × (length frames ≤ 100)
+IsStep (on frames at) On machine = Represents machine frames at × (length frames ≤ 100)
 IsStep (on frames at) Deep machine = 100 < length frames
-IsStep (whole tree) (Whole value) machine = (tree_of value ≡ tree) × Stands machine [] phase.Value
+IsStep (whole tree) (Whole value) machine = (tree_of value ≡ tree) × Represents machine [] phase.Value
 IsStep wrong Wrong machine = Unit {0}
 IsStep _ _ machine = ⊥
 

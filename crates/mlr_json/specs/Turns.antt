@@ -11,7 +11,7 @@ use Rattle.mlr_json.specs.declared.read.JsonRead.{JsonRead}
 use Rattle.mlr_json.specs.declared.read.JsonRead.TheVariants as answer
 use Rattle.mlr_json.specs.declared.read.Turn.{Turn}
 use Rattle.mlr_json.specs.declared.read.Turn.TheVariants as turn
-use Rattle.mlr_json.specs.Machine.{Outcome, read, syntax, deep, outcome_from, outcome_behind}
+use Rattle.mlr_json.specs.Machine.{Outcome, read, syntax, deep, outcome_from, outcome_after}
 use Rattle.mlr_json.specs.Readable.{plain}
 use Rattle.mlr_json.specs.Steps.{frames_of}
 use Rattle.mlr_json.specs.Reading.{tokens_left}
@@ -19,19 +19,19 @@ use Rattle.mlr_json.specs.Reading.{tokens_left}
 abbrev pub outcome_at : ℕ → List Frame → Phase → Tokens → Outcome
 outcome_at end frames at tokens = outcome_from end frames at tokens.tokens tokens.stop
 
-abbrev pub behind_at : Tree → Tokens → Outcome
-behind_at value tokens = outcome_behind value tokens.tokens tokens.stop
+abbrev pub after_at : Tree → Tokens → Outcome
+after_at value tokens = outcome_after value tokens.tokens tokens.stop
 
 -- an outcome is that of the machine and the text behind, or is settled
 abbrev pub IsTurn : ℕ → Outcome → Machine → Turn → Type 0
-IsTurn end outcome machine (turn.On behind) = outcome ≡ outcome_at end (frames_of machine) machine.phase (tokens_left end behind.now)
-IsTurn end outcome machine (turn.Whole value behind) = outcome ≡ behind_at (tree_of value) (tokens_left end behind.now)
+IsTurn end outcome machine (turn.On following) = outcome ≡ outcome_at end (frames_of machine) machine.phase (tokens_left end following.now)
+IsTurn end outcome machine (turn.Whole value following) = outcome ≡ after_at (tree_of value) (tokens_left end following.now)
 IsTurn end outcome machine (turn.Syntax rest) = outcome ≡ syntax (end - rest)
 IsTurn end outcome machine (turn.Deep rest) = outcome ≡ deep (end - rest)
 
 abbrev pub IsTurnShorter : ℕ → Turn → Type 0
-IsTurnShorter left (turn.On behind) = length behind.now < left
-IsTurnShorter left (turn.Whole value behind) = length behind.now < left
+IsTurnShorter left (turn.On following) = length following.now < left
+IsTurnShorter left (turn.Whole value following) = length following.now < left
 IsTurnShorter left (turn.Syntax rest) = rest ≤ left
 IsTurnShorter left (turn.Deep rest) = rest ≤ left
 
@@ -44,9 +44,9 @@ is_token quote = true
 is_token (piece p) = false
 
 -- the outcome behind a whole value
-abbrev pub IsBehind : ℕ → Tree → Outcome → Option ℕ → Type 0
-IsBehind end value outcome None = outcome ≡ read value
-IsBehind end value outcome (Some rest) = outcome ≡ syntax (end - rest)
+abbrev pub IsAfter : ℕ → Tree → Outcome → Option ℕ → Type 0
+IsAfter end value outcome None = outcome ≡ read value
+IsAfter end value outcome (Some rest) = outcome ≡ syntax (end - rest)
 
 -- an answer is this outcome; without memory there is none
 abbrev pub IsAnswer : Outcome → JsonRead → Type 0

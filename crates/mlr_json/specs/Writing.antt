@@ -1,11 +1,12 @@
 -- The texts between two brackets, each behind what separates it from the bracket or the text before it.
 use Rattle.std.specs.Prelude.{ℕ, Bool, true, false, List, [], ◌∷◌, ◌++◌, codes}
+use Rattle.mlr_spec.specs.Ascii.{comma}
 use Rattle.mlr_spec.specs.Json.{new_line}
 
 -- before the first text and before a later one, on lines of this level or all on one line
 abbrev pub gap : Bool → Bool → ℕ → List ℕ
 gap true true level = new_line level
-gap true false level = 44 ∷ new_line level
+gap true false level = comma ∷ new_line level
 gap false true level = []
 gap false false level = codes ", "
 

@@ -1,7 +1,7 @@
 ghost use Rattle.std.specs.Prelude.{◌≡◌, ◌<◌, ◌≤◌, ◌++◌, true, length, IfOk, OnOk, OnErr};
 ghost use Rattle.std.specs.List.{flat_map, position_or_len};
 ghost use Rattle.mlr_spec.specs.Json.{json_string, escaped, escape_letter, hex_digit};
-ghost use Rattle.mlr_json.specs.Escapes.{is_escaped, StandsBefore};
+ghost use Rattle.mlr_json.specs.Escapes.{is_escaped, RepresentsBefore};
 
 use mlr_spec::NoMemory;
 use mlr_value::Bytes;
@@ -11,7 +11,7 @@ use mlr_value::Bytes;
 #[inline]
 pub fn append_json_string(text: &[u8], into: &mut Bytes) -> Result<(), NoMemory>
     ensures ok { OnOk result (into.new ≡ into.old ++ json_string text.now) }
-    ensures err { OnErr result (StandsBefore into.old into.new) }
+    ensures err { OnErr result (RepresentsBefore into.old into.new) }
 {
     into.append(b"\"")?;
     append_escaped(text, into)?;
@@ -21,7 +21,7 @@ pub fn append_json_string(text: &[u8], into: &mut Bytes) -> Result<(), NoMemory>
 /// Goes from one byte that wants an escape to the next.
 fn append_escaped(text: &[u8], into: &mut Bytes) -> Result<(), NoMemory>
     ensures ok { OnOk result (into.new ≡ into.old ++ flat_map escaped text.now) }
-    ensures err { OnErr result (StandsBefore into.old into.new) }
+    ensures err { OnErr result (RepresentsBefore into.old into.new) }
 {
     let mut rest = text;
     while !rest.is_empty() {
@@ -34,15 +34,16 @@ fn append_escaped(text: &[u8], into: &mut Bytes) -> Result<(), NoMemory>
 #[inline(always)]
 fn append_run<'a>(text: &'a [u8], into: &mut Bytes) -> Result<&'a [u8], NoMemory>
     requires { 0 < length text.now }
-    ensures ok { IfOk result (λ rest. into.new ++ flat_map escaped rest.now ≡ into.old ++ flat_map escaped text.now) }
+    ensures ok { IfOk result (λ rest. into.new ++ flat_map escaped rest.now
+        ≡ into.old ++ flat_map escaped text.now) }
     ensures shorter { IfOk result (λ rest. length rest.now < length text.now) }
-    ensures front { StandsBefore into.old into.new }
+    ensures prefix { RepresentsBefore into.old into.new }
 {
-    let plain = plain_front(text);
-    let (front, behind) = text.split_at(plain);
-    into.append(front)?;
-    match behind {
-        [] => Ok(behind),
+    let plain = plain_prefix(text);
+    let (prefix, following) = text.split_at(plain);
+    into.append(prefix)?;
+    match following {
+        [] => Ok(following),
         [byte, rest @ ..] => {
             append_escape(*byte, into)?;
             Ok(rest)
@@ -52,7 +53,7 @@ fn append_run<'a>(text: &'a [u8], into: &mut Bytes) -> Result<&'a [u8], NoMemory
 
 /// How many bytes come before the first that wants an escape.
 #[inline(always)]
-fn plain_front(text: &[u8]) -> usize
+fn plain_prefix(text: &[u8]) -> usize
     ensures place { result ≡ position_or_len is_escaped text.now }
     ensures within { result ≤ length text.now }
 {

@@ -19,10 +19,11 @@ pub fn one_outcome()
 /// an int that arithmetic made gets its decimal spelling; a value with an error in it is written as no JSON, and so
 /// is none of these. The function does nothing: its clause is a law of the definitions.
 pub fn written_is_read()
-    ensures { (style : JsonStyle) (value : Tree) → IsReadable value → depth value ≤ 100 → IsJson plain (json_text style value) (read_back value) }
+    ensures { (style : JsonStyle) (value : Tree) → IsReadable value → depth value ≤ 100
+        → IsJson plain (json_text style value) (read_back value) }
 {}
 
-/// What `front_of` finds stays found when bytes follow, but for a run that reaches the end of the text. So a reader of
+/// What `first_lexeme` finds stays found when bytes follow, but for a run that reaches the end of the text. So a reader of
 /// streams may take what it finds in a piece. The function does nothing: its clause is a law of the definitions.
 pub fn found_stays()
     ensures { (inside : Bool) (text more : List ℕ) → StaysFound inside text more }

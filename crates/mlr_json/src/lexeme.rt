@@ -1,8 +1,8 @@
 ghost use Rattle.std.specs.Prelude.{◌≡◌, ◌+◌, ◌*◌, ◌<◌, ◌≤◌, ◌==◌, ◌&&◌, not, nat_lt, length, take};
 ghost use Rattle.std.specs.List.{prefix_len};
 ghost use Rattle.mlr_spec.specs.Infer.{digit, number};
-ghost use Rattle.mlr_spec.specs.JsonTokens.{is_blank, is_word_byte, is_raw, is_hex, mark_of, escape_of, front_unmarked, front_outside, front_inside, front_escape, front_unit, front_of};
-ghost use Rattle.mlr_json.specs.Seen.{front_seen, IsWithin, EscapeIs};
+ghost use Rattle.mlr_spec.specs.JsonTokens.{is_blank, is_word_byte, is_raw, is_hex, mark_of, escape_of, lexeme_unmarked, lexeme_outside, lexeme_inside, lexeme_of_escape, lexeme_of_unit, first_lexeme};
+ghost use Rattle.mlr_json.specs.Seen.{lexeme_seen, IsWithin, EscapeIs};
 
 use mlr_spec::JsonMark;
 
@@ -25,7 +25,7 @@ pub enum Lexeme<'a> {
 
 /// What stands at the front of a text.
 #[derive(Clone, Copy, Debug, PartialEq, Eq)]
-pub enum Front<'a> {
+pub enum Scanned<'a> {
     /// A lexeme of so many bytes. A blank, a word or raw bytes that reach the text's end may go on behind it.
     Found(Lexeme<'a>, usize),
     /// No bytes, or an escape that isn't whole.
@@ -36,28 +36,28 @@ pub enum Front<'a> {
 
 /// The lexeme at the front of a text, within a string or outside. It takes no memory.
 #[inline]
-pub fn front_of(inside: bool, text: &[u8]) -> Front<'_>
-    ensures front { front_seen result ≡ front_of inside text.now }
+pub fn first_lexeme(inside: bool, text: &[u8]) -> Scanned<'_>
+    ensures prefix { lexeme_seen result ≡ first_lexeme inside text.now }
     ensures within { IsWithin (length text.now) result }
 {
     if inside {
-        front_inside(text)
+        lexeme_inside(text)
     } else {
-        front_outside(text)
+        lexeme_outside(text)
     }
 }
 
 #[inline]
-#[tactic(auto, unfolding(mlr_spec::specs::JsonTokens::front_outside))]
-fn front_outside(text: &[u8]) -> Front<'_>
-    ensures front { front_seen result ≡ front_outside text.now }
+#[tactic(auto, unfolding(mlr_spec::specs::JsonTokens::lexeme_outside))]
+fn lexeme_outside(text: &[u8]) -> Scanned<'_>
+    ensures prefix { lexeme_seen result ≡ lexeme_outside text.now }
     ensures within { IsWithin (length text.now) result }
 {
     match text {
-        [] => Front::Begun,
+        [] => Scanned::Begun,
         [byte, ..] => match mark_of(*byte) {
-            Some(mark) => Front::Found(Lexeme::Mark(mark), 1),
-            None => front_unmarked(text),
+            Some(mark) => Scanned::Found(Lexeme::Mark(mark), 1),
+            None => lexeme_unmarked(text),
         },
     }
 }
@@ -78,23 +78,23 @@ fn mark_of(byte: u8) -> Option<JsonMark>
 }
 
 /// What stands between marks.
-fn front_unmarked(text: &[u8]) -> Front<'_>
+fn lexeme_unmarked(text: &[u8]) -> Scanned<'_>
     requires { 0 < length text.now }
-    ensures front { front_seen result ≡ front_unmarked text.now }
+    ensures prefix { lexeme_seen result ≡ lexeme_unmarked text.now }
     ensures within { IsWithin (length text.now) result }
 {
     let first = text[0];
     if is_blank(first) {
-        return Front::Found(Lexeme::Blank, blank_len(text));
+        return Scanned::Found(Lexeme::Blank, blank_len(text));
     }
     if first == b'"' {
-        return Front::Found(Lexeme::Quote, 1);
+        return Scanned::Found(Lexeme::Quote, 1);
     }
     if is_word_byte(first) {
         let len = word_len(text);
-        return Front::Found(Lexeme::Word(&text[..len]), len);
+        return Scanned::Found(Lexeme::Word(&text[..len]), len);
     }
-    Front::Bad(0)
+    Scanned::Bad(0)
 }
 
 #[inline(always)]
@@ -158,33 +158,33 @@ fn raw_len(text: &[u8]) -> usize
 }
 
 #[inline]
-#[tactic(auto, unfolding(mlr_spec::specs::JsonTokens::front_inside))]
-fn front_inside(text: &[u8]) -> Front<'_>
-    ensures front { front_seen result ≡ front_inside text.now }
+#[tactic(auto, unfolding(mlr_spec::specs::JsonTokens::lexeme_inside))]
+fn lexeme_inside(text: &[u8]) -> Scanned<'_>
+    ensures prefix { lexeme_seen result ≡ lexeme_inside text.now }
     ensures within { IsWithin (length text.now) result }
 {
     match text {
-        [] => Front::Begun,
-        [b'"', ..] => Front::Found(Lexeme::Quote, 1),
-        [b'\\', behind @ ..] => front_escape(behind),
+        [] => Scanned::Begun,
+        [b'"', ..] => Scanned::Found(Lexeme::Quote, 1),
+        [b'\\', following @ ..] => lexeme_of_escape(following),
         _ => {
             let len = raw_len(text);
-            Front::Found(Lexeme::Raw(&text[..len]), len)
+            Scanned::Found(Lexeme::Raw(&text[..len]), len)
         }
     }
 }
 
 /// What stands behind a backslash. The lengths count the backslash too.
-fn front_escape(text: &[u8]) -> Front<'_>
-    ensures front { front_seen result ≡ front_escape text.now }
+fn lexeme_of_escape(text: &[u8]) -> Scanned<'_>
+    ensures prefix { lexeme_seen result ≡ lexeme_of_escape text.now }
     ensures within { IsWithin (1 + length text.now) result }
 {
     match text {
-        [] => Front::Begun,
-        [b'u', digits @ ..] => front_unit(digits),
+        [] => Scanned::Begun,
+        [b'u', digits @ ..] => lexeme_of_unit(digits),
         [letter, ..] => match escape_of(*letter) {
-            Some(byte) => Front::Found(Lexeme::Raw(byte), 2),
-            None => Front::Bad(1),
+            Some(byte) => Scanned::Found(Lexeme::Raw(byte), 2),
+            None => Scanned::Bad(1),
         },
     }
 }
@@ -207,18 +207,18 @@ fn escape_of(letter: u8) -> Option<&'static [u8]>
 }
 
 /// What stands behind `\u`. The lengths count these two bytes too.
-fn front_unit(text: &[u8]) -> Front<'_>
-    ensures front { front_seen result ≡ front_unit text.now }
+fn lexeme_of_unit(text: &[u8]) -> Scanned<'_>
+    ensures prefix { lexeme_seen result ≡ lexeme_of_unit text.now }
     ensures within { IsWithin (2 + length text.now) result }
 {
     let digits = hex_len(text);
     if digits >= 4 {
-        return Front::Found(Lexeme::Unit(unit_of(&text[..4])), 6);
+        return Scanned::Found(Lexeme::Unit(unit_of(&text[..4])), 6);
     }
     if digits == text.len() {
-        Front::Begun
+        Scanned::Begun
     } else {
-        Front::Bad(2 + digits)
+        Scanned::Bad(2 + digits)
     }
 }
 

@@ -8,10 +8,10 @@ ghost use Rattle.mlr_json.specs.Steps.{frames_of, IsStep};
 ghost use Rattle.mlr_json.specs.Reading.{tokens_left, token_seen};
 ghost use Rattle.mlr_json.specs.Seen.{lexeme_seen};
 ghost use Rattle.mlr_value.specs.Value.{tree_of};
-ghost use Rattle.mlr_json.specs.Turns.{outcome_at, behind_at, IsTurn, IsTurnShorter, IsBehind, IsAnswer, IsRead, is_token};
+ghost use Rattle.mlr_json.specs.Turns.{outcome_at, after_at, IsTurn, IsTurnShorter, IsAfter, IsAnswer, IsRead, is_token};
 
-use crate::token::{Next, Token, behind, next_token};
-use crate::{Front, Lexeme, Machine, Went, front_of};
+use crate::token::{Next, Token, following, next_token};
+use crate::{Lexeme, Machine, Scanned, Went, first_lexeme};
 use mlr_spec::NoMemory;
 use mlr_value::Value;
 use std::alloc::Global;
@@ -59,8 +59,8 @@ fn read_text(alloc: Global, text: &[u8]) -> Result<JsonRead, NoMemory>
     let mut left = text;
     loop {
         match next_turn(alloc, &mut machine, left)? {
-            Turn::On(behind) => left = behind,
-            Turn::Whole(value, behind) => return Ok(whole(value, text, behind)),
+            Turn::On(following) => left = following,
+            Turn::Whole(value, following) => return Ok(whole(value, text, following)),
             Turn::Syntax(rest) => return Ok(JsonRead::Syntax(place(text, rest))),
             Turn::Deep(rest) => return Ok(JsonRead::Deep(place(text, rest))),
         }
@@ -69,13 +69,14 @@ fn read_text(alloc: Global, text: &[u8]) -> Result<JsonRead, NoMemory>
 
 /// Reads the next token, or blanks.
 fn next_turn<'a>(alloc: Global, machine: &mut Machine, text: &'a [u8]) -> Result<Turn<'a>, NoMemory>
-    ensures outcome { IfOk result
-        (λ turn. (end : ℕ) → length text.now ≤ end → IsTurn end (outcome_at end (frames_of machine.old) machine.old.phase (tokens_left end text.now)) machine.new turn) }
+    ensures outcome { IfOk result (λ turn. (end : ℕ) → length text.now ≤ end
+        → IsTurn end (outcome_at end (frames_of machine.old) machine.old.phase
+        (tokens_left end text.now)) machine.new turn) }
     ensures shorter { IfOk result (IsTurnShorter (length text.now)) }
 {
     match next_token(alloc, machine.takes_text(), text)? {
-        Next::Blank(behind) => Ok(Turn::On(behind)),
-        Next::Token(token, behind) => token_turn(machine, token, text.len(), behind),
+        Next::Blank(following) => Ok(Turn::On(following)),
+        Next::Token(token, following) => token_turn(machine, token, text.len(), following),
         Next::Refused => Ok(Turn::Syntax(text.len())),
         Next::Cut(rest) => Ok(Turn::Syntax(rest)),
         Next::Bad(rest) => Ok(Turn::Syntax(rest)),
@@ -88,24 +89,26 @@ fn token_turn<'a>(
     machine: &mut Machine,
     token: Token,
     left: usize,
-    behind: &'a [u8],
+    following: &'a [u8],
 ) -> Result<Turn<'a>, NoMemory>
-    requires { length behind.now < left }
-    ensures outcome { IfOk result
-        (λ turn. (end : ℕ) → IsTurn end (outcome_at end (frames_of machine.old) machine.old.phase (and_token (end - left) (token_seen token) (tokens_left end behind.now))) machine.new turn) }
+    requires { length following.now < left }
+    ensures outcome { IfOk result (λ turn. (end : ℕ)
+        → IsTurn end (outcome_at end (frames_of machine.old) machine.old.phase
+        (and_token (end - left) (token_seen token) (tokens_left end following.now))) machine.new
+        turn) }
     ensures shorter { IfOk result (IsTurnShorter left) }
 {
     match take(machine, token)? {
-        Went::On => Ok(Turn::On(behind)),
-        Went::Whole(value) => Ok(Turn::Whole(value, behind)),
+        Went::On => Ok(Turn::On(following)),
+        Went::Whole(value) => Ok(Turn::Whole(value, following)),
         Went::Wrong => Ok(Turn::Syntax(left)),
         Went::Deep => Ok(Turn::Deep(left)),
     }
 }
 
 fn take(machine: &mut Machine, token: Token) -> Result<Went, NoMemory>
-    ensures { IfOk result
-        (λ went. IsStep (step (frames_of machine.old) machine.old.phase (token_seen token)) went machine.new) }
+    ensures { IfOk result (λ went. IsStep (step (frames_of machine.old) machine.old.phase
+        (token_seen token)) went machine.new) }
 {
     match token {
         Token::Mark(mark) => machine.mark(mark),
@@ -115,31 +118,33 @@ fn take(machine: &mut Machine, token: Token) -> Result<Went, NoMemory>
 }
 
 /// The answer where a value is whole: it is the value if only blanks stand behind it.
-fn whole(value: Value, text: &[u8], behind: &[u8]) -> JsonRead
-    requires { length behind.now ≤ length text.now }
-    ensures { IsAnswer (behind_at (tree_of value) (tokens_left (length text.now + 1) behind.now)) result }
+fn whole(value: Value, text: &[u8], following: &[u8]) -> JsonRead
+    requires { length following.now ≤ length text.now }
+    ensures { IsAnswer (after_at (tree_of value) (tokens_left (length text.now + 1) following.now))
+        result }
 {
-    match behind_blanks(behind) {
+    match after_blanks(following) {
         None => JsonRead::Ok(value),
         Some(rest) => JsonRead::Syntax(place(text, rest)),
     }
 }
 
 /// How many bytes are left from the first on that is no blank, if there is one.
-fn behind_blanks(text: &[u8]) -> Option<usize>
-    ensures outcome { (end : ℕ) (value : Tree) → length text.now ≤ end → IsBehind end value (behind_at value (tokens_left end text.now)) result }
+fn after_blanks(text: &[u8]) -> Option<usize>
+    ensures outcome { (end : ℕ) (value : Tree) → length text.now ≤ end
+        → IsAfter end value (after_at value (tokens_left end text.now)) result }
     ensures within { IfSome result (λ rest. rest ≤ length text.now) }
 {
     let mut left = text;
     loop {
-        match front_of(false, left) {
-            Front::Begun => return None,
-            Front::Bad(offset) => return Some(left.len() - offset),
-            Front::Found(lexeme, len) => {
+        match first_lexeme(false, left) {
+            Scanned::Begun => return None,
+            Scanned::Bad(offset) => return Some(left.len() - offset),
+            Scanned::Found(lexeme, len) => {
                 if is_token(lexeme) {
                     return Some(left.len());
                 }
-                left = behind(left, len);
+                left = following(left, len);
             }
         }
     }

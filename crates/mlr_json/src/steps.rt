@@ -4,7 +4,7 @@ ghost use Rattle.mlr_spec.specs.JsonGrammar.{text_value};
 ghost use Rattle.mlr_value.specs.Value.{tree_of};
 ghost use Rattle.mlr_json.specs.declared.frame.Frame.{Frame};
 ghost use Rattle.mlr_json.specs.Machine.{step, on, wrong, with_value, with_key, map_ended, array_ended, comma_read, colon_read, takes_value, takes_key};
-ghost use Rattle.mlr_json.specs.Steps.{frames_of, Stands, IsStep, is_in_map, is_within, takes_text};
+ghost use Rattle.mlr_json.specs.Steps.{frames_of, Represents, IsStep, is_in_map, is_within, takes_text};
 
 use crate::{Frame, Machine, Phase, Went};
 use mlr_spec::{JsonMark, NoMemory};
@@ -17,7 +17,7 @@ const MOST_FRAMES: usize = 100;
 impl Machine {
     /// A machine before a value. It takes no memory.
     pub fn new(alloc: Global) -> Self
-        ensures { Stands result [] Phase.Value }
+        ensures { Represents result [] Phase.Value }
     {
         Machine {
             alloc,
@@ -65,8 +65,8 @@ impl Machine {
     /// Reads a word that has this value.
     #[tactic(auto, unfolding(crate::specs::Machine::step))]
     pub fn word(&mut self, value: Value) -> Result<Went, NoMemory>
-        ensures { IfOk result
-            (λ went. IsStep (step (frames_of self.old) self.old.phase (word_token (tree_of value))) went self.new) }
+        ensures { IfOk result (λ went. IsStep (step (frames_of self.old) self.old.phase
+            (word_token (tree_of value))) went self.new) }
     {
         if self.takes_value() {
             self.value(value)
@@ -78,8 +78,8 @@ impl Machine {
     /// Reads a string that has this text: a key or a value.
     #[tactic(auto, unfolding(crate::specs::Machine::step))]
     pub fn text(&mut self, text: Bytes) -> Result<Went, NoMemory>
-        ensures { IfOk result
-            (λ went. IsStep (step (frames_of self.old) self.old.phase (text_token text)) went self.new) }
+        ensures { IfOk result (λ went. IsStep (step (frames_of self.old) self.old.phase
+            (text_token text)) went self.new) }
     {
         if self.takes_key() {
             self.key(text)
@@ -112,7 +112,8 @@ impl Machine {
 
     /// Takes a value: as the next item, as the value of the key before it, or as the whole value.
     fn value(&mut self, value: Value) -> Result<Went, NoMemory>
-        ensures { IfOk result (λ went. IsStep (with_value (tree_of value) (frames_of self.old)) went self.new) }
+        ensures { IfOk result (λ went. IsStep (with_value (tree_of value) (frames_of self.old)) went
+            self.new) }
     {
         match self.frames.pop() {
             None => {
@@ -143,8 +144,8 @@ impl Machine {
     }
 
     fn open(&mut self, frame: Frame, phase: Phase) -> Result<Went, NoMemory>
-        ensures { IfOk result
-            (λ went. IsStep (if takes_value self.old.phase then on (frame ∷ frames_of self.old) phase else wrong) went self.new) }
+        ensures { IfOk result (λ went. IsStep (if takes_value self.old.phase
+            then on (frame ∷ frames_of self.old) phase else wrong) went self.new) }
     {
         if !self.takes_value() {
             return Ok(Went::Wrong);
@@ -158,7 +159,8 @@ impl Machine {
     }
 
     fn end_map(&mut self) -> Result<Went, NoMemory>
-        ensures { IfOk result (λ went. IsStep (map_ended (frames_of self.old) self.old.phase) went self.new) }
+        ensures { IfOk result (λ went. IsStep (map_ended (frames_of self.old) self.old.phase) went
+            self.new) }
     {
         if !matches!(self.phase, Phase::FirstKey | Phase::Later) {
             return Ok(Went::Wrong);
@@ -170,7 +172,8 @@ impl Machine {
     }
 
     fn end_array(&mut self) -> Result<Went, NoMemory>
-        ensures { IfOk result (λ went. IsStep (array_ended (frames_of self.old) self.old.phase) went self.new) }
+        ensures { IfOk result (λ went. IsStep (array_ended (frames_of self.old) self.old.phase) went
+            self.new) }
     {
         if !matches!(self.phase, Phase::FirstItem | Phase::Later) {
             return Ok(Went::Wrong);
@@ -208,8 +211,8 @@ impl Machine {
 
 /// An open bracket with one value more.
 fn frame_with(frame: Frame, value: Value) -> Result<Frame, NoMemory>
-    ensures { IfOk result
-        (λ more. (frames : List Frame) → with_value (tree_of value) (frame ∷ frames) ≡ on (more ∷ frames) Phase.Later) }
+    ensures { IfOk result (λ more. (frames : List Frame)
+        → with_value (tree_of value) (frame ∷ frames) ≡ on (more ∷ frames) Phase.Later) }
 {
     match frame {
         Frame::Array(mut items) => {

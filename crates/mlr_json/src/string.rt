@@ -32,8 +32,8 @@ impl StringBuilder {
     /// Puts bytes last. The first ones that come are copied once.
     #[inline]
     pub fn push_raw(&mut self, text: &[u8]) -> Result<(), NoMemory>
-        ensures { OnOk result
-            ((pieces : List Piece) → Holds self.old pieces → Holds self.new (pieces ++ raw text.now ∷ [])) }
+        ensures { OnOk result ((pieces : List Piece) → Holds self.old pieces
+            → Holds self.new (pieces ++ raw text.now ∷ [])) }
     {
         self.end_unit()?;
         self.text.append(text)
@@ -41,8 +41,8 @@ impl StringBuilder {
 
     /// Puts a code unit last. Two that follow one another may be a pair; a surrogate in no pair becomes U+FFFD.
     pub fn push_unit(&mut self, code: u16) -> Result<(), NoMemory>
-        ensures { OnOk result
-            ((pieces : List Piece) → Holds self.old pieces → Holds self.new (pieces ++ unit code ∷ [])) }
+        ensures { OnOk result ((pieces : List Piece) → Holds self.old pieces
+            → Holds self.new (pieces ++ unit code ∷ [])) }
     {
         if let Some(high) = self.high
             && let Some(character) = pair_character(high, code)
@@ -73,8 +73,11 @@ impl StringBuilder {
     /// No unit comes behind the last one.
     #[inline(always)]
     fn end_unit(&mut self) -> Result<(), NoMemory>
-        ensures { OnOk result
-            (self.new ≡ record { text = self.old.text ++ decoded (pending self.old.high); high = None }) }
+        ensures { OnOk result (self.new ≡ record {
+          text = self.old.text
+              ++ decoded (pending self.old.high);
+          high = None;
+        }) }
     {
         if let Some(high) = self.high {
             self.high = None;
@@ -105,8 +108,8 @@ fn is_low(unit: u16) -> bool
 
 /// The character of a pair of surrogates.
 fn pair_character(high: u16, low: u16) -> Option<char>
-    ensures { result
-        ≡ (if is_high_surrogate high && is_low_surrogate low then Some (surrogate_pair_char high low) else None) }
+    ensures { result ≡ (if is_high_surrogate high && is_low_surrogate low
+        then Some (surrogate_pair_char high low) else None) }
 {
     if !is_high(high) || !is_low(low) {
         return None;

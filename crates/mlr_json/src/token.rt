@@ -4,7 +4,7 @@ ghost use Rattle.mlr_json.specs.Readable.{plain};
 ghost use Rattle.mlr_json.specs.Seen.{lexeme_seen};
 ghost use Rattle.mlr_json.specs.Reading.{tokens_left, inside_left, pieces_left, IsFirst, Gives, IsShorter, IsWanted, IsStringEnd, EndsWithin, is_of_string, PieceGives, IsPieceShorter};
 
-use crate::{Front, Lexeme, StringBuilder, front_of, word_value};
+use crate::{Lexeme, Scanned, StringBuilder, first_lexeme, word_value};
 use mlr_spec::{InferOpts, JsonMark, NoMemory};
 use mlr_value::{Bytes, Value};
 use std::alloc::Global;
@@ -54,15 +54,21 @@ enum PieceAt<'a> {
 
 /// Reads the next token, or blanks. A string is read only where it is wanted.
 pub(crate) fn next_token(alloc: Global, wants_text: bool, text: &[u8]) -> Result<Next<'_>, NoMemory>
-    ensures tokens { IfOk result
-        (λ next. (end : ℕ) → length text.now ≤ end → Gives end (length text.now) next (tokens_left end text.now)) }
+    ensures tokens { IfOk result (λ next. (end : ℕ) → length text.now ≤ end
+        → Gives end (length text.now) next (tokens_left end text.now)) }
     ensures shorter { IfOk result (IsShorter (length text.now)) }
     ensures wanted { IfOk result (IsWanted wants_text) }
 {
-    match front_of(false, text) {
-        Front::Found(lexeme, len) => token_of(alloc, wants_text, lexeme, text, behind(text, len)),
-        Front::Begun => Ok(Next::End),
-        Front::Bad(offset) => Ok(Next::Bad(text.len() - offset)),
+    match first_lexeme(false, text) {
+        Scanned::Found(lexeme, len) => token_of(
+            alloc,
+            wants_text,
+            lexeme,
+            text,
+            following(text, len),
+        ),
+        Scanned::Begun => Ok(Next::End),
+        Scanned::Bad(offset) => Ok(Next::Bad(text.len() - offset)),
     }
 }
 
@@ -72,19 +78,20 @@ fn token_of<'a>(
     wants_text: bool,
     lexeme: Lexeme<'_>,
     text: &[u8],
-    behind: &'a [u8],
+    following: &'a [u8],
 ) -> Result<Next<'a>, NoMemory>
-    requires { length behind.now < length text.now }
-    ensures tokens { IfOk result
-        (λ next. (end : ℕ) → length text.now ≤ end → IsFirst false end text.now (lexeme_seen lexeme.entry) behind.now → Gives end (length text.now) next (tokens_left end text.now)) }
+    requires { length following.now < length text.now }
+    ensures tokens { IfOk result (λ next. (end : ℕ) → length text.now ≤ end
+        → IsFirst false end text.now (lexeme_seen lexeme.entry) following.now
+        → Gives end (length text.now) next (tokens_left end text.now)) }
     ensures shorter { IfOk result (IsShorter (length text.now)) }
     ensures wanted { IfOk result (IsWanted wants_text) }
 {
     match lexeme {
-        Lexeme::Mark(mark) => Ok(Next::Token(Token::Mark(mark), behind)),
-        Lexeme::Word(word) => word_token(alloc, word, text, behind),
-        Lexeme::Quote => string_token(alloc, wants_text, text, behind),
-        Lexeme::Blank | Lexeme::Raw(_) | Lexeme::Unit(_) => Ok(Next::Blank(behind)),
+        Lexeme::Mark(mark) => Ok(Next::Token(Token::Mark(mark), following)),
+        Lexeme::Word(word) => word_token(alloc, word, text, following),
+        Lexeme::Quote => string_token(alloc, wants_text, text, following),
+        Lexeme::Blank | Lexeme::Raw(_) | Lexeme::Unit(_) => Ok(Next::Blank(following)),
     }
 }
 
@@ -93,16 +100,18 @@ fn word_token<'a>(
     alloc: Global,
     word: &[u8],
     text: &[u8],
-    behind: &'a [u8],
+    following: &'a [u8],
 ) -> Result<Next<'a>, NoMemory>
-    requires { length behind.now < length text.now }
-    ensures tokens { IfOk result
-        (λ next. (end : ℕ) → Gives end (length text.now) next (or_stop (end - length text.now) (token_of_word plain word.now) (tokens_left end behind.now))) }
+    requires { length following.now < length text.now }
+    ensures tokens { IfOk result (λ next. (end : ℕ)
+        → Gives end (length text.now) next
+        (or_stop (end - length text.now) (token_of_word plain word.now)
+        (tokens_left end following.now))) }
     ensures shorter { IfOk result (IsShorter (length text.now)) }
     ensures wanted { IfOk result (λ next. (wanted : Bool) → IsWanted wanted next) }
 {
     Ok(match word_value(alloc, word, InferOpts::plain())? {
-        Some(value) => Next::Token(Token::Word(value), behind),
+        Some(value) => Next::Token(Token::Word(value), following),
         None => Next::Bad(text.len()),
     })
 }
@@ -112,41 +121,44 @@ fn string_token<'a>(
     alloc: Global,
     wanted: bool,
     text: &[u8],
-    behind: &'a [u8],
+    following: &'a [u8],
 ) -> Result<Next<'a>, NoMemory>
-    requires { length behind.now < length text.now }
-    ensures tokens { IfOk result
-        (λ next. (end : ℕ) → length behind.now ≤ end → Gives end (length text.now) next (and_token (end - length text.now) (text_token (decoded (pieces_left end behind.now))) (inside_left end behind.now))) }
+    requires { length following.now < length text.now }
+    ensures tokens { IfOk result (λ next. (end : ℕ) → length following.now ≤ end
+        → Gives end (length text.now) next
+        (and_token (end - length text.now) (text_token (decoded (pieces_left end following.now)))
+        (inside_left end following.now))) }
     ensures shorter { IfOk result (IsShorter (length text.now)) }
     ensures wanted { IfOk result (IsWanted wanted) }
 {
     if !wanted {
         return Ok(Next::Refused);
     }
-    match read_string(alloc, behind)? {
-        StringEnd::Closed(text, behind) => Ok(Next::Token(Token::Text(text), behind)),
+    match read_string(alloc, following)? {
+        StringEnd::Closed(text, following) => Ok(Next::Token(Token::Text(text), following)),
         StringEnd::Cut(rest) => Ok(Next::Cut(rest)),
     }
 }
 
 /// Reads a string from behind its first quote on.
 fn read_string(alloc: Global, text: &[u8]) -> Result<StringEnd<'_>, NoMemory>
-    ensures tokens { IfOk result (λ ended. (end : ℕ) → length text.now ≤ end → IsStringEnd end text.now ended) }
+    ensures tokens { IfOk result (λ ended. (end : ℕ) → length text.now ≤ end
+        → IsStringEnd end text.now ended) }
     ensures within { IfOk result (EndsWithin (length text.now)) }
 {
     let mut builder = StringBuilder::new(alloc);
     let mut left = text;
     loop {
         match piece_at(left) {
-            PieceAt::Raw(piece, behind) => {
+            PieceAt::Raw(piece, following) => {
                 builder.push_raw(piece)?;
-                left = behind;
+                left = following;
             }
-            PieceAt::Unit(code, behind) => {
+            PieceAt::Unit(code, following) => {
                 builder.push_unit(code)?;
-                left = behind;
+                left = following;
             }
-            PieceAt::Quote(behind) => return Ok(StringEnd::Closed(builder.finish()?, behind)),
+            PieceAt::Quote(following) => return Ok(StringEnd::Closed(builder.finish()?, following)),
             PieceAt::Stop(rest) => return Ok(StringEnd::Cut(rest)),
         }
     }
@@ -157,30 +169,32 @@ fn piece_at(text: &[u8]) -> PieceAt<'_>
     ensures tokens { (end : ℕ) → length text.now ≤ end → PieceGives end text.now result }
     ensures shorter { IsPieceShorter (length text.now) result }
 {
-    match front_of(true, text) {
-        Front::Found(lexeme, len) => piece_of(lexeme, behind(text, len)),
-        Front::Begun => PieceAt::Stop(0),
-        Front::Bad(offset) => PieceAt::Stop(text.len() - offset),
+    match first_lexeme(true, text) {
+        Scanned::Found(lexeme, len) => piece_of(lexeme, following(text, len)),
+        Scanned::Begun => PieceAt::Stop(0),
+        Scanned::Bad(offset) => PieceAt::Stop(text.len() - offset),
     }
 }
 
 /// The piece that a lexeme within a string is.
-fn piece_of<'a>(lexeme: Lexeme<'a>, behind: &'a [u8]) -> PieceAt<'a>
+fn piece_of<'a>(lexeme: Lexeme<'a>, following: &'a [u8]) -> PieceAt<'a>
     requires { is_of_string (lexeme_seen lexeme) ≡ true }
-    ensures tokens { (end : ℕ) (text : List ℕ) → IsFirst true end text (lexeme_seen lexeme.entry) behind.now → PieceGives end text result }
-    ensures shorter { (left : ℕ) → length behind.now < left → IsPieceShorter left result }
+    ensures tokens { (end : ℕ) (text : List ℕ)
+        → IsFirst true end text (lexeme_seen lexeme.entry) following.now
+        → PieceGives end text result }
+    ensures shorter { (left : ℕ) → length following.now < left → IsPieceShorter left result }
 {
     match lexeme {
-        Lexeme::Raw(piece) => PieceAt::Raw(piece, behind),
-        Lexeme::Unit(code) => PieceAt::Unit(code, behind),
-        Lexeme::Quote => PieceAt::Quote(behind),
+        Lexeme::Raw(piece) => PieceAt::Raw(piece, following),
+        Lexeme::Unit(code) => PieceAt::Unit(code, following),
+        Lexeme::Quote => PieceAt::Quote(following),
         Lexeme::Blank | Lexeme::Mark(_) | Lexeme::Word(_) => unreachable!(),
     }
 }
 
 /// The text behind its first bytes.
 #[inline(always)]
-pub(crate) fn behind(text: &[u8], len: usize) -> &[u8]
+pub(crate) fn following(text: &[u8], len: usize) -> &[u8]
     requires { len ≤ length text.now }
     ensures { result.now ≡ drop len text.now }
 {

@@ -32,8 +32,9 @@ pub fn word_value(alloc: Global, word: &[u8], opts: InferOpts) -> Result<Option<
 
 /// The value of a word that is a number.
 fn number_value(alloc: Global, word: &[u8], opts: InferOpts) -> Result<Option<Value>, NoMemory>
-    ensures { IfOk result
-        (λ value. option_map tree_of value ≡ number_of_kind (kind_of (record { none = false; octal = opts.octal }) word.now) opts.none word.now) }
+    ensures { IfOk result (λ value. option_map tree_of value
+        ≡ number_of_kind (kind_of (record { none = false; octal = opts.octal }) word.now)
+        opts.none word.now) }
 {
     let octal = opts.octal;
     let kind = infer(word, InferOpts { none: false, octal });

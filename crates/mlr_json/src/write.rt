@@ -3,7 +3,7 @@ ghost use Rattle.std.specs.List.{list_any};
 ghost use Rattle.mlr_spec.specs.Tree.{map_of, array_of, is_collection};
 ghost use Rattle.mlr_spec.specs.Json.{json_string, json_at, json_text, json_field, is_stacked, new_line};
 ghost use Rattle.mlr_value.specs.Value.{tree_of};
-ghost use Rattle.mlr_json.specs.Escapes.{StandsBefore};
+ghost use Rattle.mlr_json.specs.Escapes.{RepresentsBefore};
 ghost use Rattle.mlr_json.specs.Writing.{gap, line_end, led};
 
 use crate::escape::append_json_string;
@@ -16,7 +16,7 @@ use std::alloc::Global;
 #[inline]
 pub fn append_json_value(value: &Value, style: JsonStyle, into: &mut Bytes) -> Result<(), NoMemory>
     ensures ok { OnOk result (into.new ≡ into.old ++ json_text style (tree_of value.now)) }
-    ensures err { OnErr result (StandsBefore into.old into.new) }
+    ensures err { OnErr result (RepresentsBefore into.old into.new) }
 {
     append_at(value, style, 0, into)
 }
@@ -30,8 +30,9 @@ pub fn append_json_field(
     style: JsonStyle,
     into: &mut Bytes,
 ) -> Result<(), NoMemory>
-    ensures ok { OnOk result (into.new ≡ into.old ++ json_field style 1 (key.now, tree_of value.now)) }
-    ensures err { OnErr result (StandsBefore into.old into.new) }
+    ensures ok { OnOk result (into.new ≡ into.old
+        ++ json_field style 1 (key.now, tree_of value.now)) }
+    ensures err { OnErr result (RepresentsBefore into.old into.new) }
 {
     append_field(key, value, style, 1, into)
 }
@@ -54,7 +55,7 @@ fn append_at(
     into: &mut Bytes,
 ) -> Result<(), NoMemory>
     ensures ok { OnOk result (into.new ≡ into.old ++ json_at style level (tree_of value.now)) }
-    ensures err { OnErr result (StandsBefore into.old into.new) }
+    ensures err { OnErr result (RepresentsBefore into.old into.new) }
 {
     match value {
         Value::Map(pairs) => append_map(pairs, style, level, into),
@@ -74,8 +75,9 @@ fn append_field(
     level: usize,
     into: &mut Bytes,
 ) -> Result<(), NoMemory>
-    ensures ok { OnOk result (into.new ≡ into.old ++ json_field style level (key.now, tree_of value.now)) }
-    ensures err { OnErr result (StandsBefore into.old into.new) }
+    ensures ok { OnOk result (into.new ≡ into.old
+        ++ json_field style level (key.now, tree_of value.now)) }
+    ensures err { OnErr result (RepresentsBefore into.old into.new) }
 {
     append_json_string(key, into)?;
     into.append(b": ")?;
@@ -90,7 +92,7 @@ fn append_map(
     into: &mut Bytes,
 ) -> Result<(), NoMemory>
     ensures ok { OnOk result (into.new ≡ into.old ++ json_at style level (map_of pairs.now)) }
-    ensures err { OnErr result (StandsBefore into.old into.new) }
+    ensures err { OnErr result (RepresentsBefore into.old into.new) }
 {
     if pairs.len() == 0 {
         return into.append(b"{}");
@@ -110,8 +112,9 @@ fn append_pairs(
     level: usize,
     into: &mut Bytes,
 ) -> Result<(), NoMemory>
-    ensures ok { OnOk result (into.new ≡ into.old ++ led (is_stacked style) true level (map (json_field style level) pairs.now)) }
-    ensures err { OnErr result (StandsBefore into.old into.new) }
+    ensures ok { OnOk result (into.new ≡ into.old
+        ++ led (is_stacked style) true level (map (json_field style level) pairs.now)) }
+    ensures err { OnErr result (RepresentsBefore into.old into.new) }
 {
     for place in 0..pairs.len() {
         append_gap(is_stacked(style), place == 0, level, into)?;
@@ -130,7 +133,7 @@ fn append_array(
     into: &mut Bytes,
 ) -> Result<(), NoMemory>
     ensures ok { OnOk result (into.new ≡ into.old ++ json_at style level (array_of items.now)) }
-    ensures err { OnErr result (StandsBefore into.old into.new) }
+    ensures err { OnErr result (RepresentsBefore into.old into.new) }
 {
     if items.len() == 0 {
         return into.append(b"[]");
@@ -152,8 +155,9 @@ fn append_items(
     level: usize,
     into: &mut Bytes,
 ) -> Result<(), NoMemory>
-    ensures ok { OnOk result (into.new ≡ into.old ++ led lines true level (map (json_at style level) items.now)) }
-    ensures err { OnErr result (StandsBefore into.old into.new) }
+    ensures ok { OnOk result (into.new ≡ into.old
+        ++ led lines true level (map (json_at style level) items.now)) }
+    ensures err { OnErr result (RepresentsBefore into.old into.new) }
 {
     for place in 0..items.len() {
         append_gap(lines, place == 0, level, into)?;
@@ -196,7 +200,7 @@ fn has_collection(items: &ArrayValue) -> bool
 /// What stands before a text between brackets.
 fn append_gap(lines: bool, first: bool, level: usize, into: &mut Bytes) -> Result<(), NoMemory>
     ensures ok { OnOk result (into.new ≡ into.old ++ gap lines first level) }
-    ensures err { OnErr result (StandsBefore into.old into.new) }
+    ensures err { OnErr result (RepresentsBefore into.old into.new) }
 {
     if !lines {
         return if first { Ok(()) } else { into.append(b", ") };
@@ -210,7 +214,7 @@ fn append_gap(lines: bool, first: bool, level: usize, into: &mut Bytes) -> Resul
 /// What stands before a closing bracket.
 fn append_line_end(lines: bool, level: usize, into: &mut Bytes) -> Result<(), NoMemory>
     ensures ok { OnOk result (into.new ≡ into.old ++ line_end lines level) }
-    ensures err { OnErr result (StandsBefore into.old into.new) }
+    ensures err { OnErr result (RepresentsBefore into.old into.new) }
 {
     if lines {
         append_new_line(level, into)
@@ -222,7 +226,7 @@ fn append_line_end(lines: bool, level: usize, into: &mut Bytes) -> Result<(), No
 /// A line end, and two spaces for each level.
 fn append_new_line(level: usize, into: &mut Bytes) -> Result<(), NoMemory>
     ensures ok { OnOk result (into.new ≡ into.old ++ new_line level) }
-    ensures err { OnErr result (StandsBefore into.old into.new) }
+    ensures err { OnErr result (RepresentsBefore into.old into.new) }
 {
     into.append(b"\n")?;
     for _done in 0..level {

@@ -5,51 +5,51 @@ use Rattle.std.proofs.lemmas.Bool.{cases_Bool}
 use Rattle.std.proofs.lemmas.List.Sums.{fold-append}
 use Rattle.mlr_event.specs.declared.event.Event.{Event}
 use Rattle.mlr_lines.specs.declared.lines.Lines.{Lines}
-use Rattle.mlr_lines.specs.Lines.{without_mark, ended_lines, begun_line, ended_behind, begun_behind}
+use Rattle.mlr_lines.specs.Lines.{without_mark, ended_lines, begun_line, ended_after, begun_after}
 use Rattle.mlr_lines.specs.Steps.{are_none, unmarked_line, unmarked_lines}
 use Rattle.mlr_event.specs.Adding.{Adds}
-use Rattle.mlr_lines.specs.Standing.{Stands, Takes, behind, given}
+use Rattle.mlr_lines.specs.Represents.{Represents, Takes, format_after, given}
 use Rattle.mlr_lines.proofs.Cutting.{ended_lines-append, begun-append, first-append, begun_line-is}
 
 module _ {F : Type 0} (after : F → List ℕ → F) (gives : F → List ℕ → List Event) where
-  pub given-append : (format : F) (lines more : List (List ℕ)) → given after gives format (lines ++ more) ≡ given after gives format lines ++ given after gives (behind after format lines) more
+  pub given-append : (format : F) (lines more : List (List ℕ)) → given after gives format (lines ++ more) ≡ given after gives format lines ++ given after gives (format_after after format lines) more
   given-append format [] more = refl
   given-append format (line ∷ lines) more =
       ap (λ events. gives format line ++ events) (given-append (after format line) lines more)
-      ∙ sym (append_assoc (gives format line) (given after gives (after format line) lines) (given after gives (behind after (after format line) lines) more))
+      ∙ sym (append_assoc (gives format line) (given after gives (after format line) lines) (given after gives (format_after after (after format line) lines) more))
 
-  module _ (old new : Lines F) (piece : List ℕ) (before_it behind_it : List Event) (takes : Takes after gives old new piece before_it behind_it) (format : F) (bytes : List ℕ) (stands : Stands after old format bytes) where
+  module _ (old new : Lines F) (piece : List ℕ) (before_it after_it : List Event) (takes : Takes after gives old new piece before_it after_it) (format : F) (bytes : List ℕ) (represents : Represents after old format bytes) where
     -- the lines that the piece ends
     abbrev more_lines : List (List ℕ)
-    more_lines = unmarked_lines (are_none (ended_lines bytes)) (ended_behind (begun_behind [] bytes) piece)
+    more_lines = unmarked_lines (are_none (ended_lines bytes)) (ended_after (begun_after [] bytes) piece)
 
-    more-is : unmarked_lines old.first (ended_behind old.begun.items piece) ≡ more_lines
-    more-is = ap₂ (λ first begun. unmarked_lines first (ended_behind begun piece)) stands.first stands.begun
+    more-is : unmarked_lines old.first (ended_after old.begun.items piece) ≡ more_lines
+    more-is = ap₂ (λ first begun. unmarked_lines first (ended_after begun piece)) represents.first represents.begun
 
-    pub Stands-more : Stands after new format (bytes ++ piece)
-    Stands-more = record {
-      state = takes.state ∙ ap₂ (behind after) stands.state more-is ∙ sym (fold-append after format (ended_lines bytes) more_lines)
-          ∙ ap (behind after format) (sym (ended_lines-append bytes piece));
-      begun = takes.begun ∙ ap (λ begun. begun_behind begun piece) stands.begun ∙ sym (begun-append [] bytes piece);
-      first = takes.first ∙ ap₂ (λ first begun. first && are_none (ended_behind begun piece)) stands.first stands.begun ∙ first-append bytes piece;
+    pub Represents-more : Represents after new format (bytes ++ piece)
+    Represents-more = record {
+      state = takes.state ∙ ap₂ (format_after after) represents.state more-is ∙ sym (fold-append after format (ended_lines bytes) more_lines)
+          ∙ ap (format_after after format) (sym (ended_lines-append bytes piece));
+      begun = takes.begun ∙ ap (λ begun. begun_after begun piece) represents.begun ∙ sym (begun-append [] bytes piece);
+      first = takes.first ∙ ap₂ (λ first begun. first && are_none (ended_after begun piece)) represents.first represents.begun ∙ first-append bytes piece;
     }
 
-    pub Adds-more : Adds before_it behind_it (given after gives format (ended_lines bytes)) (given after gives format (ended_lines (bytes ++ piece)))
+    pub Adds-more : Adds before_it after_it (given after gives format (ended_lines bytes)) (given after gives format (ended_lines (bytes ++ piece)))
     Adds-more = (
-      given after gives (behind after format (ended_lines bytes)) more_lines,
+      given after gives (format_after after format (ended_lines bytes)) more_lines,
       ap (given after gives format) (ended_lines-append bytes piece) ∙ given-append format (ended_lines bytes) more_lines,
-      takes.events ∙ ap₂ (λ f lines. before_it ++ given after gives f lines) stands.state more-is,
+      takes.events ∙ ap₂ (λ f lines. before_it ++ given after gives f lines) represents.state more-is,
     )
 
 -- what is left at the end of the file
-pub left-is : {F : Type 0} (after : F → List ℕ → F) (lines : Lines F) (format : F) (bytes : List ℕ) → Stands after lines format bytes → unmarked_line lines.first lines.begun.items ≡ begun_line bytes
-left-is after lines format bytes stands = ap₂ unmarked_line stands.first stands.begun ∙ sym (begun_line-is bytes)
+pub left-is : {F : Type 0} (after : F → List ℕ → F) (lines : Lines F) (format : F) (bytes : List ℕ) → Represents after lines format bytes → unmarked_line lines.first lines.begun.items ≡ begun_line bytes
+left-is after lines format bytes represents = ap₂ unmarked_line represents.first represents.begun ∙ sym (begun_line-is bytes)
 
 -- As many lines as bytes have ended at most, and each counts one at most.
-length-ended : (begun text : List ℕ) → length (ended_behind begun text) ≤ length text
+length-ended : (begun text : List ℕ) → length (ended_after begun text) ≤ length text
 length-ended begun [] = omega arith
 length-ended begun (b ∷ text) =
-    elim (cases_Bool (eqb b 10)) as (λ _. length (ended_behind begun (b ∷ text)) ≤ length (b ∷ text)) [
+    elim (cases_Bool (eqb b 10)) as (λ _. length (ended_after begun (b ∷ text)) ≤ length (b ∷ text)) [
       | inl feed ↦ rw feed (omega (arith, length-ended [] text))
       | inr other ↦ rw other (omega (arith, length-ended (begun ++ b ∷ []) text))
     ]
@@ -62,10 +62,10 @@ length-without_mark bytes =
     ]
 
 module _ {F : Type 0} (after : F → List ℕ → F) (count : F → ℕ) (counts : (format : F) (line : List ℕ) → count (after format line) ≤ count format + 1) where
-  count-behind : (format : F) (lines : List (List ℕ)) → count (behind after format lines) ≤ count format + length lines
-  count-behind format [] = omega arith
-  count-behind format (line ∷ lines) = omega (arith, count-behind (after format line) lines, counts format line)
+  count-format_after : (format : F) (lines : List (List ℕ)) → count (format_after after format lines) ≤ count format + length lines
+  count-format_after format [] = omega arith
+  count-format_after format (line ∷ lines) = omega (arith, count-format_after (after format line) lines, counts format line)
 
-  pub count-stands : (lines : Lines F) (format : F) (bytes : List ℕ) → Stands after lines format bytes → count lines.format ≤ count format + length bytes
-  count-stands lines format bytes stands =
-      omega (arith, ap count stands.state, count-behind format (ended_lines bytes), length-ended [] (without_mark bytes), length-without_mark bytes)
+  pub count-represents : (lines : Lines F) (format : F) (bytes : List ℕ) → Represents after lines format bytes → count lines.format ≤ count format + length bytes
+  count-represents lines format bytes represents =
+      omega (arith, ap count represents.state, count-format_after format (ended_lines bytes), length-ended [] (without_mark bytes), length-without_mark bytes)

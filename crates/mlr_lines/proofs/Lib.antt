@@ -1,4 +1,4 @@
 pub mod Cutting
 pub mod Feeding
-pub mod Fronting
+pub mod Prefixing
 pub mod Parting

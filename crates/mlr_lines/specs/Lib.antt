@@ -1,4 +1,4 @@
 pub mod Lines
 pub mod Steps
-pub mod Standing
-pub mod Fronts
+pub mod Represents
+pub mod Prefixes

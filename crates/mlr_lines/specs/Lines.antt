@@ -1,30 +1,31 @@
 -- The lines of a file, of which a front is known.
 use Rattle.std.specs.Prelude.{ℕ, ◌-◌, ◌==◌, if◌then◌else◌, List, [], ◌∷◌, ◌++◌, map, take, drop, length, slice_index}
 use Rattle.std.specs.Str.{bytes_eq}
+use Rattle.mlr_spec.specs.Ascii.{line_feed, carriage_return}
 
 -- a file without the byte order mark of UTF-8 at its start
 abbrev pub without_mark : List ℕ → List ℕ
 without_mark bytes = if bytes_eq (take 3 bytes) (239 ∷ 187 ∷ 191 ∷ []) then drop 3 bytes else bytes
 
 -- the lines that have ended, each without its LF, behind what has begun of the first
-abbrev pub ended_behind : List ℕ → List ℕ → List (List ℕ)
-ended_behind begun [] = []
-ended_behind begun (b ∷ bytes) = if b == 10 then begun ∷ ended_behind [] bytes else ended_behind (begun ++ b ∷ []) bytes
+abbrev pub ended_after : List ℕ → List ℕ → List (List ℕ)
+ended_after begun [] = []
+ended_after begun (b ∷ bytes) = if b == line_feed then begun ∷ ended_after [] bytes else ended_after (begun ++ b ∷ []) bytes
 
 -- the line that has begun behind them
-abbrev pub begun_behind : List ℕ → List ℕ → List ℕ
-begun_behind begun [] = begun
-begun_behind begun (b ∷ bytes) = if b == 10 then begun_behind [] bytes else begun_behind (begun ++ b ∷ []) bytes
+abbrev pub begun_after : List ℕ → List ℕ → List ℕ
+begun_after begun [] = begun
+begun_after begun (b ∷ bytes) = if b == line_feed then begun_after [] bytes else begun_after (begun ++ b ∷ []) bytes
 
 abbrev pub ended_lines : List ℕ → List (List ℕ)
-ended_lines bytes = ended_behind [] (without_mark bytes)
+ended_lines bytes = ended_after [] (without_mark bytes)
 
 abbrev pub begun_line : List ℕ → List ℕ
-begun_line bytes = begun_behind [] (without_mark bytes)
+begun_line bytes = begun_after [] (without_mark bytes)
 
 -- an ended line without the CR that stands before its LF
 abbrev pub without_return : List ℕ → List ℕ
-without_return line = if slice_index line (length line - 1) == 13 then take (length line - 1) line else line
+without_return line = if slice_index line (length line - 1) == carriage_return then take (length line - 1) line else line
 
 -- the lines that a front of a file has fixed
 abbrev pub fixed_lines : List ℕ → List (List ℕ)

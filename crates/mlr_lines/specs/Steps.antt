@@ -1,6 +1,6 @@
 -- How a text goes on behind a line that has begun.
 use Rattle.std.specs.Prelude.{◌≡◌, ℕ, ◌+◌, Bool, true, false, List, [], ◌∷◌, ◌++◌, length}
-use Rattle.mlr_lines.specs.Lines.{ended_behind, begun_behind, without_mark}
+use Rattle.mlr_lines.specs.Lines.{ended_after, begun_after, without_mark}
 
 -- whether there are no lines
 abbrev pub are_none : List (List ℕ) → Bool
@@ -19,11 +19,11 @@ unmarked_lines first (line ∷ lines) = unmarked_line first line ∷ lines
 
 -- the text goes on with the line that has begun, whatever that is
 pub record EndsNoLine (text : List ℕ) : Type 0 where
-  pub ended : (begun : List ℕ) → ended_behind begun text ≡ []
-  pub begun : (begun : List ℕ) → begun_behind begun text ≡ begun ++ text
+  pub ended : (begun : List ℕ) → ended_after begun text ≡ []
+  pub begun : (begun : List ℕ) → begun_after begun text ≡ begun ++ text
 
 -- the text ends that line, and goes on behind it
 pub record EndsLine (text line rest : List ℕ) : Type 0 where
-  pub ended : (begun : List ℕ) → ended_behind begun text ≡ (begun ++ line) ∷ ended_behind [] rest
-  pub begun : (begun : List ℕ) → begun_behind begun text ≡ begun_behind [] rest
+  pub ended : (begun : List ℕ) → ended_after begun text ≡ (begun ++ line) ∷ ended_after [] rest
+  pub begun : (begun : List ℕ) → begun_after begun text ≡ begun_after [] rest
   pub parts : length line + length rest + 1 ≡ length text

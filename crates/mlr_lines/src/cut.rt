@@ -7,7 +7,8 @@ use memchr::memchr;
 /// The first line that ends in the text, without its LF, and what stands behind the LF.
 #[inline]
 pub(crate) fn first_line(text: &[u8]) -> Option<(&[u8], &[u8])>
-    ensures { MatchOption result (EndsNoLine text.now) (λ cut. EndsLine text.now cut.0.now cut.1.now) }
+    ensures { MatchOption result (EndsNoLine text.now)
+        (λ cut. EndsLine text.now cut.0.now cut.1.now) }
 {
     let place = memchr(b'\n', text)?;
     Some((&text[..place], &text[place + 1..]))
@@ -40,7 +41,7 @@ pub fn without_return(line: &[u8]) -> &[u8]
     ensures length { length result.now ≤ length line.now }
 {
     match line {
-        [front @ .., b'\r'] => front,
+        [prefix @ .., b'\r'] => prefix,
         _ => line,
     }
 }

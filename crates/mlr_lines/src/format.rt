@@ -38,5 +38,6 @@ pub trait LineFormat {
         ensures events { OnOk result (out.new ≡ out.old ++ gives_last self.old line.now) };
 
     /// A line counts one at most.
-    ghost counts: { (format : Self) (line : List ℕ) → count (after format line) ≤ count format + 1 };
+    ghost counts: { (format : Self) (line : List ℕ)
+        → count (after format line) ≤ count format + 1 };
 }

@@ -5,5 +5,7 @@ ghost use Rattle.mlr_lines.specs.Lines.{begun_line, ended_lines, without_mark};
 /// The lines of a file and what has begun behind them are its parts between LFs, without the byte order mark. It does
 /// nothing.
 pub fn line_laws()
-    ensures { (bytes : List ℕ) → ended_lines bytes ++ begun_line bytes ∷ [] ≡ slice_split (λ b. b == 10) (without_mark bytes) }
+    ensures { (bytes : List ℕ)
+        → ended_lines bytes ++ begun_line bytes ∷ []
+        ≡ slice_split (λ b. b == 10) (without_mark bytes) }
 {}

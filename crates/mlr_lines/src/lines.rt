@@ -2,7 +2,7 @@ ghost use Rattle.std.specs.Prelude.{◌≡◌, ◌↔◌, ◌+◌, ◌^◌, ◌<
 ghost use Rattle.mlr_lines.specs.Lines.{ended_lines, begun_line};
 ghost use Rattle.mlr_lines.specs.Steps.{unmarked_line};
 ghost use Rattle.mlr_event.specs.Adding.{Adds};
-ghost use Rattle.mlr_lines.specs.Standing.{CanTake, IsBroken, IsEnded, IsOpen, Stands, StandsAtEnd, Takes, behind, given};
+ghost use Rattle.mlr_lines.specs.Represents.{CanTake, IsBroken, IsEnded, IsOpen, Represents, RepresentsAtEnd, Takes, format_after, given};
 
 use crate::LineFormat;
 use crate::cut::{first_line, unmarked};
@@ -25,7 +25,7 @@ pub struct Lines<F: LineFormat> {
 impl<F: LineFormat> Lines<F> {
     /// No bytes yet. It takes no memory.
     pub fn new(alloc: Global, format: F) -> Self
-        ensures stands { Stands F.after result format [] }
+        ensures represents { Represents F.after result format [] }
         ensures open { IsOpen result }
         ensures format { result.format ≡ format }
     {
@@ -41,9 +41,15 @@ impl<F: LineFormat> Lines<F> {
     /// for a line that has begun and for events.
     pub fn feed(&mut self, piece: &[u8], out: &mut Events) -> Result<(), NoMemory>
         requires { CanTake F.count self.old (length piece.now) }
-        ensures stands { OnOk result ((format : F) (bytes : List ℕ) → Stands F.after self.old format bytes → Stands F.after self.new format (bytes ++ piece.now)) }
-        ensures adds { OnOk result ((format : F) (bytes : List ℕ) → Stands F.after self.old format bytes → Adds out.old out.new (given F.after F.gives format (ended_lines bytes)) (given F.after F.gives format (ended_lines (bytes ++ piece.now)))) }
-        ensures room { OnOk result (F.count self.new.format ≤ F.count self.old.format + length piece.now) }
+        ensures represents { OnOk result ((format : F) (bytes : List ℕ)
+            → Represents F.after self.old format bytes
+            → Represents F.after self.new format (bytes ++ piece.now)) }
+        ensures adds { OnOk result ((format : F) (bytes : List ℕ)
+            → Represents F.after self.old format bytes
+            → Adds out.old out.new (given F.after F.gives format (ended_lines bytes))
+            (given F.after F.gives format (ended_lines (bytes ++ piece.now)))) }
+        ensures room { OnOk result (F.count self.new.format
+            ≤ F.count self.old.format + length piece.now) }
         ensures open { OnOk result (IsOpen self.new) }
         ensures err { OnErr result (IsBroken self.new) }
     {
@@ -57,9 +63,15 @@ impl<F: LineFormat> Lines<F> {
     /// Takes the end of the file, and puts the events of what is left behind `out`.
     pub fn end(&mut self, out: &mut Events) -> Result<(), NoMemory>
         requires { CanTake F.count self.old 0 }
-        ensures stands { OnOk result ((format : F) (bytes : List ℕ) → Stands F.after self.old format bytes → StandsAtEnd F.after F.after_last self.new format bytes) }
-        ensures adds { OnOk result ((format : F) (bytes : List ℕ) → Stands F.after self.old format bytes → out.new ≡ out.old ++ F.gives_last (behind F.after format (ended_lines bytes)) (begun_line bytes)) }
-        ensures step { OnOk result ((line : List ℕ) × (self.new.format ≡ F.after_last self.old.format line)) }
+        ensures represents { OnOk result ((format : F) (bytes : List ℕ)
+            → Represents F.after self.old format bytes
+            → RepresentsAtEnd F.after F.after_last self.new format bytes) }
+        ensures adds { OnOk result ((format : F) (bytes : List ℕ)
+            → Represents F.after self.old format bytes
+            → out.new ≡ out.old ++ F.gives_last (format_after F.after format (ended_lines bytes))
+            (begun_line bytes)) }
+        ensures step { OnOk result ((line : List ℕ)
+            × (self.new.format ≡ F.after_last self.old.format line)) }
         ensures ended { OnOk result (IsEnded self.new) }
         ensures err { OnErr result (IsBroken self.new) }
     {
@@ -90,14 +102,16 @@ impl<F: LineFormat> Lines<F> {
 
     fn take(&mut self, piece: &[u8], out: &mut Events) -> Result<(), NoMemory>
         requires { F.count self.old.format + length piece.now < 2 ^ 63 }
-        ensures takes { OnOk result (Takes F.after F.gives self.old self.new piece.now out.old out.new) }
-        ensures room { OnOk result (F.count self.new.format ≤ F.count self.old.format + length piece.now) }
+        ensures takes { OnOk result (Takes F.after F.gives self.old self.new piece.now out.old
+            out.new) }
+        ensures room { OnOk result (F.count self.new.format
+            ≤ F.count self.old.format + length piece.now) }
         ensures stage { self.new.stage ≡ self.old.stage }
     {
         let mut rest = piece;
-        while let Some((line, behind)) = first_line(rest) {
+        while let Some((line, format_after)) = first_line(rest) {
             self.end_line(line, out)?;
-            rest = behind;
+            rest = format_after;
         }
         self.begun.extend_from_slice(rest)?;
         Ok(())
@@ -108,8 +122,11 @@ impl<F: LineFormat> Lines<F> {
     fn end_line(&mut self, part: &[u8], out: &mut Events) -> Result<(), NoMemory>
         requires count { F.count self.old.format < 2 ^ 63 }
         requires length { length part.now < 2 ^ 63 }
-        ensures state { OnOk result (self.new.format ≡ F.after self.old.format (unmarked_line self.old.first (self.old.begun.items ++ part.now))) }
-        ensures events { OnOk result (out.new ≡ out.old ++ F.gives self.old.format (unmarked_line self.old.first (self.old.begun.items ++ part.now))) }
+        ensures state { OnOk result (self.new.format ≡ F.after self.old.format
+            (unmarked_line self.old.first (self.old.begun.items ++ part.now))) }
+        ensures events { OnOk result (out.new ≡ out.old
+            ++ F.gives self.old.format (unmarked_line self.old.first
+            (self.old.begun.items ++ part.now))) }
         ensures begun { OnOk result (self.new.begun.items ≡ []) }
         ensures first { OnOk result (self.new.first ≡ false) }
         ensures stage { self.new.stage ≡ self.old.stage }

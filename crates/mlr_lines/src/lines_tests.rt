@@ -56,11 +56,11 @@ fn shown(alloc: Global, events: &Events) -> Result<Bytes, NoMemory> {
 }
 
 /// The lines of a file that comes in two pieces.
-fn lines_of(alloc: Global, front: &[u8], rest: &[u8]) -> Result<Bytes, NoMemory> {
+fn lines_of(alloc: Global, prefix: &[u8], rest: &[u8]) -> Result<Bytes, NoMemory> {
     let mut events = Events::new(alloc);
     let mut lines = Lines::new(alloc, Echo { alloc });
-    if front.len() < 1000 && rest.len() < 1000 {
-        lines.feed(front, &mut events)?;
+    if prefix.len() < 1000 && rest.len() < 1000 {
+        lines.feed(prefix, &mut events)?;
         lines.feed(rest, &mut events)?;
         lines.end(&mut events)?;
     }

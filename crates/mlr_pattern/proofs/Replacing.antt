@@ -11,7 +11,7 @@ use Rattle.regex.specs.Bytes.{captures_span, IsCapturesOf}
 use Rattle.regex.specs.declared.bytes.captures.Captures.{Captures}
 use Rattle.regex.proofs.CapturesLemmas.{group_span-zero}
 use Rattle.regex.proofs.SearchLemmas.{leftmost_within, next_same, next_later, next_within, matches_after_none, matches_after_some, matches_after_bytes}
-use Rattle.mlr_pattern.specs.Groups.{group_text, behind_first}
+use Rattle.mlr_pattern.specs.Groups.{group_text, after_first}
 use Rattle.mlr_pattern.specs.Replacing.{filled, matches_of, replaced}
 use Rattle.mlr_pattern.specs.declared.which.Which.{Which}
 use Rattle.mlr_pattern.specs.declared.which.Which.TheVariants.{First, All}
@@ -34,19 +34,19 @@ module _ (re : Re) (text by : List ℕ) where
   gap after m = slice_range text (after - 1) m.start ++ written m
 
   -- the end of the match is known, and its text was put
-  abbrev pub Puts : List ℕ → List ℕ → ℕ → Match → ℕ → Type 0
-  Puts old new after m end = (end ≡ m.trace.end) × (new ≡ old ++ gap after m)
+  abbrev pub Appends : List ℕ → List ℕ → ℕ → Match → ℕ → Type 0
+  Appends old new after m end = (end ≡ m.trace.end) × (new ≡ old ++ gap after m)
 
   -- the same, where nothing was put for a match that ends before `after`
-  abbrev pub PutsLate : List ℕ → List ℕ → ℕ → Match → ℕ → Type 0
-  PutsLate old new after m end = (end ≡ m.trace.end) × (new ≡ (if nat_lt m.trace.end after then old else old ++ gap after m))
+  abbrev pub AppendsLate : List ℕ → List ℕ → ℕ → Match → ℕ → Type 0
+  AppendsLate old new after m end = (end ≡ m.trace.end) × (new ≡ (if nat_lt m.trace.end after then old else old ++ gap after m))
 
-  late : (old new : List ℕ) (after : ℕ) (m : Match) (end : ℕ) → after ≤ m.trace.end → PutsLate old new after m end → Puts old new after m end
+  late : (old new : List ℕ) (after : ℕ) (m : Match) (end : ℕ) → after ≤ m.trace.end → AppendsLate old new after m end → Appends old new after m end
   late old new after m end h put = (put.0, put.1 ∙ cond-false _ old (old ++ gap after m) (le-ltb m.trace.end after h))
 
   -- the first search finds no match
   pub none_next : (after at : ℕ) (old new : List ℕ) (r : Option ℕ) → at ≡ after - 1 → r ≡ None →
-      Answers r (find re text at) (PutsLate old new after) → Answers r (next_match false re text after) (Puts old new after)
+      Answers r (find re text at) (AppendsLate old new after) → Answers r (next_match false re text after) (Appends old new after)
   none_next after at old new None e is found =
       let none = ap (find re text) (sym e) ∙ found in
       next_same re text false after (λ m some. absurd (none-some m (sym none ∙ some))) ∙ none
@@ -54,22 +54,22 @@ module _ (re : Re) (text by : List ℕ) where
 
   -- it finds one behind the last match
   pub some_next : (after at end : ℕ) (old new : List ℕ) (r : Option ℕ) → at ≡ after - 1 → r ≡ Some end → after ≤ end →
-      Answers r (find re text at) (PutsLate old new after) → Answers (Some end) (next_match false re text after) (Puts old new after)
+      Answers r (find re text at) (AppendsLate old new after) → Answers (Some end) (next_match false re text after) (Appends old new after)
   some_next after at end old new None e is h found = absurd cc
   some_next after at end old new (Some x) e is h found =
       let same : x ≡ end = same_Some x end is in
       let m = found.0 in
       let some = ap (find re text) (sym e) ∙ found.1 in
-      let behind : after ≤ m.trace.end = omega (arith, h, same, found.2.0) in
-      let put = late old new after m x behind found.2 in (
+      let following : after ≤ m.trace.end = omega (arith, h, same, found.2.0) in
+      let put = late old new after m x following found.2 in (
         m,
-        next_same re text false after (λ x' some'. subst (λ (y : Match). after ≤ y.trace.end) (same_Some m x' (sym some ∙ some')) behind) ∙ some,
+        next_same re text false after (λ x' some'. subst (λ (y : Match). after ≤ y.trace.end) (same_Some m x' (sym some ∙ some')) following) ∙ some,
         (sym same ∙ put.0, put.1),
       )
 
   -- it finds an empty one at the end of the last match
   pub skipped : (after at end : ℕ) (old new : List ℕ) (r : Option ℕ) → at ≡ after - 1 → r ≡ Some end → end < after →
-      Answers r (find re text at) (PutsLate old new after) →
+      Answers r (find re text at) (AppendsLate old new after) →
       (m : Match) × (find re text (after - 1) ≡ Some m) × (m.trace.end < after) × (new ≡ old)
   skipped after at end old new None e is h found = absurd cc
   skipped after at end old new (Some x) e is h found =
@@ -84,21 +84,21 @@ module _ (re : Re) (text by : List ℕ) where
 
   -- then the second search finds the next match
   pub second_next : (after : ℕ) (old new : List ℕ) (first : Match) → find re text (after - 1) ≡ Some first → first.trace.end < after →
-      (r : Option ℕ) → Answers r (find re text after) (PutsLate old new after) →
-      Answers r (next_match false re text after) (Puts old new after)
+      (r : Option ℕ) → Answers r (find re text after) (AppendsLate old new after) →
+      Answers r (next_match false re text after) (Appends old new after)
   second_next after old new first some h r found =
       answers_as r _ _ _ _ (sym (next_later re text false after first some h))
       (λ m end is put. let at = leftmost_within re text false after m is in late old new after m end (omega (arith, at.0, at.1)) put)
       found
 
-  pub inside : (after : ℕ) (old new : List ℕ) (r : Option ℕ) → Answers r (next_match false re text after) (Puts old new after) →
+  pub inside : (after : ℕ) (old new : List ℕ) (r : Option ℕ) → Answers r (next_match false re text after) (Appends old new after) →
       IfSome r (λ end. (after ≤ end) × (end ≤ length text))
   inside after old new None found = tt
   inside after old new (Some end) found =
       let at = next_within re text false after found.0 found.1 in (omega (arith, at.0, found.2.0), omega (arith, at.1, found.2.0))
 
   -- the next match is the first of those that are left
-  pub step : (after end : ℕ) (old new whole : List ℕ) → Answers (Some end) (next_match false re text after) (Puts old new after) →
+  pub step : (after end : ℕ) (old new whole : List ℕ) → Answers (Some end) (next_match false re text after) (Appends old new after) →
       old ++ replaced_by written text (after - 1) (matches_after false re text after) ≡ whole →
       new ++ replaced_by written text (end + 1 - 1) (matches_after false re text (end + 1)) ≡ whole
   unfolding replaced_by
@@ -107,7 +107,7 @@ module _ (re : Re) (text by : List ℕ) where
       let back : end + 1 - 1 ≡ m.trace.end = omega (arith, found.2.0) in
       let rest = replaced_by written text m.trace.end (matches_after false re text (m.trace.end + 1)) in
       ap₂ (λ at more. new ++ replaced_by written text at (matches_after false re text more)) back (ap (λ n. n + 1) found.2.0)
-      ∙ ap (λ front. front ++ rest) found.2.1
+      ∙ ap (λ prefix. prefix ++ rest) found.2.1
       ∙ append_assoc old (gap after m) rest
       ∙ ap (λ ms. old ++ replaced_by written text (after - 1) ms) (sym (matches_after_some re text false after m found.1))
       ∙ e
@@ -122,13 +122,13 @@ module _ (re : Re) (text by : List ℕ) where
       old ++ replaced_by written text (0 - 1) (matches_after false re text 0) ≡ old ++ replaced text by (find_all re text)
   whole_from_start old = ap (λ ms. old ++ replaced_by written text 0 ms) (matches_after_bytes re text)
 
-  pub found_whole : (which : Which) (old new : List ℕ) (end : ℕ) → Answers (Some end) (next_match false re text 0) (Puts old new 0) →
-      new ++ behind_first which re text by end ≡ old ++ replaced text by (matches_of which re text)
+  pub found_whole : (which : Which) (old new : List ℕ) (end : ℕ) → Answers (Some end) (next_match false re text 0) (Appends old new 0) →
+      new ++ after_first which re text by end ≡ old ++ replaced text by (matches_of which re text)
   unfolding replaced_by
   found_whole First old new end found =
       let m = found.0 in
       let matches = sym (matches_after_bytes re text) ∙ matches_after_some re text false 0 m found.1 in
-      ap₂ (λ front at. front ++ drop at text) found.2.1 found.2.0
+      ap₂ (λ prefix at. prefix ++ drop at text) found.2.1 found.2.0
       ∙ append_assoc old (gap 0 m) (drop m.trace.end text)
       ∙ ap (λ ms. old ++ replaced text by (take 1 ms)) (sym matches)
   found_whole All old new end found = step 0 end old new _ found (whole_from_start old)
@@ -142,7 +142,7 @@ module _ (re : Re) (text by : List ℕ) where
   none_whole All none = ap (λ ms. replaced text by ms) (sym (matches_after_bytes re text) ∙ matches_after_none re text false 0 none)
 
   -- the first of all matches is found where the pattern matches somewhere
-  pub found_first : (old new : List ℕ) (r : Option ℕ) → Answers r (next_match false re text 0) (Puts old new 0) → is_some r ≡ is_some (find re text 0)
+  pub found_first : (old new : List ℕ) (r : Option ℕ) → Answers r (next_match false re text 0) (Appends old new 0) → is_some r ≡ is_some (find re text 0)
   found_first old new None found = sym (ap is_some (sym first_is ∙ found))
   found_first old new (Some end) found = sym (ap is_some (sym first_is ∙ found.1))
 

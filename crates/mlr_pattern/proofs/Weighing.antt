@@ -8,7 +8,7 @@ use Rattle.std.specs.Char.{is_ascii_digit, digit_value}
 use Rattle.std.specs.Int.{IsInRange}
 use Rattle.std.proofs.lemmas.Str.{digit_value_digit}
 use Rattle.std.specs.List.{take_while, prefix_len}
-use Rattle.mlr_pattern.specs.Weight.{factor, factors, number_in_front}
+use Rattle.mlr_pattern.specs.Weight.{factor, factors, number_at_start}
 
 -- a list that isn't empty is its first element before the rest
 pub whole_of_first : (xs : List ℕ) → 1 ≤ length xs → xs ≡ get_or xs 0 0 ∷ take (length xs - 1) (drop 1 xs)
@@ -55,7 +55,7 @@ either true n = omega arith
 either false n = omega arith
 
 pub factor_no_less : (b : ℕ) (text : List ℕ) → 1 ≤ factor b text
-factor_no_less b text = either ((b == 123) || (b == 44)) (number_in_front text)
+factor_no_less b text = either ((b == 123) || (b == 44)) (number_at_start text)
 
 pub no_less_than_1 : (text : List ℕ) → 1 ≤ factors text
 no_less_than_1 [] = omega arith

@@ -18,6 +18,6 @@ rest_replaced re text by after =
     replaced_by (λ m. filled (group_bytes text m) by) text (after - 1) (matches_after false re text after)
 
 -- what follows the first match, which ends here
-abbrev pub behind_first : Which → Re → List ℕ → List ℕ → ℕ → List ℕ
-behind_first First re text by end = drop end text
-behind_first All re text by end = rest_replaced re text by (end + 1)
+abbrev pub after_first : Which → Re → List ℕ → List ℕ → ℕ → List ℕ
+after_first First re text by end = drop end text
+after_first All re text by end = rest_replaced re text by (end + 1)

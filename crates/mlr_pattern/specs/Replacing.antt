@@ -1,6 +1,7 @@
 -- A text in which matches of a pattern are replaced.
 use Rattle.std.specs.Prelude.{ℕ, ◌-◌, ◌&&◌, ◌==◌, List, [], ◌∷◌, ◌++◌, take, if◌then◌else◌}
 use Rattle.std.specs.Char.{is_ascii_digit}
+use Rattle.mlr_spec.specs.Ascii.{digit_zero, backslash}
 use Rattle.regex.specs.Patterns.{Re, Match, find_all}
 use Rattle.regex.specs.Replace.{group_bytes, replaced_by}
 use Rattle.mlr_pattern.specs.declared.which.Which.{Which}
@@ -11,7 +12,7 @@ abbrev pub filled : (ℕ → List ℕ) → List ℕ → List ℕ
 filled group [] = []
 filled group (b ∷ []) = b ∷ []
 filled group (b ∷ d ∷ by) =
-    if (b == 92) && is_ascii_digit d then group (d - 48) ++ filled group by
+    if (b == backslash) && is_ascii_digit d then group (d - digit_zero) ++ filled group by
     else b ∷ filled group (d ∷ by)
 
 -- the matches that are replaced, of those that `regex` finds in a text from left to right

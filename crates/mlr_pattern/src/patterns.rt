@@ -36,7 +36,8 @@ impl Patterns {
 
     /// The pattern at this place, which counts from 0.
     pub fn at(&self, place: usize) -> Option<&Arc<Pattern>>
-        ensures { option_map (λ pattern. regex_pattern (arc_value pattern.now)) result ≡ slice_get (patterns_in self.now) place }
+        ensures { option_map (λ pattern. regex_pattern (arc_value pattern.now)) result
+            ≡ slice_get (patterns_in self.now) place }
     {
         self.patterns.get(place)
     }
@@ -44,14 +45,17 @@ impl Patterns {
     /// All patterns.
     #[inline]
     pub fn as_slice(&self) -> &[Arc<Pattern>]
-        ensures { map (λ pattern. regex_pattern (arc_value pattern)) result.now ≡ patterns_in self.now }
+        ensures { map (λ pattern. regex_pattern (arc_value pattern)) result.now
+            ≡ patterns_in self.now }
     {
         self.patterns.as_slice()
     }
 
     /// Puts a pattern last.
     pub fn push(&mut self, pattern: Arc<Pattern>) -> Result<(), NoMemory>
-        ensures { patterns_in self.new ≡ (if is_ok result then patterns_in self.old ++ regex_pattern (arc_value pattern) ∷ [] else patterns_in self.old) }
+        ensures { patterns_in self.new ≡ (if is_ok result
+            then patterns_in self.old ++ regex_pattern (arc_value pattern) ∷ []
+            else patterns_in self.old) }
     {
         self.patterns.push(pattern)?;
         Ok(())
@@ -59,7 +63,8 @@ impl Patterns {
 
     /// The patterns, as a vector.
     pub fn into_vec(self) -> Vec<Arc<Pattern>>
-        ensures { map (λ pattern. regex_pattern (arc_value pattern)) result.items ≡ patterns_in self }
+        ensures { map (λ pattern. regex_pattern (arc_value pattern)) result.items
+            ≡ patterns_in self }
     {
         self.patterns
     }

@@ -25,7 +25,8 @@ pub fn read_pattern(alloc: Global, text: &[u8], either_case: bool) -> Result<Pat
     ensures config { IfOk result (λ pattern. regex_config pattern ≡ options either_case) }
     ensures read { IfOk result IsReadFromSource }
     ensures good { IfOk result (λ _. IsPatternText either_case text.now) }
-    ensures bad { IfErr result (λ fault. fault ≡ PatternFault.Bad → ¬ (IsPatternText either_case text.now)) }
+    ensures bad { IfErr result (λ fault. fault ≡ PatternFault.Bad
+        → ¬ (IsPatternText either_case text.now)) }
     ensures large { IfErr result (λ fault. fault ≡ PatternFault.TooLarge →
         IsPatternText either_case text.now × (1000 ≤ weight text.now)) }
 {

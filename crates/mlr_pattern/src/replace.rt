@@ -3,7 +3,7 @@ ghost use Rattle.regex.specs.Patterns.{find};
 ghost use Rattle.regex.specs.Search.{Answers, next_match};
 ghost use Rattle.regex.specs.Replace.{group_bytes};
 ghost use Rattle.regex.specs.Bytes.{regex_pattern, matcher_pattern, captures_span, captures_haystack};
-ghost use Rattle.mlr_pattern.specs.Groups.{group_text, rest_replaced, behind_first};
+ghost use Rattle.mlr_pattern.specs.Groups.{group_text, rest_replaced, after_first};
 ghost use Rattle.mlr_pattern.specs.Replacing.{filled, matches_of, replaced};
 
 use crate::which::Which;
@@ -67,7 +67,8 @@ pub fn replaced_if_found(
 ) -> Result<Option<Bytes>, NoMemory>
     ensures text { IfOk result (λ made. unwrap_or made text.now
         ≡ replaced text.now by.now (matches_of which (matcher_pattern matcher.old) text.now)) }
-    ensures found { IfOk result (λ made. is_some made ≡ is_some (find (matcher_pattern matcher.old) text.now 0)) }
+    ensures found { IfOk result (λ made. is_some made
+        ≡ is_some (find (matcher_pattern matcher.old) text.now 0)) }
     ensures same { matcher_pattern matcher.new ≡ matcher_pattern matcher.old }
 {
     let mut out = Bytes::new(alloc);
@@ -86,19 +87,21 @@ fn append_if_found(
     ensures found { IfOk result (λ found. found ≡ true → out.new ≡ out.old
         ++ replaced text.now by.now (matches_of which (matcher_pattern matcher.old) text.now)) }
     ensures none { IfOk result (λ found. found ≡ false → (out.new ≡ out.old)
-        × (replaced text.now by.now (matches_of which (matcher_pattern matcher.old) text.now) ≡ text.now)) }
-    ensures matched { IfOk result (λ found. found ≡ is_some (find (matcher_pattern matcher.old) text.now 0)) }
+        × (replaced text.now by.now (matches_of which (matcher_pattern matcher.old) text.now)
+        ≡ text.now)) }
+    ensures matched { IfOk result (λ found. found ≡ is_some
+        (find (matcher_pattern matcher.old) text.now 0)) }
     ensures same { matcher_pattern matcher.new ≡ matcher_pattern matcher.old }
 {
     let Some(end) = append_next(matcher, text, by, 0, out)? else {
         return Ok(false);
     };
-    append_behind(matcher, text, by, which, end, out)?;
+    append_after(matcher, text, by, which, end, out)?;
     Ok(true)
 }
 
 /// Puts what follows the first match, which ends here.
-fn append_behind(
+fn append_after(
     matcher: &mut Matcher<'_>,
     text: &[u8],
     by: &[u8],
@@ -108,7 +111,7 @@ fn append_behind(
 ) -> Result<(), NoMemory>
     requires { end ≤ length text.now }
     ensures text { OnOk result (out.new ≡ out.old
-        ++ behind_first which (matcher_pattern matcher.old) text.now by.now end) }
+        ++ after_first which (matcher_pattern matcher.old) text.now by.now end) }
     ensures same { matcher_pattern matcher.new ≡ matcher_pattern matcher.old }
 {
     match which {
@@ -146,11 +149,14 @@ fn append_next(
     after: usize,
     out: &mut Bytes,
 ) -> Result<Option<usize>, NoMemory>
-    ensures found { IfOk result (λ end. Answers end (next_match false (matcher_pattern matcher.old) text.now after)
-        (λ m end. (end ≡ m.trace.end) × (out.new ≡ out.old
-        ++ (slice_range text.now (after - 1) m.start ++ filled (group_bytes text.now m) by.now)))) }
+    ensures found { IfOk result (λ end. Answers end
+        (next_match false (matcher_pattern matcher.old) text.now after)
+        (λ m end. (end ≡ m.trace.end) ×
+        (out.new ≡ out.old ++ (slice_range text.now (after - 1) m.start
+        ++ filled (group_bytes text.now m) by.now)))) }
     ensures none { IfOk result (λ end. IfNone end (out.new ≡ out.old)) }
-    ensures within { IfOk result (λ end. IfSome end (λ end. (after ≤ end) × (end ≤ length text.now))) }
+    ensures within { IfOk result (λ end. IfSome end
+        (λ end. (after ≤ end) × (end ≤ length text.now))) }
     ensures same { matcher_pattern matcher.new ≡ matcher_pattern matcher.old }
 {
     let end = append_found(matcher, text, by, after.saturating_sub(1), after, out)?;
@@ -170,9 +176,12 @@ fn append_found(
     out: &mut Bytes,
 ) -> Result<Option<usize>, NoMemory>
     requires { after ≤ start + 1 }
-    ensures found { IfOk result (λ end. Answers end (find (matcher_pattern matcher.old) text.now start)
-        (λ m end. (end ≡ m.trace.end) × (out.new ≡ (if nat_lt m.trace.end after then out.old else out.old
-        ++ (slice_range text.now (after - 1) m.start ++ filled (group_bytes text.now m) by.now))))) }
+    ensures found { IfOk result (λ end. Answers end
+        (find (matcher_pattern matcher.old) text.now start)
+        (λ m end. (end ≡ m.trace.end) ×
+        (out.new ≡ (if nat_lt m.trace.end after then out.old
+        else out.old ++ (slice_range text.now (after - 1) m.start
+        ++ filled (group_bytes text.now m) by.now))))) }
     ensures none { IfOk result (λ end. IfNone end (out.new ≡ out.old)) }
     ensures same { matcher_pattern matcher.new ≡ matcher_pattern matcher.old }
 {

@@ -61,7 +61,8 @@ fn plainly_replaced_if_found(
     old: &[u8],
     by: &[u8],
 ) -> Result<Option<Bytes>, NoMemory>
-    ensures { IfOk result (λ made. unwrap_or made text.now ≡ plainly_replaced old.now by.now text.now) }
+    ensures { IfOk result (λ made. unwrap_or made text.now
+        ≡ plainly_replaced old.now by.now text.now) }
 {
     if old.is_empty() {
         return Ok(None);
@@ -77,10 +78,10 @@ fn plainly_replaced_if_found(
 }
 
 /// Puts three texts, one behind the other.
-fn append_around(front: &[u8], by: &[u8], back: &[u8], out: &mut Bytes) -> Result<(), NoMemory>
-    ensures { OnOk result (out.new ≡ out.old ++ (front.now ++ by.now ++ back.now)) }
+fn append_around(prefix: &[u8], by: &[u8], back: &[u8], out: &mut Bytes) -> Result<(), NoMemory>
+    ensures { OnOk result (out.new ≡ out.old ++ (prefix.now ++ by.now ++ back.now)) }
 {
-    out.append(front)?;
+    out.append(prefix)?;
     out.append(by)?;
     out.append(back)
 }

@@ -1,5 +1,5 @@
 ghost use Rattle.std.specs.Prelude.{◌≡◌, min, nat_le};
-ghost use Rattle.mlr_pattern.specs.Weight.{weight, factor, number_in_front};
+ghost use Rattle.mlr_pattern.specs.Weight.{weight, factor, number_at_start};
 
 /// From this weight on a pattern may be refused for its size.
 const HEAVY: usize = 1000;
@@ -22,19 +22,19 @@ pub fn is_heavy(text: &[u8]) -> bool
 }
 
 /// By what a byte multiplies the weight, in front of such a text, up to 1,000.
-fn factor(byte: u8, behind: &[u8]) -> usize
-    ensures { result ≡ min 1000 (factor byte behind.now) }
+fn factor(byte: u8, following: &[u8]) -> usize
+    ensures { result ≡ min 1000 (factor byte following.now) }
 {
     if matches!(byte, b'{' | b',') {
-        number_in_front(behind).max(1)
+        number_at_start(following).max(1)
     } else {
         1
     }
 }
 
 /// The decimal number at the front of a text, up to 1,000.
-fn number_in_front(text: &[u8]) -> usize
-    ensures { result ≡ min 1000 (number_in_front text.now) }
+fn number_at_start(text: &[u8]) -> usize
+    ensures { result ≡ min 1000 (number_at_start text.now) }
 {
     let mut number = 0;
     let mut left = text;

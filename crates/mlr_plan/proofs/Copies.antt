@@ -1,6 +1,6 @@
 -- A copy of a plan that can be run can be run.
 use Rattle.std.proofs.Common.{List, [], ◌∷◌, ap, sym, ◌∙◌, subst}
-use Rattle.read_files.specs.Standing.{can_read}
+use Rattle.read_files.specs.Represents.{can_read}
 use Rattle.verbs_seq.specs.Seq.{IsSoundSeq}
 use Rattle.mlr_plan.specs.declared.plan.Plan.{Plan}
 use Rattle.mlr_plan.specs.declared.verb_spec.VerbSpec.{VerbSpec}

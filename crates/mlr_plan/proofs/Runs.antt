@@ -7,13 +7,13 @@ use Rattle.mlr_world.specs.Inputs.{Contents}
 use Rattle.mlr_world.specs.Outputs.{Held}
 use Rattle.mlr_world.specs.Taken.{Take}
 use Rattle.mlr_world.proofs.Changes.{ChangesAt-none}
-use Rattle.outlet.specs.Standing.{PutsFront}
+use Rattle.outlet.specs.Represents.{AppendsPrefix}
 use Rattle.outlet.proofs.Writing.{nothing-put}
 use Rattle.writers.specs.declared.options.WriteOpts.{WriteOpts}
 use Rattle.serial_core.specs.declared.answer.Ended.TheVariants.{NoMemory}
 use Rattle.serial_core.specs.Command.{Command, text}
 use Rattle.serial_core.specs.Run.{Run, StopsEarly}
-use Rattle.serial_core.proofs.Running.{behind-none}
+use Rattle.serial_core.proofs.Running.{following-none}
 use Rattle.mlr_plan.specs.declared.plan.Plan.{Plan}
 use Rattle.mlr_plan.specs.Plans.{IsCommandOf, IsSound, origin_of, verbs_of}
 
@@ -33,10 +33,10 @@ pub unread : (command : Command) (contents : Option Contents) (taken : Option (L
 unread command contents taken name held = record {
   given = [];
   order = tt;
-  behind = behind-none contents taken name;
+  following = following-none contents taken name;
   few = omega arith;
   says = tt;
-  leaves = ChangesAt-none Stdout (PutsFront (text command [])) (λ before. nothing-put (text command []) before before refl) held;
+  leaves = ChangesAt-none Stdout (AppendsPrefix (text command [])) (λ before. nothing-put (text command []) before before refl) held;
   early = early contents taken;
 }
   where

@@ -2,7 +2,7 @@
 use Rattle.std.specs.Prelude.{◌≡◌, true, if◌then◌else◌, List, [], ◌∷◌}
 use Rattle.mlr_event.specs.Verb.{Verb}
 use Rattle.mlr_event.specs.declared.names.InputName.{InputName}
-use Rattle.read_files.specs.Standing.{can_read}
+use Rattle.read_files.specs.Represents.{can_read}
 use Rattle.serial_core.specs.Command.{Command, Origin, files, numbers}
 use Rattle.verbs_seq.specs.Seq.{IsSoundSeq}
 use Rattle.verbs_state.specs.Streaming.{verb_of}

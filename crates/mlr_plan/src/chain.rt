@@ -1,6 +1,6 @@
 ghost use Rattle.std.specs.Prelude.{◌≡◌, ◌++◌, ◌∷◌, [], IfOk, OnOk};
 ghost use Rattle.chain_core.specs.Chain.{chain};
-ghost use Rattle.chain_core.specs.Standing.{StandsFor, verbs_in};
+ghost use Rattle.chain_core.specs.Represents.{Represents, verbs_in};
 ghost use Rattle.mlr_plan.specs.Plans.{AreSound, AreVerbs, IsVerb, verbs_of};
 
 use crate::verb::Verb;
@@ -19,8 +19,9 @@ pub fn chain_of(
 ) -> Result<Chain<Verb>, NoMemory>
     requires sound { AreSound verbs.now }
     requires empty { made.old ≡ [] }
-    ensures verbs { IfOk result (λ stages. verbs_in ⟦<Verb as Step>⟧.verb stages ≡ verbs_of verbs.now) }
-    ensures stands { IfOk result (λ stages. StandsFor ⟦<Verb as Step>⟧.verb ⟦<Verb as Step>⟧.stands [] stages) }
+    ensures verbs { IfOk result (λ stages. verbs_in ⟦<Verb as Step>⟧.verb stages
+        ≡ verbs_of verbs.now) }
+    ensures represents { IfOk result (λ stages. Represents ⟦<Verb as Step>⟧.verb ⟦<Verb as Step>⟧.represents [] stages) }
     ensures made { IfOk result (λ _. made.new ≡ chain (verbs_of verbs.now) []) }
 {
     let mut stages = Chain::new(alloc);
@@ -37,7 +38,7 @@ fn without_source(verbs: &[VerbSpec]) -> &[VerbSpec]
     ensures verbs { verbs_of result.now ≡ verbs_of verbs.now }
 {
     match verbs {
-        [VerbSpec::Seq(..), behind @ ..] => behind,
+        [VerbSpec::Seq(..), following @ ..] => following,
         _ => verbs,
     }
 }
@@ -50,10 +51,11 @@ fn push_verb(
     made: &mut Events,
 ) -> Result<(), NoMemory>
     requires verb { IsVerb spec.now }
-    requires chain { StandsFor ⟦<Verb as Step>⟧.verb ⟦<Verb as Step>⟧.stands [] stages.old }
+    requires chain { Represents ⟦<Verb as Step>⟧.verb ⟦<Verb as Step>⟧.represents [] stages.old }
     requires made { made.old ≡ chain (verbs_in ⟦<Verb as Step>⟧.verb stages.old) [] }
-    ensures verbs { OnOk result (verbs_in ⟦<Verb as Step>⟧.verb stages.new ≡ verbs_in ⟦<Verb as Step>⟧.verb stages.old ++ verbs_of (spec.now ∷ [])) }
-    ensures stands { OnOk result (StandsFor ⟦<Verb as Step>⟧.verb ⟦<Verb as Step>⟧.stands [] stages.new) }
+    ensures verbs { OnOk result (verbs_in ⟦<Verb as Step>⟧.verb stages.new
+        ≡ verbs_in ⟦<Verb as Step>⟧.verb stages.old ++ verbs_of (spec.now ∷ [])) }
+    ensures represents { OnOk result (Represents ⟦<Verb as Step>⟧.verb ⟦<Verb as Step>⟧.represents [] stages.new) }
     ensures made { OnOk result (made.new ≡ chain (verbs_in ⟦<Verb as Step>⟧.verb stages.new) []) }
 {
     let mut first = Events::new(alloc);

@@ -2,13 +2,13 @@ ghost use Rattle.std.specs.Prelude.{◌≡◌, ◌≤◌, [], true, IfOk};
 ghost use Rattle.mlr_event.specs.declared.names.InputName.{InputName};
 ghost use Rattle.mlr_event.specs.declared.names.Target.TheVariants.{Stdout};
 ghost use Rattle.mlr_world.specs.Counts.{Counted, Rose};
-ghost use Rattle.outlet.specs.Standing.{StandsFor};
-ghost use Rattle.read_files.specs.Standing.{can_read};
+ghost use Rattle.outlet.specs.Represents.{Represents};
+ghost use Rattle.read_files.specs.Represents.{can_read};
 ghost use Rattle.serial_core.specs.Answer.{has_failed};
 ghost use Rattle.serial_core.specs.Command.{Command, files, numbers};
-ghost use Rattle.serial_core.specs.Reading.{ReaderStands};
+ghost use Rattle.serial_core.specs.Reading.{ReaderRepresents};
 ghost use Rattle.serial_core.specs.Run.{Completes, HoldsAll, Run};
-ghost use Rattle.serial_core.specs.Standing.{Begins, InputCause};
+ghost use Rattle.serial_core.specs.Represents.{Begins, InputCause};
 ghost use Rattle.verbs_seq.specs.Seq.{IsSoundSeq};
 ghost use Rattle.mlr_plan.specs.Plans.{IsCommandOf, IsSound, inputs_of, origin_of};
 
@@ -35,15 +35,20 @@ pub fn run_serial<I: Inputs, O: Outputs>(
 ) -> Ended
     requires { IsSound plan.now }
     // What was taken, what the answer says of it, and what standard output is left with.
-    ensures run { (command : Command) → IsCommandOf plan.now command → Run result command (I.contents inputs.old) (I.taken inputs.old) (I.taken inputs.new) (I.open_name inputs.new) (O.held outputs.old) (O.held outputs.new) }
+    ensures run { (command : Command) → IsCommandOf plan.now command
+        → Run result command (I.contents inputs.old) (I.taken inputs.old) (I.taken inputs.new)
+        (I.open_name inputs.new) (O.held outputs.old) (O.held outputs.new) }
     ensures contents { I.contents inputs.new ≡ I.contents inputs.old }
     // Read comes only where a call on that input failed, and Written exactly where one on standard output did.
     ensures cause { InputCause result (I.faults inputs.old) (I.faults inputs.new) }
-    ensures counts { Counted (has_failed result) (O.faults outputs.old) (O.faults outputs.new) Stdout }
+    ensures counts { Counted (has_failed result) (O.faults outputs.old) (O.faults outputs.new)
+        Stdout }
     ensures shortages { O.shortages outputs.old ≤ O.shortages outputs.new }
     // Where no call fails, the answer is that of all that the inputs hold.
-    ensures completes { (command : Command) → IsCommandOf plan.now command → (holds : HoldsAll command (I.contents inputs.old) (I.taken inputs.old))
-        → ((name : InputName) → ¬ Rose (I.faults inputs.old name) (I.faults inputs.new name)) → ¬ Rose (O.faults outputs.old Stdout) (O.faults outputs.new Stdout)
+    ensures completes { (command : Command) → IsCommandOf plan.now command
+        → (holds : HoldsAll command (I.contents inputs.old) (I.taken inputs.old))
+        → ((name : InputName) → ¬ Rose (I.faults inputs.old name) (I.faults inputs.new name))
+        → ¬ Rose (O.faults outputs.old Stdout) (O.faults outputs.new Stdout)
         → Completes result command holds.whole (O.held outputs.old) (O.held outputs.new) }
 {
     match serial_of(alloc, plan) {
@@ -55,7 +60,8 @@ pub fn run_serial<I: Inputs, O: Outputs>(
 /// The run of a plan, which begins.
 fn serial_of(alloc: Global, plan: &Plan) -> Result<Serial<Verb>, NoMemory>
     requires { IsSound plan.now }
-    ensures { IfOk result (λ serial. (command : Command) → IsCommandOf plan.now command → Begins ⟦<Verb as Step>⟧.verb ⟦<Verb as Step>⟧.stands command serial) }
+    ensures { IfOk result (λ serial. (command : Command) → IsCommandOf plan.now command
+        → Begins ⟦<Verb as Step>⟧.verb ⟦<Verb as Step>⟧.represents command serial) }
 {
     let mut made = Events::new(alloc);
     let stages = chain_of(alloc, &plan.verbs, &mut made)?;
@@ -67,7 +73,7 @@ fn serial_of(alloc: Global, plan: &Plan) -> Result<Serial<Verb>, NoMemory>
 /// What a plan reads: the source, or the main inputs.
 fn reader_of(alloc: Global, plan: &Plan) -> Result<Reader, NoMemory>
     requires { IsSound plan.now }
-    ensures { IfOk result (ReaderStands (origin_of plan.now) [] []) }
+    ensures { IfOk result (ReaderRepresents (origin_of plan.now) [] []) }
 {
     match plan.verbs.first() {
         Some(VerbSpec::Seq(seq)) => numbers_of(alloc, seq),
@@ -77,7 +83,7 @@ fn reader_of(alloc: Global, plan: &Plan) -> Result<Reader, NoMemory>
 
 fn numbers_of(alloc: Global, seq: &SeqSpec) -> Result<Reader, NoMemory>
     requires { IsSoundSeq seq.now }
-    ensures { IfOk result (ReaderStands (numbers seq.now) [] []) }
+    ensures { IfOk result (ReaderRepresents (numbers seq.now) [] []) }
 {
     let seq = seq.copy(alloc)?;
     Ok(Reader::Numbers(SeqSource::new(alloc, seq)?))
@@ -85,7 +91,7 @@ fn numbers_of(alloc: Global, seq: &SeqSpec) -> Result<Reader, NoMemory>
 
 fn files_of(alloc: Global, plan: &Plan) -> Result<Reader, NoMemory>
     requires { can_read plan.now.read ≡ true }
-    ensures { IfOk result (ReaderStands (files plan.now.read (inputs_of plan.now)) [] []) }
+    ensures { IfOk result (ReaderRepresents (files plan.now.read (inputs_of plan.now)) [] []) }
 {
     let names = names_of(alloc, plan)?;
     let opts = plan.read.copy(alloc)?;
@@ -105,7 +111,8 @@ fn names_of(alloc: Global, plan: &Plan) -> Result<Vec<InputName>, NoMemory>
 /// Standard output, which the first style writes.
 fn outlet_of(alloc: Global, plan: &Plan) -> Result<Outlet, NoMemory>
     requires { IsSound plan.now }
-    ensures { IfOk result (λ outlet. (command : Command) → IsCommandOf plan.now command → StandsFor command.write [] outlet) }
+    ensures { IfOk result (λ outlet. (command : Command) → IsCommandOf plan.now command
+        → Represents command.write [] outlet) }
 {
     match plan.styles.first() {
         Some(style) => Outlet::new(alloc, style),

@@ -1,7 +1,7 @@
 //! Chains of verbs that are given three records, and plans that are run over inputs and outputs in memory.
 ghost use Rattle.std.specs.Prelude.{◌≡◌, [], true, IfOk, OnOk};
 ghost use Rattle.mlr_event.specs.Verb.{is_list};
-ghost use Rattle.read_files.specs.Standing.{can_read};
+ghost use Rattle.read_files.specs.Represents.{can_read};
 ghost use Rattle.verbs_stream.specs.Each.{IsSound as IsSoundSpec};
 ghost use Rattle.mlr_plan.specs.Plans.{AreSound, IsSound};
 

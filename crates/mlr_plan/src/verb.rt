@@ -26,8 +26,9 @@ impl Verb {
     /// The verb of these options, which was given nothing. It takes memory for a copy of them, and for what it keeps.
     pub fn new(alloc: Global, spec: &VerbSpec) -> Result<Self, NoMemory>
         requires { IsVerb spec.now }
-        ensures verb { IfOk result (λ made. verbs_of (spec.now ∷ []) ≡ ⟦<Verb as Step>⟧.verb made ∷ []) }
-        ensures stands { IfOk result (λ made. ⟦<Verb as Step>⟧.stands made []) }
+        ensures verb { IfOk result (λ made. verbs_of (spec.now ∷ [])
+            ≡ ⟦<Verb as Step>⟧.verb made ∷ []) }
+        ensures represents { IfOk result (λ made. ⟦<Verb as Step>⟧.represents made []) }
     {
         match spec {
             VerbSpec::Stream(options) => match StreamVerb::of(alloc, options) {
@@ -40,9 +41,9 @@ impl Verb {
 
     /// Puts what the verb makes before all events behind `out`. It is called once, before the first step.
     pub fn begin(&mut self, out: &mut Events) -> Result<(), NoMemory>
-        requires { ⟦<Verb as Step>⟧.stands self.old [] }
+        requires { ⟦<Verb as Step>⟧.represents self.old [] }
         ensures verb { ⟦<Verb as Step>⟧.verb self.new ≡ ⟦<Verb as Step>⟧.verb self.old }
-        ensures stands { OnOk result (⟦<Verb as Step>⟧.stands self.new []) }
+        ensures represents { OnOk result (⟦<Verb as Step>⟧.represents self.new []) }
         ensures first { OnOk result (out.new ≡ out.old ++ (⟦<Verb as Step>⟧.verb self.old).first) }
     {
         match self {
@@ -61,7 +62,7 @@ impl Step for Verb {
 
     ghost verb = { elim [ Stream s ↦ ⟦<StreamVerb as Step>⟧.verb s ] };
 
-    ghost stands = { elim [ Stream s ↦ ⟦<StreamVerb as Step>⟧.stands s ] };
+    ghost represents = { elim [ Stream s ↦ ⟦<StreamVerb as Step>⟧.represents s ] };
 
     ghost broken = { elim [ Stream s ↦ ⟦<StreamVerb as Step>⟧.broken s ] };
 

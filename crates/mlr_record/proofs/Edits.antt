@@ -144,19 +144,19 @@ module _ (old new : List ℕ) (fields : List Field) where
       let there : is_none (value_at old (pairs_of fields)) ≡ false = ap is_none (value_at-place old fields i d is.0 is.1 (is.2 d)) in
       cond-false _ _ _ (or_from (bytes_eq old new) _ apart there)
 
-last-of-front : (fields : List Field) (i : ℕ) (d : Field) → i < length fields → drop i (take (suc i) fields) ≡ get_or fields i d ∷ []
-last-of-front [] i d below = absurd (omega arith)
-last-of-front (f ∷ fields) zero d below = refl
-last-of-front (f ∷ fields) (suc i) d below = last-of-front fields i d (omega arith)
+last-of-prefix : (fields : List Field) (i : ℕ) (d : Field) → i < length fields → drop i (take (suc i) fields) ≡ get_or fields i d ∷ []
+last-of-prefix [] i d below = absurd (omega arith)
+last-of-prefix (f ∷ fields) zero d below = refl
+last-of-prefix (f ∷ fields) (suc i) d below = last-of-prefix fields i d (omega arith)
 
 -- the fields up to a place, turned round by one
-pub moved-first : (fields front : List Field) (i : ℕ) (d : Field) → i < length fields
-    → front ≡ drop (length (take (i + 1) fields) - 1) (take (i + 1) fields) ++ take (length (take (i + 1) fields) - 1) (take (i + 1) fields)
-    → front ++ drop (i + 1) fields ≡ get_or fields i d ∷ remove fields i
-moved-first fields front i d below turned =
+pub moved-first : (fields prefix : List Field) (i : ℕ) (d : Field) → i < length fields
+    → prefix ≡ drop (length (take (i + 1) fields) - 1) (take (i + 1) fields) ++ take (length (take (i + 1) fields) - 1) (take (i + 1) fields)
+    → prefix ++ drop (i + 1) fields ≡ get_or fields i d ∷ remove fields i
+moved-first fields prefix i d below turned =
     let k : length (take (i + 1) fields) - 1 ≡ i = let l = length-take (i + 1) fields in omega arith in
-    let is : front ≡ get_or fields i d ∷ take i fields =
+    let is : prefix ≡ get_or fields i d ∷ take i fields =
     turned ∙ ap (λ m. drop m (take (i + 1) fields) ++ take m (take (i + 1) fields)) k
     ∙ ap (λ m. drop i (take m fields) ++ take i (take m fields)) (add-one i)
-    ∙ ap₂ (λ x y. x ++ y) (last-of-front fields i d below) (take-take i (suc i) fields (omega arith)) in
+    ∙ ap₂ (λ x y. x ++ y) (last-of-prefix fields i d below) (take-take i (suc i) fields (omega arith)) in
     ap (λ x. x ++ drop (i + 1) fields) is ∙ ap (λ m. get_or fields i d ∷ (take i fields ++ drop m fields)) (add-one i)

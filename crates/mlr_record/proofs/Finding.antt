@@ -81,28 +81,28 @@ whole-rest text n = ap (λ k. take k (drop n text)) (sym (length-drop n text)) �
 
 -- a byte that passes behind a place, and the first one there
 module _ (test : ℕ → Bool) (text : List ℕ) (from : ℕ) where
-  passes-behind : (k : ℕ) → test (get_or (drop from text) k 0) ≡ test (get_or text (from + k) 0)
-  passes-behind k = ap test (get_or-drop from text k 0)
+  passes-following : (k : ℕ) → test (get_or (drop from text) k 0) ≡ test (get_or text (from + k) 0)
+  passes-following k = ap test (get_or-drop from text k 0)
 
-  pub IsFirstByte-behind : (place : Option ℕ) → from ≤ length text → ((j : ℕ) → j < from → Passes test text j → ⊥) → IsFirstByte test (drop from text) place
+  pub IsFirstByte-following : (place : Option ℕ) → from ≤ length text → ((j : ℕ) → j < from → Passes test text j → ⊥) → IsFirstByte test (drop from text) place
       → IsFirstByte test text (option_map (λ k. from + k) place)
-  IsFirstByte-behind place inside none h = at place h
+  IsFirstByte-following place inside none h = at place h
     where
       len_is : length (drop from text) ≡ length text - from
       len_is = length-drop from text
 
       later : (k : ℕ) → from ≤ k → Passes test text k → Passes test (drop from text) (k - from)
-      later k low passes = passes-behind (k - from) ∙ ap (λ n. test (get_or text n 0)) (let e : from + (k - from) ≡ k = omega arith in e) ∙ passes
+      later k low passes = passes-following (k - from) ∙ ap (λ n. test (get_or text n 0)) (let e : from + (k - from) ≡ k = omega arith in e) ∙ passes
 
       nowhere : (end : ℕ) → Nowhere (Passes test (drop from text)) 0 end → (k : ℕ) → k < from + end → Passes test text k → ⊥
       nowhere end h k below passes = elim (cases_Bool (ltb k from)) [
         | inl before ↦ none k (ltb-true k from before) passes
-        | inr behind ↦ let low : from ≤ k = ltb-false k from behind in h (k - from) (omega arith) (omega arith) (later k low passes)
+        | inr following ↦ let low : from ≤ k = ltb-false k from following in h (k - from) (omega arith) (omega arith) (later k low passes)
       ]
 
       at : (place : Option ℕ) → IsFirstByte test (drop from text) place → IsFirstByte test text (option_map (λ k. from + k) place)
       at None h = λ k low below passes. nowhere (length (drop from text)) h k (omega (arith, len_is)) passes
       at (Some k) h = (
         record { low = omega arith; high = let high = h.0.high in omega (arith, len_is); before = λ j low below. nowhere k h.0.before j below },
-        sym (passes-behind k) ∙ h.1,
+        sym (passes-following k) ∙ h.1,
       )

@@ -26,13 +26,13 @@ module _ (separator : List ℕ) (names : List (List ℕ)) where
         | inr other ↦ ap choice other
       ]
 
-  put_named-plain : (front pairs : List (List ℕ × Tree)) → list_any (is_unflattened_named separator names) pairs ≡ false
-      → put_named separator names (nodes_of (ends front)) pairs ≡ nodes_of (ends (put_each front pairs))
-  put_named-plain front [] plain = refl
-  put_named-plain front (p ∷ pairs) plain =
+  put_named-plain : (prefix pairs : List (List ℕ × Tree)) → list_any (is_unflattened_named separator names) pairs ≡ false
+      → put_named separator names (nodes_of (ends prefix)) pairs ≡ nodes_of (ends (put_each prefix pairs))
+  put_named-plain prefix [] plain = refl
+  put_named-plain prefix (p ∷ pairs) plain =
       let parts = or_parts (is_unflattened_named separator names p) (list_any (is_unflattened_named separator names) pairs) plain in
-      let put = put_if_named-plain p (nodes_of (ends front)) parts.0 ∙ put_in-ends p.0 p.1 front in
-      ap (λ nodes. put_named separator names nodes pairs) put ∙ put_named-plain (put_at p.0 p.1 front) pairs parts.1
+      let put = put_if_named-plain p (nodes_of (ends prefix)) parts.0 ∙ put_in-ends p.0 p.1 prefix in
+      ap (λ nodes. put_named separator names nodes pairs) put ∙ put_named-plain (put_at p.0 p.1 prefix) pairs parts.1
 
   -- a record of which unflattening changes no named field
   pub unflat_named-plain : (pairs : List (List ℕ × Tree)) → are_distinct (keys_of pairs) ≡ true → list_any (is_unflattened_named separator names) pairs ≡ false → unflat_named separator names pairs ≡ pairs

@@ -14,7 +14,7 @@ use Rattle.mlr_spec.proofs.Pairs.{put_at-none}
 use Rattle.mlr_spec.proofs.Splitting.{cases_Option, split_by-none}
 use Rattle.mlr_spec.proofs.Flattening.{put_each-distinct, drop-more, absent-before}
 use Rattle.mlr_record.specs.Nodes.{nodes_of, node_depth, list_depth}
-use Rattle.mlr_record.specs.Paths.{stands_for_collection, is_unflattened, ends, is_array}
+use Rattle.mlr_record.specs.Paths.{represents_collection, is_unflattened, ends, is_array}
 
 -- a child that is changed is the node of its name, put there again
 change_child-put : (name : List ℕ) (change : Node → Node) (pairs : List (List ℕ × Node))
@@ -68,7 +68,7 @@ keys_of-finished : (pairs : List (List ℕ × Node)) → keys_of (finished_pairs
 keys_of-finished [] = refl
 keys_of-finished (p ∷ pairs) = ap (λ keys. p.0 ∷ keys) (keys_of-finished pairs)
 
-with_collection-plain : (value : Tree) → stands_for_collection value ≡ false → with_collection value ≡ value
+with_collection-plain : (value : Tree) → represents_collection value ≡ false → with_collection value ≡ value
 with_collection-plain (string text) plain =
     let parts = or_parts (bytes_eq text (codes "{}")) (bytes_eq text (codes "[]")) plain in
     rw (parts.0, parts.1) refl
@@ -93,15 +93,15 @@ module _ (separator : List ℕ) where
   -- a field that unflattening doesn't change is put under its whole name
   pub put_in-plain : (p : List ℕ × Tree) (nodes : Nodes) → is_unflattened separator p ≡ false → put_in (path_of separator p.0) (with_collection p.1) nodes ≡ put_in (p.0 ∷ []) p.1 nodes
   put_in-plain p nodes plain =
-      let here = or_parts (is_some (place_in separator p.0)) (stands_for_collection p.1) plain in
+      let here = or_parts (is_some (place_in separator p.0)) (represents_collection p.1) plain in
       ap₂ (λ path value. put_in path value nodes) (path_of-plain p.0 here.0) (with_collection-plain p.1 here.1)
 
-  put_paths-plain : (front pairs : List (List ℕ × Tree)) → list_any (is_unflattened separator) pairs ≡ false → put_paths separator (nodes_of (ends front)) pairs ≡ nodes_of (ends (put_each front pairs))
-  put_paths-plain front [] plain = refl
-  put_paths-plain front (p ∷ pairs) plain =
+  put_paths-plain : (prefix pairs : List (List ℕ × Tree)) → list_any (is_unflattened separator) pairs ≡ false → put_paths separator (nodes_of (ends prefix)) pairs ≡ nodes_of (ends (put_each prefix pairs))
+  put_paths-plain prefix [] plain = refl
+  put_paths-plain prefix (p ∷ pairs) plain =
       let parts = or_parts (is_unflattened separator p) (list_any (is_unflattened separator) pairs) plain in
-      let put = put_in-plain p (nodes_of (ends front)) parts.0 ∙ put_in-ends p.0 p.1 front in
-      ap (λ nodes. put_paths separator nodes pairs) put ∙ put_paths-plain (put_at p.0 p.1 front) pairs parts.1
+      let put = put_in-plain p (nodes_of (ends prefix)) parts.0 ∙ put_in-ends p.0 p.1 prefix in
+      ap (λ nodes. put_paths separator nodes pairs) put ∙ put_paths-plain (put_at p.0 p.1 prefix) pairs parts.1
 
   -- a record whose names spell no paths, and without the texts of empty collections
   pub unflat-plain : (pairs : List (List ℕ × Tree)) → are_distinct (keys_of pairs) ≡ true → list_any (is_unflattened separator) pairs ≡ false → unflat separator pairs ≡ pairs
@@ -154,7 +154,7 @@ pub items-finished-more : (into after : List Tree) (nodes : List (List ℕ × No
 items-finished-more into after nodes place name node at so_far pushed =
     let left = map (λ p. p.1) (finished_pairs (nodes_of (drop (place + 1) nodes))) in
     ap (λ x. x ++ left) pushed ∙ append_assoc into (finished node ∷ []) left
-    ∙ sym (ap (λ behind. into ++ map (λ p. p.1) (finished_pairs (nodes_of behind))) (drop-more nodes place (name, node) at)) ∙ so_far
+    ∙ sym (ap (λ following. into ++ map (λ p. p.1) (finished_pairs (nodes_of following))) (drop-more nodes place (name, node) at)) ∙ so_far
 
 -- a node is no deeper than the nodes that it is among
 pub depth-node : (nodes : List (List ℕ × Node)) (place : ℕ) (entry : List ℕ × Node) → slice_get nodes place ≡ Some entry → node_depth entry.1 ≤ list_depth nodes

@@ -4,7 +4,7 @@ use Rattle.mlr_spec.specs.Tree.{Tree, absent, map_of, array_of}
 use Rattle.mlr_spec.specs.Flatten.{Node, leaf, made}
 use Rattle.mlr_value.specs.Value.{tree_of}
 use Rattle.mlr_record.specs.declared.node.Leaf.{Leaf}
-use Rattle.mlr_record.specs.declared.node.Leaf.TheVariants.{Stands, NoPairs, Nothing, NoItems}
+use Rattle.mlr_record.specs.declared.node.Leaf.TheVariants.{Represents, NoPairs, Nothing, NoItems}
 use Rattle.mlr_record.specs.declared.node.Node.{Node as NodeValue}
 use Rattle.mlr_record.specs.declared.node.Node.TheVariants.{End, Made}
 use Rattle.mlr_record.specs.declared.node.Child.{Child}
@@ -12,7 +12,7 @@ use Rattle.mlr_record.specs.Nodes.{nodes_of}
 
 -- the value at the end of a path
 abbrev pub tree_at_end : Leaf → Tree
-tree_at_end (Stands value) = tree_of value.now
+tree_at_end (Represents value) = tree_of value.now
 tree_at_end NoPairs = map_of []
 tree_at_end Nothing = absent
 tree_at_end NoItems = array_of []

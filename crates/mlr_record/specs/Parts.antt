@@ -11,8 +11,8 @@ first_part separator text = elim (place_in separator text) [
 ]
 
 -- what stands behind the first separator, if there is one
-abbrev pub behind_first : List ℕ → List ℕ → Option (List ℕ)
-behind_first separator text = option_map (λ place. drop (place + length separator) text) (place_in separator text)
+abbrev pub after_first : List ℕ → List ℕ → Option (List ℕ)
+after_first separator text = option_map (λ place. drop (place + length separator) text) (place_in separator text)
 
 -- the parts of the text that is left, if there is one
 abbrev pub parts_of_rest : List ℕ → Option (List ℕ) → List (List ℕ)

@@ -7,21 +7,21 @@ use Rattle.mlr_spec.specs.Split.{place_in}
 use Rattle.mlr_spec.specs.Flatten.{Node, leaf, are_positions_from}
 
 -- the texts that stand for an empty map and an empty array
-abbrev pub stands_for_collection : Tree → Bool
-stands_for_collection (string text) = bytes_eq text (codes "{}") || bytes_eq text (codes "[]")
-stands_for_collection absent = false
-stands_for_collection empty = false
-stands_for_collection (int n spelling) = false
-stands_for_collection (fraction text) = false
-stands_for_collection (wide text) = false
-stands_for_collection (boolean b) = false
-stands_for_collection (mapping pairs) = false
-stands_for_collection (array items) = false
-stands_for_collection error = false
+abbrev pub represents_collection : Tree → Bool
+represents_collection (string text) = bytes_eq text (codes "{}") || bytes_eq text (codes "[]")
+represents_collection absent = false
+represents_collection empty = false
+represents_collection (int n spelling) = false
+represents_collection (fraction text) = false
+represents_collection (wide text) = false
+represents_collection (boolean b) = false
+represents_collection (mapping pairs) = false
+represents_collection (array items) = false
+represents_collection error = false
 
 -- a field whose name spells a path, or whose text stands for an empty map or array
 abbrev pub is_unflattened : List ℕ → List ℕ × Tree → Bool
-is_unflattened separator pair = is_some (place_in separator pair.0) || stands_for_collection pair.1
+is_unflattened separator pair = is_some (place_in separator pair.0) || represents_collection pair.1
 
 -- each value as a node of its name
 abbrev pub ends : List (List ℕ × Tree) → List (List ℕ × Node)

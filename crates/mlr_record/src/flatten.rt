@@ -81,7 +81,8 @@ fn put_leaves(
     into: &mut Record,
     alloc: Global,
 ) -> Result<(), NoMemory>
-    ensures { OnOk result (into.new ≡ put_each into.old (leaves_of separator.now name.now (tree_of value.now))) }
+    ensures { OnOk result (into.new ≡ put_each into.old
+        (leaves_of separator.now name.now (tree_of value.now))) }
 {
     match value {
         Value::Map(map) => {
@@ -118,7 +119,8 @@ fn put_pairs(
     into: &mut Record,
     alloc: Global,
 ) -> Result<(), NoMemory>
-    ensures { OnOk result (into.new ≡ put_each into.old (leaves_of_pairs separator.now name.now (fields_of map.now))) }
+    ensures { OnOk result (into.new ≡ put_each into.old
+        (leaves_of_pairs separator.now name.now (fields_of map.now))) }
 {
     for place in 0..map.len() {
         let (key, value) = map.entry(place);
@@ -137,7 +139,8 @@ fn put_items(
     into: &mut Record,
     alloc: Global,
 ) -> Result<(), NoMemory>
-    ensures { OnOk result (into.new ≡ put_each into.old (leaves_of_items separator.now name.now 1 (trees_of array.now))) }
+    ensures { OnOk result (into.new ≡ put_each into.old
+        (leaves_of_items separator.now name.now 1 (trees_of array.now))) }
 {
     for place in 0..array.len() {
         let longer = joined_position(name, separator, place + 1, alloc)?;

@@ -8,6 +8,7 @@ ghost use Rattle.mlr_record.specs.Leaves.{IsFlattenedApart};
 /// key is in the way of another, and a text `{}` or `[]` comes back too. The function does nothing: its clause is a
 /// law of the definitions.
 pub fn flattened_again()
-    ensures { (separator : List ℕ) (nested : List (List ℕ × Tree)) → IsFlattenedApart separator nested
+    ensures { (separator : List ℕ) (nested : List (List ℕ × Tree))
+        → IsFlattenedApart separator nested
         → flat separator (unflat separator (flat separator nested)) ≡ flat separator nested }
 {}

@@ -16,7 +16,7 @@ use std::mem;
 #[derive(Drop)]
 pub enum Leaf<'a> {
     /// The value of a field.
-    Stands(&'a Value),
+    Represents(&'a Value),
     /// A map without pairs, which the text `{}` stands for.
     NoPairs,
     /// An array without items, which the text `[]` stands for.
@@ -101,7 +101,8 @@ impl<'a> Nodes<'a> {
     /// The node of this name, taken out of its place to be put there again; an absent value where there is none.
     pub fn take(&mut self, name: &[u8]) -> Node<'a>
         ensures taken { node_of result ≡ unwrap_or (value_at name.now self.old) (leaf absent) }
-        ensures left { (node : SpecNode) → put_at name.now node self.new ≡ put_at name.now node self.old }
+        ensures left { (node : SpecNode)
+            → put_at name.now node self.new ≡ put_at name.now node self.old }
     {
         match place_of(&self.children, name) {
             Some(place) => mem::replace(&mut self.children[place].node, Node::End(Leaf::Nothing)),

@@ -81,7 +81,8 @@ impl Record {
 
     /// The field at this place, which counts from 0. It takes no memory.
     pub fn at(&self, place: usize) -> Option<(&[u8], &Value)>
-        ensures { option_map (λ field. (field.0.now, tree_of field.1.now)) result ≡ slice_get self.now place }
+        ensures { option_map (λ field. (field.0.now, tree_of field.1.now)) result
+            ≡ slice_get self.now place }
     {
         let field = self.fields.get(place)?;
         Some((field.name.as_slice(), &field.value))
@@ -105,7 +106,8 @@ impl Record {
 
     /// Gives the name this value: in its place if it is there, else last.
     pub fn put(&mut self, key: &[u8], value: Value) -> Result<(), NoMemory>
-        ensures { self.new ≡ (if is_ok result then put_at key.now (tree_of value) self.old else self.old) }
+        ensures { self.new ≡ (if is_ok result then put_at key.now (tree_of value) self.old
+            else self.old) }
     {
         match place_of(&self.fields, key) {
             Some(place) => {
@@ -124,7 +126,8 @@ impl Record {
     #[inline(always)]
     pub fn push(&mut self, key: &[u8], value: Value) -> Result<(), NoMemory>
         requires { value_at key.now self.old ≡ None }
-        ensures { self.new ≡ (if is_ok result then self.old ++ (key.now, tree_of value) ∷ [] else self.old) }
+        ensures { self.new ≡ (if is_ok result then self.old ++ (key.now, tree_of value) ∷ []
+            else self.old) }
     {
         let name = Bytes::copy_of(self.alloc, key)?;
         self.fields.push(Field { name, value })?;
@@ -163,8 +166,11 @@ impl Record {
     /// Gives the field at this place another value, and answers the one that it had. It takes no memory.
     pub fn replace(&mut self, place: usize, value: Value) -> Value
         requires { place < length self.old }
-        ensures had { (pair : List ℕ × Tree) → tree_of result ≡ (slice_index_or self.old place pair).1 }
-        ensures new { (pair : List ℕ × Tree) → self.new ≡ set self.old place ((slice_index_or self.old place pair).0, tree_of value) }
+        ensures had { (pair : List ℕ × Tree)
+            → tree_of result ≡ (slice_index_or self.old place pair).1 }
+        ensures new { (pair : List ℕ × Tree)
+            → self.new ≡ set self.old place
+            ((slice_index_or self.old place pair).0, tree_of value) }
     {
         replace(&mut self.fields[place].value, value)
     }
@@ -202,7 +208,8 @@ impl Record {
 
     /// Puts a field first; a field of this name that is there is taken out.
     pub fn put_first(&mut self, key: &[u8], value: Value) -> Result<(), NoMemory>
-        ensures { self.new ≡ (if is_ok result then (key.now, tree_of value) ∷ remove_at key.now self.old else self.old) }
+        ensures { self.new ≡ (if is_ok result then (key.now, tree_of value)
+            ∷ remove_at key.now self.old else self.old) }
     {
         if let Some(place) = place_of(&self.fields, key) {
             self.fields[place].value = value;
@@ -217,7 +224,8 @@ impl Record {
     /// Renames the field `old` in its place, takes another field of the new name out, and says whether `old` was there.
     pub fn rename(&mut self, old: &[u8], new: &[u8]) -> Result<bool, NoMemory>
         ensures found { IfOk result (λ found. found ≡ is_some (value_at old.now self.old)) }
-        ensures renamed { self.new ≡ (if is_ok result then rename_at old.now new.now self.old else self.old) }
+        ensures renamed { self.new ≡ (if is_ok result then rename_at old.now new.now self.old
+            else self.old) }
     {
         let Some(place) = place_of(&self.fields, old) else {
             return Ok(false);
@@ -241,7 +249,8 @@ fn put_values(
     fields: &mut Vec<Field>,
 ) -> Result<(), NoMemory>
     requires { length names.now ≡ vec_len values }
-    ensures { OnOk result (pairs_of fields.new.items ≡ pairs_of fields.old.items ++ zip names.now (map tree_of values.items)) }
+    ensures { OnOk result (pairs_of fields.new.items
+        ≡ pairs_of fields.old.items ++ zip names.now (map tree_of values.items)) }
 {
     let mut place = 0;
     for value in values {
@@ -267,7 +276,8 @@ fn copy_fields(from: &Record, into: &mut Record, alloc: Global) -> Result<(), No
 /// Moves the field at this place before the others.
 fn move_first(fields: &mut [Field], place: usize)
     requires { place < length fields.old }
-    ensures moved { (field : Field) → fields.new ≡ slice_index_or fields.old place field ∷ remove fields.old place }
+    ensures moved { (field : Field)
+        → fields.new ≡ slice_index_or fields.old place field ∷ remove fields.old place }
     ensures len { length fields.new ≡ length fields.old }
 {
     fields[..place + 1].rotate_right(1);

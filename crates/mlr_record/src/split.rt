@@ -2,7 +2,7 @@ ghost use Rattle.std.specs.Prelude.{◌≡◌, ◌+◌, ◌<◌, ◌≤◌, ◌�
 ghost use Rattle.std.specs.Option.{option_map};
 ghost use Rattle.memchr.specs.Find.{IsFirstByte, Passes, is_byte};
 ghost use Rattle.mlr_spec.specs.Split.{place_in, split_by};
-ghost use Rattle.mlr_record.specs.Parts.{first_part, behind_first, parts_of_rest};
+ghost use Rattle.mlr_record.specs.Parts.{first_part, after_first, parts_of_rest};
 
 use memchr::{memchr, memmem};
 
@@ -56,9 +56,10 @@ fn far_place(byte: u8, text: &[u8], from: usize) -> Option<usize>
 pub fn next_part<'t>(separator: &[u8], text: &'t [u8]) -> (&'t [u8], Option<&'t [u8]>)
     requires { 0 < length separator.now }
     ensures part { result.0.now ≡ first_part separator.now text.now }
-    ensures rest { option_map (λ rest. rest.now) result.1 ≡ behind_first separator.now text.now }
+    ensures rest { option_map (λ rest. rest.now) result.1 ≡ after_first separator.now text.now }
     ensures shorter { IfSome result.1 (λ rest. length rest.now < length text.now) }
-    ensures parts { split_by separator.now text.now ≡ result.0.now ∷ parts_of_rest separator.now (option_map (λ rest. rest.now) result.1) }
+    ensures parts { split_by separator.now text.now
+        ≡ result.0.now ∷ parts_of_rest separator.now (option_map (λ rest. rest.now) result.1) }
 {
     match separator_place(separator, text) {
         None => (text, None),

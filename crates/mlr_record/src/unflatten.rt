@@ -10,7 +10,7 @@ ghost use Rattle.mlr_value.specs.Value.{tree_of};
 ghost use Rattle.mlr_record.specs.Nodes.{nodes_of};
 ghost use Rattle.mlr_record.specs.NodeView.{node_of, tree_at_end};
 ghost use Rattle.mlr_record.specs.Parts.{parts_of_rest};
-ghost use Rattle.mlr_record.specs.Paths.{ends, is_unflattened, stands_for_collection, is_array};
+ghost use Rattle.mlr_record.specs.Paths.{ends, is_unflattened, represents_collection, is_array};
 ghost use Rattle.mlr_record.specs.NamedPaths.{is_named, put_if_named, put_named, unflat_named, is_unflattened_named};
 
 use crate::Record;
@@ -43,7 +43,8 @@ impl Record {
     /// too. A record in which no field changes is left as it is without memory.
     pub fn unflatten_named(&mut self, separator: &[u8], names: &[Bytes]) -> Result<(), NoMemory>
         requires { 0 < length separator.now }
-        ensures { self.new ≡ (if is_ok result then unflat_named separator.now names.now self.old else self.old) }
+        ensures { self.new ≡ (if is_ok result then unflat_named separator.now names.now self.old
+            else self.old) }
     {
         if has_named_path(self, separator, names) {
             *self = unflattened_named(self, separator, names)?;
@@ -104,12 +105,12 @@ fn is_path(name: &[u8], value: &Value, separator: &[u8]) -> bool
     requires { 0 < length separator.now }
     ensures { result ≡ is_unflattened separator.now (name.now, tree_of value.now) }
 {
-    separator_place(separator, name).is_some() || stands_for_collection(value)
+    separator_place(separator, name).is_some() || represents_collection(value)
 }
 
 /// Whether a value is the text of an empty map or array.
-fn stands_for_collection(value: &Value) -> bool
-    ensures { result ≡ stands_for_collection (tree_of value.now) }
+fn represents_collection(value: &Value) -> bool
+    ensures { result ≡ represents_collection (tree_of value.now) }
 {
     match value {
         Value::Str(text) => matches!(text.as_slice(), b"{}" | b"[]"),
@@ -125,9 +126,9 @@ fn end_of<'a>(value: &'a Value) -> Leaf<'a>
         Value::Str(text) => match text.as_slice() {
             b"{}" => Leaf::NoPairs,
             b"[]" => Leaf::NoItems,
-            _ => Leaf::Stands(value),
+            _ => Leaf::Represents(value),
         },
-        value => Leaf::Stands(value),
+        value => Leaf::Represents(value),
     }
 }
 
@@ -185,7 +186,8 @@ fn put_named_fields<'a>(
 ) -> Result<(), NoMemory>
     requires separator { 0 < length separator.now }
     requires empty { into.old ≡ [] }
-    ensures { OnOk result (nodes_of into.new ≡ put_named separator.now names.now no_nodes from.now) }
+    ensures { OnOk result (nodes_of into.new
+        ≡ put_named separator.now names.now no_nodes from.now) }
 {
     for place in 0..from.len() {
         let (name, value) = from.entry(place);
@@ -204,12 +206,13 @@ fn put_if_named<'a>(
     alloc: Global,
 ) -> Result<(), NoMemory>
     requires { 0 < length separator.now }
-    ensures { OnOk result (nodes_of into.new ≡ put_if_named separator.now names.now (name.now, tree_of value.now) (nodes_of into.old)) }
+    ensures { OnOk result (nodes_of into.new
+        ≡ put_if_named separator.now names.now (name.now, tree_of value.now) (nodes_of into.old)) }
 {
     if is_named(name, separator, names) {
         put_field(name, value, separator, into, alloc)
     } else {
-        put_child(name, None, Leaf::Stands(value), separator, into, alloc)
+        put_child(name, None, Leaf::Represents(value), separator, into, alloc)
     }
 }
 
@@ -222,7 +225,9 @@ fn put_field<'a>(
     alloc: Global,
 ) -> Result<(), NoMemory>
     requires { 0 < length separator.now }
-    ensures { OnOk result (nodes_of into.new ≡ put_in (path_of separator.now name.now) (with_collection (tree_of value.now)) (nodes_of into.old)) }
+    ensures { OnOk result (nodes_of into.new
+        ≡ put_in (path_of separator.now name.now) (with_collection (tree_of value.now))
+        (nodes_of into.old)) }
 {
     let end = end_of(value);
     if count_parts(separator, name) <= LONGEST_PATH {
@@ -244,7 +249,10 @@ fn put_child<'a>(
     alloc: Global,
 ) -> Result<(), NoMemory>
     requires { 0 < length separator.now }
-    ensures { OnOk result (nodes_of into.new ≡ change_child name.now (put_path (parts_of_rest separator.now (option_map (λ text. text.now) rest.entry)) (tree_at_end end.entry)) (nodes_of into.old)) }
+    ensures { OnOk result (nodes_of into.new
+        ≡ change_child name.now (put_path
+        (parts_of_rest separator.now (option_map (λ text. text.now) rest.entry))
+        (tree_at_end end.entry)) (nodes_of into.old)) }
 {
     let node = into.take(name);
     let node = put_path(rest, end, node, separator, alloc)?;
@@ -261,7 +269,9 @@ fn put_path<'a>(
     alloc: Global,
 ) -> Result<Node<'a>, NoMemory>
     requires { 0 < length separator.now }
-    ensures { IfOk result (λ made. node_of made ≡ put_path (parts_of_rest separator.now (option_map (λ text. text.now) path.entry)) (tree_at_end end.entry) (node_of node.entry)) }
+    ensures { IfOk result (λ made. node_of made
+        ≡ put_path (parts_of_rest separator.now (option_map (λ text. text.now) path.entry))
+        (tree_at_end end.entry) (node_of node.entry)) }
 {
     let Some(text) = path else {
         return Ok(Node::End(end));
@@ -278,7 +288,7 @@ fn children_of<'a>(node: Node<'a>, alloc: Global) -> Result<Nodes<'a>, NoMemory>
 {
     match node {
         Node::Made(nodes) => Ok(nodes),
-        Node::End(Leaf::Stands(Value::Map(map))) => leaves_in(map, alloc),
+        Node::End(Leaf::Represents(Value::Map(map))) => leaves_in(map, alloc),
         Node::End(_) => Ok(Nodes::new(alloc)),
     }
 }
@@ -299,7 +309,7 @@ fn push_leaves<'a>(map: &'a MapValue, into: &mut Nodes<'a>) -> Result<(), NoMemo
 {
     for place in 0..map.len() {
         let (key, value) = map.entry(place);
-        into.push(key, Node::End(Leaf::Stands(value)))?;
+        into.push(key, Node::End(Leaf::Represents(value)))?;
     }
     Ok(())
 }
@@ -342,7 +352,7 @@ fn value_at_end(end: &Leaf<'_>, alloc: Global) -> Result<Value, NoMemory>
     ensures { IfOk result (λ value. tree_of value ≡ tree_at_end end.now) }
 {
     match end {
-        Leaf::Stands(value) => value.copy(alloc),
+        Leaf::Represents(value) => value.copy(alloc),
         Leaf::NoPairs => Ok(Value::Map(MapValue::new(alloc)?)),
         Leaf::NoItems => Ok(Value::Array(ArrayValue::new(alloc))),
         Leaf::Nothing => Ok(Value::Absent),

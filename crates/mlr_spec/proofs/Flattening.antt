@@ -12,31 +12,31 @@ use Rattle.mlr_spec.proofs.Splitting.{cases_Option}
 use Rattle.mlr_spec.proofs.Pairs.{put_at-none, any_key-found, are_distinct-twice}
 
 module _ {V : Type 0} where
-  pub put_each-append : (pairs front behind : List (List ℕ × V)) → put_each pairs (front ++ behind) ≡ put_each (put_each pairs front) behind
-  put_each-append pairs [] behind = refl
-  put_each-append pairs (p ∷ front) behind = put_each-append (put_at p.0 p.1 pairs) front behind
+  pub put_each-append : (pairs prefix following : List (List ℕ × V)) → put_each pairs (prefix ++ following) ≡ put_each (put_each pairs prefix) following
+  put_each-append pairs [] following = refl
+  put_each-append pairs (p ∷ prefix) following = put_each-append (put_at p.0 p.1 pairs) prefix following
 
-  keys_of-append : (front behind : List (List ℕ × V)) → keys_of (front ++ behind) ≡ keys_of front ++ keys_of behind
-  keys_of-append [] behind = refl
-  keys_of-append (p ∷ front) behind = ap (λ keys. p.0 ∷ keys) (keys_of-append front behind)
+  keys_of-append : (prefix following : List (List ℕ × V)) → keys_of (prefix ++ following) ≡ keys_of prefix ++ keys_of following
+  keys_of-append [] following = refl
+  keys_of-append (p ∷ prefix) following = ap (λ keys. p.0 ∷ keys) (keys_of-append prefix following)
 
   -- a key that stands behind others is none of them
-  pub absent-before : (front : List (List ℕ × V)) (p : List ℕ × V) (behind : List (List ℕ × V)) → are_distinct (keys_of (front ++ p ∷ behind)) ≡ true → value_at p.0 front ≡ None
-  absent-before front p behind distinct =
-      elim (cases_Option (value_at p.0 front)) as (λ _. value_at p.0 front ≡ None) [
+  pub absent-before : (prefix : List (List ℕ × V)) (p : List ℕ × V) (following : List (List ℕ × V)) → are_distinct (keys_of (prefix ++ p ∷ following)) ≡ true → value_at p.0 prefix ≡ None
+  absent-before prefix p following distinct =
+      elim (cases_Option (value_at p.0 prefix)) as (λ _. value_at p.0 prefix ≡ None) [
         | inl none ↦ none
         | inr found ↦
-            let twice = are_distinct-twice p.0 (keys_of front) (keys_of behind) (any_key-found p.0 front (ap is_none found.1)) in
-            absurd (true≢false (sym distinct ∙ ap are_distinct (keys_of-append front (p ∷ behind)) ∙ twice))
+            let twice = are_distinct-twice p.0 (keys_of prefix) (keys_of following) (any_key-found p.0 prefix (ap is_none found.1)) in
+            absurd (true≢false (sym distinct ∙ ap are_distinct (keys_of-append prefix (p ∷ following)) ∙ twice))
       ]
 
   -- pairs whose keys are distinct, put behind others, stand there as they are
-  pub put_each-distinct : (front pairs : List (List ℕ × V)) → are_distinct (keys_of (front ++ pairs)) ≡ true → put_each front pairs ≡ front ++ pairs
-  put_each-distinct front [] distinct = sym (append-nil front)
-  put_each-distinct front (p ∷ pairs) distinct =
-      let last : put_at p.0 p.1 front ≡ front ++ p ∷ [] = put_at-none p.0 p.1 front (absent-before front p pairs distinct) in
-      let together : (front ++ p ∷ []) ++ pairs ≡ front ++ p ∷ pairs = append_assoc front (p ∷ []) pairs in
-      ap (λ x. put_each x pairs) last ∙ put_each-distinct (front ++ p ∷ []) pairs (ap (λ x. are_distinct (keys_of x)) together ∙ distinct) ∙ together
+  pub put_each-distinct : (prefix pairs : List (List ℕ × V)) → are_distinct (keys_of (prefix ++ pairs)) ≡ true → put_each prefix pairs ≡ prefix ++ pairs
+  put_each-distinct prefix [] distinct = sym (append-nil prefix)
+  put_each-distinct prefix (p ∷ pairs) distinct =
+      let last : put_at p.0 p.1 prefix ≡ prefix ++ p ∷ [] = put_at-none p.0 p.1 prefix (absent-before prefix p pairs distinct) in
+      let together : (prefix ++ p ∷ []) ++ pairs ≡ prefix ++ p ∷ pairs = append_assoc prefix (p ∷ []) pairs in
+      ap (λ x. put_each x pairs) last ∙ put_each-distinct (prefix ++ p ∷ []) pairs (ap (λ x. are_distinct (keys_of x)) together ∙ distinct) ∙ together
 
   drop-next : (entries : List V) (place : ℕ) (entry : V) → slice_get entries place ≡ Some entry → drop place entries ≡ entry ∷ drop (suc place) entries
   drop-next [] place entry at = absurd (let e : None ≡ Some entry = at in cc)

@@ -72,5 +72,5 @@ module _ (separator : List ℕ) where
   split_by-some (b ∷ text) place some found =
       let shorter = length-drop (place + length separator) (b ∷ text) in
       let fits = place_in-fits (b ∷ text) place found in
-      let behind = drop (place + length separator) (b ∷ text) in
-      ap (parts_at (length text) (b ∷ text)) found ∙ ap (λ parts. take place (b ∷ text) ∷ parts) (parts_from-steps (length text) (length behind) behind some (omega arith) (omega arith))
+      let following = drop (place + length separator) (b ∷ text) in
+      ap (parts_at (length text) (b ∷ text)) found ∙ ap (λ parts. take place (b ∷ text) ∷ parts) (parts_from-steps (length text) (length following) following some (omega arith) (omega arith))

@@ -1,33 +1,34 @@
 -- The JSON that is written: the text of a value, of a record and of a list of records, after RFC 8259.
 use Rattle.std.specs.Prelude.{ℕ, ◌+◌, ◌*◌, ◌/◌, ◌%◌, ◌==◌, nat_lt, Bool, true, false, ◌&&◌, if◌then◌else◌, List, [], ◌∷◌, ◌++◌, map, replicate, codes}
 use Rattle.std.specs.List.{flat_map, list_any}
+use Rattle.mlr_spec.specs.Ascii.{backspace, tab, line_feed, form_feed, carriage_return, space, quote_mark, comma, digit_zero, left_bracket, backslash, right_bracket, letter_b, letter_f, letter_n, letter_r, letter_t, left_brace, right_brace}
 use Rattle.mlr_spec.specs.declared.json.JsonStyle.{JsonStyle}
 use Rattle.mlr_spec.specs.declared.json.JsonStyle.TheVariants.{Stacked, Single}
 use Rattle.mlr_spec.specs.Tree.{Tree, absent, empty, string, int, fraction, wide, boolean, mapping, array, error, Trees, no_trees, tree_and, Fields, no_fields, field_and, items_in, is_collection, spelled, text_of}
 
 -- a lower-case hexadecimal digit
 abbrev pub hex_digit : ℕ → ℕ
-hex_digit n = if nat_lt n 10 then 48 + n else 87 + n
+hex_digit n = if nat_lt n 10 then digit_zero + n else 87 + n
 
 -- the letter behind the backslash for a quote, a backslash and the controls b, t, n, f, r; 0 for other bytes
 abbrev pub escape_letter : ℕ → ℕ
 escape_letter b =
-    if b == 34 then 34 else (
-    if b == 92 then 92 else (
-    if b == 8 then 98 else (
-    if b == 9 then 116 else (
-    if b == 10 then 110 else (
-    if b == 12 then 102 else (
-    if b == 13 then 114 else 0))))))
+    if b == quote_mark then quote_mark else (
+    if b == backslash then backslash else (
+    if b == backspace then letter_b else (
+    if b == tab then letter_t else (
+    if b == line_feed then letter_n else (
+    if b == form_feed then letter_f else (
+    if b == carriage_return then letter_r else 0))))))
 
 -- a byte of a string: with a backslash and its letter, as `\u00` and two digits if it is another control, else as it stands
 abbrev pub escaped : ℕ → List ℕ
 escaped b =
-    if nat_lt 0 (escape_letter b) then 92 ∷ escape_letter b ∷ [] else (
-    if nat_lt b 32 then codes "\\u00" ++ hex_digit (b / 16) ∷ hex_digit (b % 16) ∷ [] else b ∷ [])
+    if nat_lt 0 (escape_letter b) then backslash ∷ escape_letter b ∷ [] else (
+    if nat_lt b space then codes "\\u00" ++ hex_digit (b / 16) ∷ hex_digit (b % 16) ∷ [] else b ∷ [])
 
 abbrev pub json_string : List ℕ → List ℕ
-json_string text = 34 ∷ flat_map escaped text ++ 34 ∷ []
+json_string text = quote_mark ∷ flat_map escaped text ++ quote_mark ∷ []
 
 -- the texts in a row, with a separator between each two
 abbrev pub joined : List ℕ → List (List ℕ) → List ℕ
@@ -37,13 +38,13 @@ joined separator (text ∷ next ∷ more) = text ++ separator ++ joined separato
 
 -- a line end, and two spaces for each level
 abbrev pub new_line : ℕ → List ℕ
-new_line level = 10 ∷ replicate (2 * level) 32
+new_line level = line_feed ∷ replicate (2 * level) space
 
 -- the texts between two brackets: each on a line of its own, one level deeper than the brackets, or all on one line
 abbrev pub bracketed : Bool → ℕ → ℕ → ℕ → List (List ℕ) → List ℕ
 bracketed on_lines level left right [] = left ∷ right ∷ []
 bracketed true level left right (text ∷ texts) =
-    left ∷ new_line (level + 1) ++ joined (44 ∷ new_line (level + 1)) (text ∷ texts) ++ new_line level ++ right ∷ []
+    left ∷ new_line (level + 1) ++ joined (comma ∷ new_line (level + 1)) (text ∷ texts) ++ new_line level ++ right ∷ []
 bracketed false level left right (text ∷ texts) = left ∷ joined (codes ", ") (text ∷ texts) ++ right ∷ []
 
 abbrev pub is_stacked : JsonStyle → Bool
@@ -61,8 +62,8 @@ abbrev mutual
   json_at style level (fraction text) = text
   json_at style level (wide text) = text
   json_at style level (boolean b) = text_of (boolean b)
-  json_at style level (mapping pairs) = bracketed (is_stacked style) level 123 125 (json_pairs style (level + 1) pairs)
-  json_at style level (array items) = bracketed (is_stacked style && list_any is_collection (items_in items)) level 91 93 (json_items style (level + 1) items)
+  json_at style level (mapping pairs) = bracketed (is_stacked style) level left_brace right_brace (json_pairs style (level + 1) pairs)
+  json_at style level (array items) = bracketed (is_stacked style && list_any is_collection (items_in items)) level left_bracket right_bracket (json_items style (level + 1) items)
   json_at style level error = text_of error
 
   pub json_pairs : JsonStyle → ℕ → Fields → List (List ℕ)
@@ -83,7 +84,7 @@ json_field style level pair = json_string pair.0 ++ codes ": " ++ json_at style 
 
 -- a record is written as the map of its fields
 abbrev pub json_record : JsonStyle → List (List ℕ × Tree) → List ℕ
-json_record style pairs = bracketed (is_stacked style) 0 123 125 (map (json_field style 1) pairs)
+json_record style pairs = bracketed (is_stacked style) 0 left_brace right_brace (map (json_field style 1) pairs)
 
 -- all records of a run, in brackets
 abbrev pub json_list : List (List (List ℕ × Tree)) → List ℕ

@@ -117,8 +117,8 @@ pub record IsJson (opts : InferOpts) (t : List ℕ) (value : Tree) : Type 0 wher
 pub record IsWrongAt (tokens : List (ℕ × Token)) (place : ℕ) : Type 0 where
   pub before : List (ℕ × Token)
   pub token : Token
-  pub behind : List (ℕ × Token)
-  pub parts : tokens ≡ before ++ (place, token) ∷ behind
+  pub following : List (ℕ × Token)
+  pub parts : tokens ≡ before ++ (place, token) ∷ following
   pub begins : Begins (bare before)
   pub shallow : IsShallow (bare before)
   pub wrong : Begins (bare before ++ token ∷ []) → ⊥
@@ -133,8 +133,8 @@ pub record IsCutAt (tokens : Tokens) (end place : ℕ) : Type 0 where
 pub record IsDeepAt (tokens : List (ℕ × Token)) (place : ℕ) : Type 0 where
   pub before : List (ℕ × Token)
   pub token : Token
-  pub behind : List (ℕ × Token)
-  pub parts : tokens ≡ before ++ (place, token) ∷ behind
+  pub following : List (ℕ × Token)
+  pub parts : tokens ≡ before ++ (place, token) ∷ following
   pub begins : Begins (bare before ++ token ∷ [])
   pub shallow : IsShallow (bare before)
   pub deep : level_of (bare before ++ token ∷ []) ≡ 101

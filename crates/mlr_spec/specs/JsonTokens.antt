@@ -5,6 +5,7 @@ use Rattle.std.specs.Str.{bytes_eq}
 use Rattle.std.specs.Char.{encode_utf8}
 use Rattle.std.specs.Char.Utf16.{is_high_surrogate, is_low_surrogate, surrogate_pair_char, lone_unit_char}
 use Rattle.std.specs.Option.{unwrap_or}
+use Rattle.mlr_spec.specs.Ascii.{backspace, tab, line_feed, form_feed, carriage_return, space, quote_mark, plus_sign, comma, minus_sign, dot, slash, digit_zero, digit_nine, colon, letter_upper_a, letter_upper_z, left_bracket, backslash, right_bracket, underscore, letter_a, letter_b, letter_f, letter_n, letter_r, letter_t, letter_u, letter_z, left_brace, right_brace}
 use Rattle.mlr_spec.specs.declared.infer.InferOpts.{InferOpts}
 use Rattle.mlr_spec.specs.declared.infer.Kind.{Kind}
 use Rattle.mlr_spec.specs.declared.infer.Kind.TheVariants.{Empty, Str, Int, Frac, Wide}
@@ -15,23 +16,23 @@ use Rattle.mlr_spec.specs.Tree.{Tree, empty, string, int, fraction, wide, boolea
 
 -- space, tab, line feed and carriage return
 abbrev pub is_blank : ℕ → Bool
-is_blank b = b == 32 || b == 9 || b == 10 || b == 13
+is_blank b = b == space || b == tab || b == line_feed || b == carriage_return
 
 -- the marks `{`, `}`, `[`, `]`, `:` and `,`
 abbrev pub mark_of : ℕ → Option JsonMark
 mark_of b =
-    if b == 123 then Some BeginMap else (
-    if b == 125 then Some EndMap else (
-    if b == 91 then Some BeginArray else (
-    if b == 93 then Some EndArray else (
-    if b == 58 then Some Colon else (
-    if b == 44 then Some Comma else None)))))
+    if b == left_brace then Some BeginMap else (
+    if b == right_brace then Some EndMap else (
+    if b == left_bracket then Some BeginArray else (
+    if b == right_bracket then Some EndArray else (
+    if b == colon then Some Colon else (
+    if b == comma then Some Comma else None)))))
 
 -- the bytes of words: letters, digits, `+`, `-`, `.` and `_`
 abbrev pub is_word_byte : ℕ → Bool
 is_word_byte b =
-    nat_le 97 b && nat_le b 122 || nat_le 65 b && nat_le b 90 || nat_le 48 b && nat_le b 57
-    || b == 43 || b == 45 || b == 46 || b == 95
+    nat_le letter_a b && nat_le b letter_z || nat_le letter_upper_a b && nat_le b letter_upper_z || nat_le digit_zero b && nat_le b digit_nine
+    || b == plus_sign || b == minus_sign || b == dot || b == underscore
 
 -- what a text is read as, byte by byte: a piece of a string is bytes that it holds, or a code unit of UTF-16 that an escape names
 pub data Piece : Type 0 where
@@ -46,62 +47,62 @@ pub data Lexeme : Type 0 where
   piece : Piece → Lexeme
 
 -- what stands at the front of a text: a lexeme of so many bytes, one that isn't whole, or a byte that can't stand there
-pub data Front : Type 0 where
-  found : Lexeme → ℕ → Front
-  begun : Front
-  bad : ℕ → Front
+pub data Scanned : Type 0 where
+  found : Lexeme → ℕ → Scanned
+  begun : Scanned
+  bad : ℕ → Scanned
 
 -- between strings
-abbrev pub front_unmarked : List ℕ → Front
-front_unmarked [] = begun
-front_unmarked (b ∷ text) =
+abbrev pub lexeme_unmarked : List ℕ → Scanned
+lexeme_unmarked [] = begun
+lexeme_unmarked (b ∷ text) =
     if is_blank b then found blank (prefix_len is_blank (b ∷ text)) else (
-    if b == 34 then found quote 1 else (
+    if b == quote_mark then found quote 1 else (
     if is_word_byte b then found (word (take_while is_word_byte (b ∷ text))) (prefix_len is_word_byte (b ∷ text)) else bad 0))
 
-unfoldable pub front_outside : List ℕ → Front
-front_outside [] = begun
-front_outside (b ∷ text) = elim (mark_of b) [ Some m ↦ found (mark m) 1 | None ↦ front_unmarked (b ∷ text) ]
+unfoldable pub lexeme_outside : List ℕ → Scanned
+lexeme_outside [] = begun
+lexeme_outside (b ∷ text) = elim (mark_of b) [ Some m ↦ found (mark m) 1 | None ↦ lexeme_unmarked (b ∷ text) ]
 
 -- the byte that a letter behind a backslash stands for; 0 for a letter that stands for none
 abbrev pub escape_of : ℕ → ℕ
 escape_of c =
-    if c == 34 || c == 92 || c == 47 then c else (
-    if c == 98 then 8 else (
-    if c == 102 then 12 else (
-    if c == 110 then 10 else (
-    if c == 114 then 13 else (
-    if c == 116 then 9 else 0)))))
+    if c == quote_mark || c == backslash || c == slash then c else (
+    if c == letter_b then backspace else (
+    if c == letter_f then form_feed else (
+    if c == letter_n then line_feed else (
+    if c == letter_r then carriage_return else (
+    if c == letter_t then tab else 0)))))
 
 abbrev pub is_hex : ℕ → Bool
 is_hex b = nat_lt (digit b) 16
 
 -- four hexadecimal digits behind `\u`, which a text may cut short
-abbrev pub front_unit : List ℕ → Front
-front_unit text =
+abbrev pub lexeme_of_unit : List ℕ → Scanned
+lexeme_of_unit text =
     if nat_le 4 (prefix_len is_hex text) then found (piece (unit (number 16 (take 4 text)))) 6 else (
     if prefix_len is_hex text == length text then begun else bad (2 + prefix_len is_hex text))
 
 -- what stands behind a backslash
-abbrev pub front_escape : List ℕ → Front
-front_escape [] = begun
-front_escape (c ∷ text) =
-    if c == 117 then front_unit text else (
+abbrev pub lexeme_of_escape : List ℕ → Scanned
+lexeme_of_escape [] = begun
+lexeme_of_escape (c ∷ text) =
+    if c == letter_u then lexeme_of_unit text else (
     if nat_lt 0 (escape_of c) then found (piece (raw (escape_of c ∷ []))) 2 else bad 1)
 
 -- a byte that a string holds as it stands
 abbrev pub is_raw : ℕ → Bool
-is_raw b = not (b == 34 || b == 92)
+is_raw b = not (b == quote_mark || b == backslash)
 
 -- within a string
-unfoldable pub front_inside : List ℕ → Front
-front_inside [] = begun
-front_inside (b ∷ text) =
-    if b == 34 then found quote 1 else (
-    if b == 92 then front_escape text else found (piece (raw (take_while is_raw (b ∷ text)))) (prefix_len is_raw (b ∷ text)))
+unfoldable pub lexeme_inside : List ℕ → Scanned
+lexeme_inside [] = begun
+lexeme_inside (b ∷ text) =
+    if b == quote_mark then found quote 1 else (
+    if b == backslash then lexeme_of_escape text else found (piece (raw (take_while is_raw (b ∷ text)))) (prefix_len is_raw (b ∷ text)))
 
-abbrev pub front_of : Bool → List ℕ → Front
-front_of inside text = if inside then front_inside text else front_outside text
+abbrev pub first_lexeme : Bool → List ℕ → Scanned
+first_lexeme inside text = if inside then lexeme_inside text else lexeme_outside text
 
 -- the lexemes of a text, each with the place of its first byte, and the place at which the text goes on with none or is
 -- cut off within a string
@@ -123,7 +124,7 @@ is_inside inside (piece p) = inside
 -- one lexeme after another, in at most n steps
 abbrev pub lexemes_from : ℕ → Bool → ℕ → List ℕ → Lexemes
 lexemes_from zero inside place text = record { lexemes = []; stop = None }
-lexemes_from (suc n) inside place text = elim (front_of inside text) [
+lexemes_from (suc n) inside place text = elim (first_lexeme inside text) [
   | found lexeme len ↦ and_lexeme place lexeme (lexemes_from n (is_inside inside lexeme) (place + len) (drop len text))
   | begun ↦ record { lexemes = []; stop = if inside then Some (place + length text) else None }
   | bad offset ↦ record { lexemes = []; stop = Some (place + offset) }

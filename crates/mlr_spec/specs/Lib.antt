@@ -1,3 +1,4 @@
+pub mod Ascii
 pub mod Tree
 pub mod TreeCode
 pub mod Infer

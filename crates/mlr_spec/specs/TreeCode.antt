@@ -43,10 +43,10 @@ number_in gnil = 0
 number_in (gnum n) = 0
 number_in (gcons a b) = num a
 
-abbrev behind_number : Gv → List ℕ
-behind_number gnil = []
-behind_number (gnum n) = []
-behind_number (gcons a b) = text_in b
+abbrev after_number : Gv → List ℕ
+after_number gnil = []
+after_number (gnum n) = []
+after_number (gcons a b) = text_in b
 
 -- the tree of a tag, of what stands behind the tag, and of the items and fields that this is a code of
 abbrev tree_at : ℕ → Gv → Trees → Fields → Tree
@@ -58,8 +58,8 @@ tree_at (suc (suc (suc (suc zero)))) g items pairs = boolean true
 tree_at (suc (suc (suc (suc (suc zero))))) g items pairs = string (text_in g)
 tree_at (suc (suc (suc (suc (suc (suc zero)))))) g items pairs = fraction (text_in g)
 tree_at (suc (suc (suc (suc (suc (suc (suc zero))))))) g items pairs = wide (text_in g)
-tree_at (suc (suc (suc (suc (suc (suc (suc (suc zero)))))))) g items pairs = int (pos (number_in g)) (behind_number g)
-tree_at (suc (suc (suc (suc (suc (suc (suc (suc (suc zero))))))))) g items pairs = int (negsuc (number_in g)) (behind_number g)
+tree_at (suc (suc (suc (suc (suc (suc (suc (suc zero)))))))) g items pairs = int (pos (number_in g)) (after_number g)
+tree_at (suc (suc (suc (suc (suc (suc (suc (suc (suc zero))))))))) g items pairs = int (negsuc (number_in g)) (after_number g)
 tree_at (suc (suc (suc (suc (suc (suc (suc (suc (suc (suc zero)))))))))) g items pairs = mapping pairs
 tree_at (suc (suc (suc (suc (suc (suc (suc (suc (suc (suc (suc n))))))))))) g items pairs = array items
 
@@ -68,16 +68,16 @@ record Read : Type 0 where
   tree : Tree
   items : Trees
   pairs : Fields
-  behind : Fields
+  following : Fields
 
 abbrev read : Gv → Read
-read gnil = record { tree = absent; items = no_trees; pairs = no_fields; behind = no_fields }
-read (gnum n) = record { tree = absent; items = no_trees; pairs = no_fields; behind = no_fields }
+read gnil = record { tree = absent; items = no_trees; pairs = no_fields; following = no_fields }
+read (gnum n) = record { tree = absent; items = no_trees; pairs = no_fields; following = no_fields }
 read (gcons a b) = record {
   tree = tree_at (num a) b (read b).items (read b).pairs;
   items = tree_and (read a).tree (read b).items;
-  pairs = field_and (text_in a) (value_in (read b).items) (read b).behind;
-  behind = (read b).pairs;
+  pairs = field_and (text_in a) (value_in (read b).items) (read b).following;
+  following = (read b).pairs;
 }
   where
     value_in : Trees → Tree

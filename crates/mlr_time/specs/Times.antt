@@ -1,6 +1,7 @@
 -- Whole seconds since 1970-01-01T00:00:00 in UTC as dates and times of day.
 use Rattle.std.specs.Prelude.{ℕ, zero, suc, ◌+◌, ◌/◌, ◌%◌, Bool, ◌&&◌, if◌then◌else◌, ℤ, pos, neg_ℤ, ◌-ℤ◌, int_le, unsigned_abs, List, [], ◌∷◌, ◌++◌, Option, Some, None}
 use Rattle.std.specs.Int.{int_div_euclid, int_rem_euclid}
+use Rattle.mlr_spec.specs.Ascii.{dash, digit_zero, colon, letter_upper_t, letter_upper_z}
 use Rattle.jiff_core.specs.Calendar.{days_from_civil}
 use Rattle.mlr_spec.specs.Tree.{Tree, string, int}
 
@@ -26,18 +27,18 @@ day_of day = unsigned_abs (day -ℤ days_from_civil (pos (year_of day)) (month_o
 
 -- a number below 100 in two digits, one below 10000 in four
 abbrev pub two_digits : ℕ → List ℕ
-two_digits n = (48 + n / 10) ∷ (48 + n % 10) ∷ []
+two_digits n = (digit_zero + n / 10) ∷ (digit_zero + n % 10) ∷ []
 
 abbrev pub four_digits : ℕ → List ℕ
 four_digits n = two_digits (n / 100) ++ two_digits (n % 100)
 
 -- `2017-07-14`
 abbrev pub date_text : ℤ → List ℕ
-date_text day = four_digits (year_of day) ++ 45 ∷ two_digits (month_of day) ++ 45 ∷ two_digits (day_of day)
+date_text day = four_digits (year_of day) ++ dash ∷ two_digits (month_of day) ++ dash ∷ two_digits (day_of day)
 
 -- `02:40:00`, of the seconds since midnight
 abbrev pub time_text : ℕ → List ℕ
-time_text s = two_digits (s / 3600) ++ 58 ∷ two_digits (s / 60 % 60) ++ 58 ∷ two_digits (s % 60)
+time_text s = two_digits (s / 3600) ++ colon ∷ two_digits (s / 60 % 60) ++ colon ∷ two_digits (s % 60)
 
 -- the day of a second, and the seconds since its midnight
 abbrev pub day_at : ℤ → ℤ
@@ -59,7 +60,7 @@ second_of _ = None
 abbrev pub sec2gmt : Tree → Tree
 sec2gmt value = elim (second_of value) [
   | None ↦ value
-  | Some n ↦ string (date_text (day_at n) ++ 84 ∷ time_text (seconds_at n) ++ 90 ∷ [])
+  | Some n ↦ string (date_text (day_at n) ++ letter_upper_t ∷ time_text (seconds_at n) ++ letter_upper_z ∷ [])
 ]
 
 -- `2017-07-14`; a value that stands for no second stays as it is

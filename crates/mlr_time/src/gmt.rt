@@ -51,7 +51,8 @@ const DAY: i64 = 86_400;
 /// The date and time of day of a second in the years 0 to 9999.
 fn gmt_text(alloc: Global, second: i64) -> Result<Bytes, NoMemory>
     requires { has_date second ≡ true }
-    ensures { IfOk result (λ text. text ≡ date_text (day_at second) ++ 84 ∷ time_text (seconds_at second) ++ 90 ∷ []) }
+    ensures { IfOk result (λ text. text ≡ date_text (day_at second)
+        ++ 84 ∷ time_text (seconds_at second) ++ 90 ∷ []) }
 {
     let mut text = date_text(alloc, second)?;
     text.append(b"T")?;

@@ -66,18 +66,18 @@ digit_is_no_e b e =
     (false_from_ne_true (b == 69) (λ h. true≢false (sym e ∙ ap is_decimal (eqb-true b 69 h))))
 
 -- behind the point
-behind_point_step : (digits : Bool) (b : ℕ) (text : List ℕ) (t : Bool) → is_point b ≡ t
+after_point_step : (digits : Bool) (b : ℕ) (text : List ℕ) (t : Bool) → is_point b ≡ t
     → mantissa_from true true text ≡ list_all is_decimal text
     → cond t false (is_decimal b && mantissa_from true true text) ≡ ((digits || true) && (is_decimal b && list_all is_decimal text))
-behind_point_step digits b text true e h =
+after_point_step digits b text true e h =
     ap (λ u. u && list_all is_decimal text) (sym (point_is_no_digit b e))
     ∙ ap (λ u. u && (is_decimal b && list_all is_decimal text)) (sym (or_true digits))
-behind_point_step digits b text false e h =
+after_point_step digits b text false e h =
     ap (λ u. is_decimal b && u) h ∙ ap (λ u. u && (is_decimal b && list_all is_decimal text)) (sym (or_true digits))
 
-behind_point : (digits : Bool) (text : List ℕ) → mantissa_from digits true text ≡ ((digits || has_bytes text) && list_all is_decimal text)
-behind_point digits [] = only_digits digits
-behind_point digits (b ∷ text) = behind_point_step digits b text (is_point b) refl (behind_point true text)
+after_point : (digits : Bool) (text : List ℕ) → mantissa_from digits true text ≡ ((digits || has_bytes text) && list_all is_decimal text)
+after_point digits [] = only_digits digits
+after_point digits (b ∷ text) = after_point_step digits b text (is_point b) refl (after_point true text)
 
 abbrev without_point : List ℕ → List ℕ
 without_point text = before_first is_point text ++ after_first is_point text
@@ -100,7 +100,7 @@ before_point_step digits b text false e h k =
 
 before_point : (digits : Bool) (text : List ℕ) → mantissa_from digits false text ≡ digits_alone digits (without_point text)
 before_point digits [] = only_digits digits
-before_point digits (b ∷ text) = before_point_step digits b text (is_point b) refl (behind_point digits text) (before_point true text)
+before_point digits (b ∷ text) = before_point_step digits b text (is_point b) refl (after_point digits text) (before_point true text)
 
 are_digits-alone : (text : List ℕ) → digits_alone false text ≡ are_digits 10 text
 are_digits-alone [] = refl
@@ -171,9 +171,9 @@ digits_first digits (b ∷ text) = digits_step digits b text (is_decimal b) refl
 fraction_from-digits : (text : List ℕ) → fraction_from (nat_lt 0 (prefix_len is_decimal text)) false (drop (prefix_len is_decimal text) text) ≡ is_fraction text
 fraction_from-digits text = digits_first false text ∙ fraction_from-whole text
 
-pub is_fraction-behind : (place : ℕ) (text : List ℕ) (fraction : Bool) → place ≡ prefix_len is_decimal text
+pub is_fraction-following : (place : ℕ) (text : List ℕ) (fraction : Bool) → place ≡ prefix_len is_decimal text
     → fraction ≡ fraction_from (nat_lt 0 place) false (take (length text - place) (drop place text)) → fraction ≡ is_fraction text
-is_fraction-behind place text fraction e f =
+is_fraction-following place text fraction e f =
     f ∙ ap (λ (rest : List ℕ). fraction_from (nat_lt 0 place) false rest) (take_rest text place)
     ∙ ap (λ n. fraction_from (nat_lt 0 n) false (drop n text)) e
     ∙ fraction_from-digits text

@@ -3,6 +3,6 @@ pub mod Fractions
 pub mod Rows
 pub mod Columns
 pub mod Depth
-mod Fronts
+mod Prefixes
 mod Overlaps
 pub mod Crosses

@@ -3,9 +3,9 @@ use Rattle.std.proofs.Common.{◌≡◌, ℕ, ◌+◌, ◌*◌, ◌-◌, ◌≤�
 use Rattle.std.proofs.lemmas.List.{take-take, take-append-drop, length-take-le, length-drop, take_rest, append_assoc}
 use Rattle.std.proofs.Math.Seq.{take-append-add}
 
-front_shorter : {A : Type 0} (xs ys t : List A) (s w l : ℕ) → s ≤ length xs → l ≤ w
+prefix_shorter : {A : Type 0} (xs ys t : List A) (s w l : ℕ) → s ≤ length xs → l ≤ w
     → take (s + w) ys ≡ take s xs ++ take w t → take (s + l) ys ≡ take s xs ++ take l t
-front_shorter xs ys t s w l long less e =
+prefix_shorter xs ys t s w l long less e =
     sym (take-take (s + l) (s + w) ys (omega arith)) ∙ ap (take (s + l)) e
     ∙ ap (λ n. take (n + l) (take s xs ++ take w t)) (sym (length-take-le s xs long))
     ∙ take-append-add (take s xs) (take w t) l ∙ ap (λ z. take s xs ++ z) (take-take l w t less)
@@ -21,9 +21,9 @@ ends_cover xs ys zs t s w long wide both first last =
     let l = length t - w in
     let end = take (length t - l) (drop l t) in
     let rest : end ≡ drop l t = take_rest t l in
-    let behind = ap length rest ∙ length-drop l t in
+    let following = ap length rest ∙ length-drop l t in
     let n : s + length t ≡ s + l + length end = omega arith in
     ap (λ k. take k zs) n ∙ last ∙ ap (λ z. take (s + l) ys ++ z) rest
     ∙ ap (λ z. z ++ drop l t)
-    (front_shorter xs ys t s w l long (omega arith) (ap (λ k. take (s + k) ys) (sym (length-take-le w t wide)) ∙ first))
+    (prefix_shorter xs ys t s w l long (omega arith) (ap (λ k. take (s + k) ys) (sym (length-take-le w t wide)) ∙ first))
     ∙ append_assoc (take s xs) (take l t) (drop l t) ∙ ap (λ z. take s xs ++ z) (take-append-drop l t)

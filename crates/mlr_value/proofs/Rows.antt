@@ -4,10 +4,10 @@ use Rattle.std.proofs.lemmas.Bool.{le-ltb, lt-leb, ltb-false, or_parts, eqb-true
 use Rattle.std.specs.List.{list_all}
 use Rattle.mlr_spec.specs.declared.infer.Kind.{Kind}
 use Rattle.mlr_spec.specs.declared.infer.Kind.TheVariants.{Str, Int, Frac, Wide}
-use Rattle.mlr_spec.specs.Infer.{digit, are_digits, number, base_of, base_of_letter, is_octal, is_fraction, is_e, whole, word, kind_behind_sign}
+use Rattle.mlr_spec.specs.Infer.{digit, are_digits, number, base_of, base_of_letter, is_octal, is_fraction, is_e, whole, word, kind_after_sign}
 use Rattle.mlr_value.specs.declared.inference.Magnitude.{Magnitude}
 use Rattle.mlr_value.specs.declared.inference.Magnitude.TheVariants.{Word, Large}
-use Rattle.mlr_value.specs.Magnitude.{bounded, magnitude_of, octal_of, whole_of, word_of, behind_digits}
+use Rattle.mlr_value.specs.Magnitude.{bounded, magnitude_of, octal_of, whole_of, word_of, after_digits}
 use Rattle.mlr_value.specs.Fraction.{may_be_number, fraction_from}
 use Rattle.mlr_value.proofs.Fractions.{fraction_from-whole}
 
@@ -52,14 +52,14 @@ rows_at negative false true based fraction m n k = sym (whole_of-bounded negativ
 rows_at negative false false true fraction m n k = sym (word_of-bounded negative k)
 rows_at negative false false false fraction m n k = refl
 
-kind_by_rows : (octal negative : Bool) (text : List ℕ) → kind_behind_sign octal negative text ≡ first_row negative (octal_of octal text) (magnitude_of 10 text) (magnitude_of (base_of text) (drop 2 text)) (is_fraction text)
-unfolding kind_behind_sign octal_of magnitude_of
+kind_by_rows : (octal negative : Bool) (text : List ℕ) → kind_after_sign octal negative text ≡ first_row negative (octal_of octal text) (magnitude_of 10 text) (magnitude_of (base_of text) (drop 2 text)) (is_fraction text)
+unfolding kind_after_sign octal_of magnitude_of
 kind_by_rows octal negative text =
     rows_at negative (octal && is_octal text) (are_digits 10 text) (are_digits (base_of text) (drop 2 text)) (is_fraction text) (number 8 text) (number 10 text) (number (base_of text) (drop 2 text))
 
 pub kind_from_rows : (octal negative : Bool) (text : List ℕ) (in_octal in_decimal in_base : Option Magnitude) (fraction : Bool)
     → in_octal ≡ octal_of octal text → in_decimal ≡ magnitude_of 10 text → in_base ≡ magnitude_of (base_of text) (drop 2 text) → fraction ≡ is_fraction text
-    → first_row negative in_octal in_decimal in_base fraction ≡ kind_behind_sign octal negative text
+    → first_row negative in_octal in_decimal in_base fraction ≡ kind_after_sign octal negative text
 kind_from_rows octal negative text in_octal in_decimal in_base fraction o d b f =
     ap (λ (r : Option Magnitude). first_row negative r in_decimal in_base fraction) o
     ∙ ap (λ (r : Option Magnitude). first_row negative (octal_of octal text) r in_base fraction) d
@@ -68,17 +68,17 @@ kind_from_rows octal negative text in_octal in_decimal in_base fraction o d b f 
     ∙ sym (kind_by_rows octal negative text)
 
 -- the rows behind that of the decimal digits
-pub first_row-behind_digits : (negative : Bool) (text : List ℕ) → behind_digits negative text ≡ first_row negative None None (magnitude_of (base_of text) (drop 2 text)) (is_fraction text)
-unfolding behind_digits magnitude_of
-first_row-behind_digits negative text =
+pub first_row-after_digits : (negative : Bool) (text : List ℕ) → after_digits negative text ≡ first_row negative None None (magnitude_of (base_of text) (drop 2 text)) (is_fraction text)
+unfolding after_digits magnitude_of
+first_row-after_digits negative text =
     rows_at negative false false (are_digits (base_of text) (drop 2 text)) (is_fraction text) 0 0 (number (base_of text) (drop 2 text))
 
-pub behind_digits-from : (negative : Bool) (text : List ℕ) (in_base : Option Magnitude) (fraction : Bool)
-    → in_base ≡ magnitude_of (base_of text) (drop 2 text) → fraction ≡ is_fraction text → first_row negative None None in_base fraction ≡ behind_digits negative text
-behind_digits-from negative text in_base fraction b f =
+pub after_digits-from : (negative : Bool) (text : List ℕ) (in_base : Option Magnitude) (fraction : Bool)
+    → in_base ≡ magnitude_of (base_of text) (drop 2 text) → fraction ≡ is_fraction text → first_row negative None None in_base fraction ≡ after_digits negative text
+after_digits-from negative text in_base fraction b f =
     ap (λ (r : Option Magnitude). first_row negative None None r fraction) b
     ∙ ap (λ (r : Bool). first_row negative None None (magnitude_of (base_of text) (drop 2 text)) r) f
-    ∙ sym (first_row-behind_digits negative text)
+    ∙ sym (first_row-after_digits negative text)
 
 pub has_first : (text : List ℕ) → may_be_number text ≡ true → 0 < length text
 has_first [] e = absurd (true≢false (sym e))
@@ -121,8 +121,8 @@ rows_that_fail negative false false true fraction m n k p q r s = absurd (true�
 rows_that_fail negative false false false true m n k p q r s = absurd (true≢false s)
 rows_that_fail negative false false false false m n k p q r s = refl
 
-pub no_number : (octal negative : Bool) (text : List ℕ) → may_be_number text ≡ false → kind_behind_sign octal negative text ≡ Str
-unfolding kind_behind_sign
+pub no_number : (octal negative : Bool) (text : List ℕ) → may_be_number text ≡ false → kind_after_sign octal negative text ≡ Str
+unfolding kind_after_sign
 no_number octal negative [] e =
     rows_that_fail negative (octal && false) false false false 0 0 (number 0 []) (and_right octal false refl) refl refl refl
 no_number octal negative (b ∷ text) e =

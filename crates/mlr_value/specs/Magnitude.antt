@@ -48,7 +48,7 @@ word_of negative (Word n) = word negative n
 word_of negative Large = Wide
 
 -- the rows for a text that isn't all digits
-unfoldable pub behind_digits : Bool → List ℕ → Kind
-behind_digits negative text =
+unfoldable pub after_digits : Bool → List ℕ → Kind
+after_digits negative text =
     if is_based text then word negative (number (base_of text) (drop 2 text)) else (
     if is_fraction text then Frac else Str)

@@ -189,7 +189,8 @@ impl Bytes {
 #[inline(always)]
 fn append_short(heap: &mut Vec<u8>, text: &[u8]) -> Result<(), NoMemory>
     requires { length text.now ≤ CAPACITY }
-    ensures { heap.new.items ≡ (if is_ok result then heap.old.items ++ text.now else heap.old.items) }
+    ensures { heap.new.items ≡ (if is_ok result then heap.old.items ++ text.now
+        else heap.old.items) }
 {
     let len = heap.len();
     let mut cells = [0; CAPACITY];

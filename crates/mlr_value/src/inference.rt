@@ -1,8 +1,8 @@
 ghost use Rattle.std.specs.Prelude.{◌≡◌, ℕ, ◌+◌, ◌*◌, ◌^◌, ◌<◌, ◌≤◌, SomeIff, false, length, drop, nat_lt};
 ghost use Rattle.std.specs.List.{list_all, prefix_len};
-ghost use Rattle.mlr_spec.specs.Infer.{digit, are_digits, is_negative, unsigned, base_of, kind_behind_sign, kind_of};
+ghost use Rattle.mlr_spec.specs.Infer.{digit, are_digits, is_negative, unsigned, base_of, kind_after_sign, kind_of};
 ghost use Rattle.mlr_value.specs.Fraction.{fraction_from, may_be_number};
-ghost use Rattle.mlr_value.specs.Magnitude.{behind_digits, digits_of, large_from, magnitude_of, octal_of, whole_of, word_of};
+ghost use Rattle.mlr_value.specs.Magnitude.{after_digits, digits_of, large_from, magnitude_of, octal_of, whole_of, word_of};
 
 use mlr_spec::{InferOpts, Kind};
 
@@ -37,12 +37,12 @@ pub fn infer(text: &[u8], opts: InferOpts) -> Kind
     if opts.none {
         return Kind::Str;
     }
-    behind_sign(opts.octal, is_negative(text), unsigned(text))
+    after_sign(opts.octal, is_negative(text), unsigned(text))
 }
 
 /// The rows in their order. Most texts that are no numbers end at the first test.
-fn behind_sign(octal: bool, negative: bool, text: &[u8]) -> Kind
-    ensures { result ≡ kind_behind_sign octal negative text.now }
+fn after_sign(octal: bool, negative: bool, text: &[u8]) -> Kind
+    ensures { result ≡ kind_after_sign octal negative text.now }
 {
     if !may_be_number(text) {
         return Kind::Str;
@@ -52,15 +52,15 @@ fn behind_sign(octal: bool, negative: bool, text: &[u8]) -> Kind
     }
     match digits_of(10, text) {
         Digits::Whole(magnitude) => whole(negative, magnitude),
-        Digits::Until(place) => behind_digits(negative, text, place),
+        Digits::Until(place) => after_digits(negative, text, place),
     }
 }
 
 /// The rows for a text whose decimal digits end at `place`. A fraction is read on from there.
-fn behind_digits(negative: bool, text: &[u8], place: usize) -> Kind
+fn after_digits(negative: bool, text: &[u8], place: usize) -> Kind
     requires place { place ≡ prefix_len (λ b. nat_lt (digit b) 10) text.now }
     requires within { place ≤ length text.now }
-    ensures { result ≡ behind_digits negative text.now }
+    ensures { result ≡ after_digits negative text.now }
 {
     if let Some(magnitude) = based(text) {
         return word(negative, magnitude);
@@ -82,7 +82,7 @@ fn unsigned(text: &[u8]) -> &[u8]
     ensures { result.now ≡ unsigned text.now }
 {
     match text {
-        [b'+' | b'-', behind @ ..] => behind,
+        [b'+' | b'-', following @ ..] => following,
         _ => text,
     }
 }

@@ -40,7 +40,8 @@ impl Model for MapValue {
 
     ghost view = { λ m. pairs_in m.columns.value.keys.keys m.columns.value.values.items };
 
-    ghost invariant = { λ m. length m.columns.value.keys.keys ≡ length m.columns.value.values.items };
+    ghost invariant = { λ m. length m.columns.value.keys.keys
+        ≡ length m.columns.value.values.items };
 
     ghost size = { pairs_depth };
 
@@ -83,7 +84,8 @@ impl MapValue {
 
     /// The pair at this place, which counts from 0. It takes no memory.
     pub fn at(&self, place: usize) -> Option<(&[u8], &Value)>
-        ensures { option_map (λ pair. (pair.0.now, tree_of pair.1.now)) result ≡ slice_get self.now place }
+        ensures { option_map (λ pair. (pair.0.now, tree_of pair.1.now)) result
+            ≡ slice_get self.now place }
     {
         if place < self.len() {
             Some(self.entry(place))
@@ -103,7 +105,8 @@ impl MapValue {
 
     /// Gives the key this value: in its place if it is there, else last.
     pub fn put(&mut self, key: &[u8], value: Value) -> Result<(), NoMemory>
-        ensures { self.new ≡ (if is_ok result then put_at key.now (tree_of value) self.old else self.old) }
+        ensures { self.new ≡ (if is_ok result then put_at key.now (tree_of value) self.old
+            else self.old) }
     {
         match self.columns.keys.get_index_of(key) {
             Some(place) => {
@@ -128,7 +131,8 @@ impl MapValue {
     /// Puts a pair last whose key isn't there.
     fn push(&mut self, key: &[u8], value: Value) -> Result<(), NoMemory>
         requires { value_at key.now self.old ≡ None }
-        ensures { self.new ≡ (if is_ok result then self.old ++ (key.now, tree_of value) ∷ [] else self.old) }
+        ensures { self.new ≡ (if is_ok result then self.old ++ (key.now, tree_of value) ∷ []
+            else self.old) }
     {
         push_pair(&mut self.columns, self.alloc, key, value)?;
         Ok(())
@@ -175,9 +179,13 @@ fn copy_pairs(from: &MapValue, into: &mut MapValue, alloc: Global) -> Result<(),
 /// Puts a key and a value last, where the key isn't there.
 fn push_pair(columns: &mut Columns, alloc: Global, key: &[u8], value: Value) -> Result<(), NoMemory>
     requires lengths { length columns.old.keys.keys ≡ length columns.old.values.items }
-    requires absent { value_at key.now (pairs_in columns.old.keys.keys columns.old.values.items) ≡ None }
+    requires absent { value_at key.now (pairs_in columns.old.keys.keys columns.old.values.items)
+        ≡ None }
     ensures lengths { length columns.new.keys.keys ≡ length columns.new.values.items }
-    ensures pairs { pairs_in columns.new.keys.keys columns.new.values.items ≡ (if is_ok result then pairs_in columns.old.keys.keys columns.old.values.items ++ (key.now, tree_of value) ∷ [] else pairs_in columns.old.keys.keys columns.old.values.items) }
+    ensures pairs { pairs_in columns.new.keys.keys columns.new.values.items
+        ≡ (if is_ok result then pairs_in columns.old.keys.keys columns.old.values.items
+        ++ (key.now, tree_of value) ∷ []
+        else pairs_in columns.old.keys.keys columns.old.values.items) }
 {
     let name = Vec::from_slice(alloc, key)?;
     columns.values.reserve(1)?;
@@ -190,8 +198,10 @@ fn push_pair(columns: &mut Columns, alloc: Global, key: &[u8], value: Value) -> 
 fn remove_pair(columns: &mut Columns, key: &[u8]) -> bool
     requires { length columns.old.keys.keys ≡ length columns.old.values.items }
     ensures lengths { length columns.new.keys.keys ≡ length columns.new.values.items }
-    ensures found { result ≡ is_some (value_at key.now (pairs_in columns.old.keys.keys columns.old.values.items)) }
-    ensures pairs { pairs_in columns.new.keys.keys columns.new.values.items ≡ remove_at key.now (pairs_in columns.old.keys.keys columns.old.values.items) }
+    ensures found { result ≡ is_some (value_at key.now
+        (pairs_in columns.old.keys.keys columns.old.values.items)) }
+    ensures pairs { pairs_in columns.new.keys.keys columns.new.values.items
+        ≡ remove_at key.now (pairs_in columns.old.keys.keys columns.old.values.items) }
 {
     let Some((place, _)) = columns.keys.shift_remove_full(key) else {
         return false;

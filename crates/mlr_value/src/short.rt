@@ -103,7 +103,7 @@ impl Short {
 #[inline(always)]
 pub(crate) fn put(cells: &mut [u8; CAPACITY], start: usize, text: &[u8])
     requires { start + length text.now ≤ CAPACITY }
-    ensures front { take (start + length text.now) cells.new ≡ take start cells.old ++ text.now }
+    ensures prefix { take (start + length text.now) cells.new ≡ take start cells.old ++ text.now }
     ensures len { length cells.new ≡ CAPACITY }
 {
     let len = text.len();
@@ -124,7 +124,7 @@ fn put_ends<const W: usize>(cells: &mut [u8; CAPACITY], start: usize, text: &[u8
     requires fits { start + length text.now ≤ CAPACITY }
     requires wide { W ≤ length text.now }
     requires covered { length text.now ≤ 2 * W }
-    ensures front { take (start + length text.now) cells.new ≡ take start cells.old ++ text.now }
+    ensures prefix { take (start + length text.now) cells.new ≡ take start cells.old ++ text.now }
     ensures len { length cells.new ≡ CAPACITY }
 {
     let last = text.len() - W;
@@ -136,7 +136,7 @@ fn put_ends<const W: usize>(cells: &mut [u8; CAPACITY], start: usize, text: &[u8
 #[inline(always)]
 fn put_part(cells: &mut [u8; CAPACITY], start: usize, part: &[u8])
     requires { start + length part.now ≤ CAPACITY }
-    ensures front { take (start + length part.now) cells.new ≡ take start cells.old ++ part.now }
+    ensures prefix { take (start + length part.now) cells.new ≡ take start cells.old ++ part.now }
     ensures len { length cells.new ≡ CAPACITY }
 {
     cells[..start + part.len()][start..].copy_from_slice(part);

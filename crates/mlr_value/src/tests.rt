@@ -261,7 +261,7 @@ fn texts_are_compared_and_joined_at_each_length(rt: HostRuntime) -> Result<(), F
 }
 
 struct Collection {
-    puts: &'static [(&'static str, bool)],
+    appends: &'static [(&'static str, bool)],
     removed: &'static str,
     was_there: bool,
     /// The map without the key, and the array.
@@ -271,31 +271,31 @@ struct Collection {
 /// Booleans that are put into a map and an array, and a key that is then removed from the map.
 const COLLECTIONS: [Collection; 5] = [
     Collection {
-        puts: &[("a", false), ("", true), ("b", true), ("a", true)],
+        appends: &[("a", false), ("", true), ("b", true), ("a", true)],
         removed: "ab",
         was_there: false,
         shown: "a=true,=true,b=true,end false=false,true=true,true=true,true=true,end",
     },
     Collection {
-        puts: &[("a", true), ("b", false)],
+        appends: &[("a", true), ("b", false)],
         removed: "",
         was_there: false,
         shown: "a=true,b=false,end true=true,false=false,end",
     },
     Collection {
-        puts: &[("a", false), ("b", false), ("c", true)],
+        appends: &[("a", false), ("b", false), ("c", true)],
         removed: "d",
         was_there: false,
         shown: "a=false,b=false,c=true,end false=false,false=false,true=true,end",
     },
     Collection {
-        puts: &[("a", false), ("b", false), ("c", true)],
+        appends: &[("a", false), ("b", false), ("c", true)],
         removed: "b",
         was_there: true,
         shown: "a=false,c=true,end false=false,false=false,true=true,end",
     },
     Collection {
-        puts: &[("x", true)],
+        appends: &[("x", true)],
         removed: "y",
         was_there: false,
         shown: "x=true,end true=true,end",
@@ -342,7 +342,7 @@ fn collections_and_their_copies_have_the_same_items(rt: HostRuntime) -> Result<(
     for (i, row) in COLLECTIONS.iter().enumerate() {
         let mut map = MapValue::new(alloc)?;
         let mut array = ArrayValue::new(alloc);
-        for (key, b) in row.puts {
+        for (key, b) in row.appends {
             map.put(key.as_bytes(), Value::Bool(*b))?;
             array.push(Value::Bool(*b))?;
         }

@@ -91,7 +91,8 @@ pub fn from_data(alloc: Global, text: &[u8], opts: InferOpts) -> Result<Value, N
 /// Puts what the value prints behind `into`.
 #[inline(always)]
 pub fn append_text(value: &Value, into: &mut Bytes) -> Result<(), NoMemory>
-    ensures { into.new ≡ (if is_ok result then into.old ++ text_of (tree_of value.now) else into.old) }
+    ensures { into.new ≡ (if is_ok result then into.old ++ text_of (tree_of value.now)
+        else into.old) }
 {
     match value {
         Value::Absent | Value::Empty | Value::Map(_) | Value::Array(_) => Ok(()),

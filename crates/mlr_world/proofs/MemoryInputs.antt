@@ -85,7 +85,7 @@ module _ (contents : List (InputName × List ℕ)) (readings : List Reading) (i 
         no_more = h.1;
         appended = h.3;
         entry = ap Some (grew n);
-        front = rw last_of (drop n (drop reading.count text), fine.first ∙ ap Some (whole n text));
+        prefix = rw last_of (drop n (drop reading.count text), fine.first ∙ ap Some (whole n text));
       }
 
   pub ended_at : (max : ℕ) (into into' : List ℕ) → TakesFrom max (text_at contents reading.place) reading.count got.End into into'

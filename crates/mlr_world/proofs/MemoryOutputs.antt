@@ -81,5 +81,5 @@ changes-push entries entries' target mode absent pushed =
     }
 
 -- a failed write of a front
-pub writes_front : (bytes : List ℕ) (n : ℕ) (before now : List ℕ) → now ≡ before ++ take n bytes → WriteLeaves bytes done.Failed (Some before) (Some now)
-writes_front bytes n before now e = (take n bytes, (drop n bytes, sym (take-append-drop n bytes)), ap Some e)
+pub writes_prefix : (bytes : List ℕ) (n : ℕ) (before now : List ℕ) → now ≡ before ++ take n bytes → WriteLeaves bytes done.Failed (Some before) (Some now)
+writes_prefix bytes n before now e = (take n bytes, (drop n bytes, sym (take-append-drop n bytes)), ap Some e)

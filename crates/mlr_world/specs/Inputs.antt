@@ -59,7 +59,7 @@ pub record TakesPiece (max n : ℕ) (contents : Option Contents) (before now : O
   pub no_more : n ≤ max
   pub appended : into' ≡ into ++ piece
   pub entry : now ≡ option_map (with_last (grown piece)) before
-  pub front : Continues contents before piece
+  pub prefix : Continues contents before piece
 
 -- A read met the end, exactly where all was taken.
 pub record MeetsEnd (contents : Option Contents) (before now : Option (List Take)) (into into' : List ℕ) : Type 0 where

@@ -50,13 +50,13 @@ abbrev pub with_bytes : List ℕ → Option (List ℕ) → Option (List ℕ)
 with_bytes bytes before = option_map (λ held. held ++ bytes) before
 
 -- these bytes begin with that front
-abbrev pub IsFrontOf : List ℕ → List ℕ → Type 0
-IsFrontOf bytes front = (rest : List ℕ) × (bytes ≡ front ++ rest)
+abbrev pub IsPrefixOf : List ℕ → List ℕ → Type 0
+IsPrefixOf bytes prefix = (rest : List ℕ) × (bytes ≡ prefix ++ rest)
 
 -- a target after a write
 abbrev pub WriteLeaves : List ℕ → Done → Option (List ℕ) → Option (List ℕ) → Type 0
 WriteLeaves bytes done.Ok before now = (now ≡ with_bytes bytes before) × IsSome before
-WriteLeaves bytes done.Failed before now = (front : List ℕ) × IsFrontOf bytes front × (now ≡ with_bytes front before)
+WriteLeaves bytes done.Failed before now = (prefix : List ℕ) × IsPrefixOf bytes prefix × (now ≡ with_bytes prefix before)
 WriteLeaves bytes done.NoMemory before now = now ≡ before
 
 -- a target after a close

@@ -54,7 +54,8 @@ pub trait Inputs {
         ensures open { open_name self.new ≡ opens name.now result }
         ensures taken { OpenTakes name.now result (taken self.old) (taken self.new) }
         ensures finds { OpenFinds name.now result (contents self.old) }
-        ensures counts { Counted (open_failed result) (faults self.old) (faults self.new) name.now };
+        ensures counts { Counted (open_failed result) (faults self.old) (faults self.new)
+            name.now };
 
     /// Takes up to `max` bytes of the open input, and puts them behind `into`. After the end it answers End again.
     fn read(&mut self, max: usize, into: &mut Bytes) -> Got
@@ -62,6 +63,8 @@ pub trait Inputs {
         requires some { 1 ≤ max }
         ensures contents { contents self.new ≡ contents self.old }
         ensures open { open_name self.new ≡ open_name self.old }
-        ensures taken { ReadTakes max result (contents self.old) (taken self.old) (taken self.new) into.old into.new }
-        ensures counts { IfSome (open_name self.old) (Counted (read_failed result) (faults self.old) (faults self.new)) };
+        ensures taken { ReadTakes max result (contents self.old) (taken self.old) (taken self.new)
+            into.old into.new }
+        ensures counts { IfSome (open_name self.old) (Counted (read_failed result) (faults self.old)
+            (faults self.new)) };
 }

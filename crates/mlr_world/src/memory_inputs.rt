@@ -80,7 +80,14 @@ impl Model for MemInputs {
 
     ghost use Rattle.mlr_world.specs.MemoryInputs.{takes_of, open_of, IsReading};
 
-    ghost view = { λ s. record { contents = s.contents.items; taken = takes_of s.contents.items s.readings.items; open_name = open_of s.is_open (takes_of s.contents.items s.readings.items); faults = s.faults } };
+    ghost view = { λ s. record {
+      contents = s.contents.items;
+      taken = takes_of s.contents.items
+          s.readings.items;
+      open_name = open_of s.is_open
+          (takes_of s.contents.items s.readings.items);
+      faults = s.faults;
+    } };
 
     ghost invariant = { λ s. All (IsReading s.contents.items) s.readings.items };
 }
@@ -195,7 +202,8 @@ pub(crate) fn take_on(
     ensures taken { ReadTakes max result (Some (contents_at contents.now))
         (Some (takes_of contents.now readings.old.items))
         (Some (takes_of contents.now readings.new.items)) into.old into.new }
-    ensures most { TakesMost (min max size) result (Some (contents_at contents.now)) (Some (takes_of contents.now readings.new.items)) }
+    ensures most { TakesMost (min max size) result (Some (contents_at contents.now))
+        (Some (takes_of contents.now readings.new.items)) }
     ensures no_fault { read_failed result ≡ false }
     ensures fine { All (IsReading contents.now) readings.new.items }
     ensures name { last_name (takes_of contents.now readings.new.items)

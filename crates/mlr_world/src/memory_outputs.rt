@@ -56,7 +56,12 @@ impl Model for MemOutputs {
 
     ghost use Rattle.mlr_world.specs.MemoryOutputs.{pairs_of};
 
-    ghost view = { λ s. record { held = pairs_of s.held.items; faults = s.faults; shortages = s.shortages } };
+    ghost view = { λ s. record {
+      held = pairs_of s.held.items;
+      faults = s.faults;
+      shortages =
+          s.shortages;
+    } };
 }
 
 impl MemOutputs {
@@ -127,7 +132,8 @@ impl Outputs for MemOutputs {
 
 /// Counts a fault or a shortage, where that is how the call ended.
 fn count(done: Done, faults: &mut u64, shortages: &mut u64)
-    ensures faults { (target : Target) → Counted (call_failed done) (λ _. faults.old) (λ _. faults.new) target }
+    ensures faults { (target : Target)
+        → Counted (call_failed done) (λ _. faults.old) (λ _. faults.new) target }
     ensures shortages { Tallied (lacked_memory done) shortages.old shortages.new }
 {
     match done {
@@ -165,7 +171,8 @@ pub(crate) fn first_texts(
     given: &[(Target, Bytes)],
     room: usize,
 ) -> Result<Vec<HeldText>, NoMemory>
-    ensures { IfOk result (λ made. pairs_of made.items ≡ given.now ++ (Target.Stdout, []) ∷ (Target.Stderr, []) ∷ []) }
+    ensures { IfOk result (λ made. pairs_of made.items
+        ≡ given.now ++ (Target.Stdout, []) ∷ (Target.Stderr, []) ∷ []) }
 {
     let mut entries = given_texts(alloc, given, room)?;
     add_text(alloc, &mut entries, Target::Stdout, b"", room)?;
@@ -201,8 +208,9 @@ fn add_text(
     bytes: &[u8],
     room: usize,
 ) -> Result<(), NoMemory>
-    ensures { pairs_of entries.new.items
-        ≡ (if is_ok result then pairs_of entries.old.items ++ (target, bytes.now) ∷ [] else pairs_of entries.old.items) }
+    ensures { pairs_of entries.new.items ≡ (if is_ok result
+        then pairs_of entries.old.items ++ (target, bytes.now) ∷ []
+        else pairs_of entries.old.items) }
 {
     let mut text = Vec::with_capacity(alloc, room.saturating_add(bytes.len()))?;
     text.extend_from_slice(bytes)?;
@@ -218,7 +226,8 @@ fn open_text(
     room: usize,
     fails: bool,
 ) -> Done
-    ensures { ChangesOnly target.now (OpenLeaves mode result) (held_at (pairs_of entries.old.items)) (held_at (pairs_of entries.new.items)) }
+    ensures { ChangesOnly target.now (OpenLeaves mode result) (held_at (pairs_of entries.old.items))
+        (held_at (pairs_of entries.new.items)) }
 {
     if fails {
         return Done::Failed;
@@ -234,7 +243,8 @@ pub(crate) fn open_entry(
     mode: Mode,
     room: usize,
 ) -> Done
-    ensures bytes { ChangesOnly target.now (OpenLeaves mode result) (held_at (pairs_of entries.old.items)) (held_at (pairs_of entries.new.items)) }
+    ensures bytes { ChangesOnly target.now (OpenLeaves mode result)
+        (held_at (pairs_of entries.old.items)) (held_at (pairs_of entries.new.items)) }
     ensures no_fault { call_failed result ≡ false }
 {
     match place_of(entries, target) {
@@ -255,8 +265,8 @@ fn add_copy(
     target: &Target,
     room: usize,
 ) -> Result<(), NoMemory>
-    ensures { pairs_of entries.new.items
-        ≡ (if is_ok result then pairs_of entries.old.items ++ (target.now, []) ∷ [] else pairs_of entries.old.items) }
+    ensures { pairs_of entries.new.items ≡ (if is_ok result
+        then pairs_of entries.old.items ++ (target.now, []) ∷ [] else pairs_of entries.old.items) }
 {
     add_text(alloc, entries, target.copy(alloc)?, b"", room)
 }
@@ -277,16 +287,17 @@ fn write_text(
     room: &mut usize,
     fails: bool,
 ) -> Done
-    ensures { ChangesOnly target.now (WriteLeaves bytes.now result) (held_at (pairs_of entries.old.items)) (held_at (pairs_of entries.new.items)) }
+    ensures { ChangesOnly target.now (WriteLeaves bytes.now result)
+        (held_at (pairs_of entries.old.items)) (held_at (pairs_of entries.new.items)) }
 {
     match place_of(entries, target) {
-        Some(place) => append_front(&mut entries[place].text, bytes, room, fails),
+        Some(place) => append_prefix(&mut entries[place].text, bytes, room, fails),
         None => Done::Failed,
     }
 }
 
 /// Appends the bytes as far as the room goes, and only half of them in a call that is to fail.
-fn append_front(text: &mut Vec<u8>, bytes: &[u8], room: &mut usize, fails: bool) -> Done
+fn append_prefix(text: &mut Vec<u8>, bytes: &[u8], room: &mut usize, fails: bool) -> Done
     ensures { WriteLeaves bytes.now result (Some text.old.items) (Some text.new.items) }
 {
     let wanted = if fails { bytes.len() / 2 } else { bytes.len() };
@@ -349,7 +360,7 @@ mod tests {
     }
 
     #[test]
-    fn leaves_a_front(rt: HostRuntime) -> Result<(), NoMemory> {
+    fn leaves_a_prefix(rt: HostRuntime) -> Result<(), NoMemory> {
         let mut outputs = outputs(rt.alloc(), 7, &[2])?;
         assert_eq!(rt; outputs.write(&Target::Stdout, b"ab"), Done::Ok);
         assert_eq!(rt; outputs.write(&Target::Stdout, b"cdef"), Done::Failed);

@@ -32,19 +32,24 @@ pub trait Outputs {
 
     /// Opens a target: empty with Fresh, with what it held with Append. A target that wasn't there is empty.
     fn open(&mut self, target: &Target, mode: Mode) -> Done
-        ensures bytes { ChangesAt target.now (OpenLeaves mode result) (held self.old) (held self.new) }
-        ensures counts { Counted (call_failed result) (faults self.old) (faults self.new) target.now }
+        ensures bytes { ChangesAt target.now (OpenLeaves mode result) (held self.old)
+            (held self.new) }
+        ensures counts { Counted (call_failed result) (faults self.old) (faults self.new)
+            target.now }
         ensures memory { Tallied (lacked_memory result) (shortages self.old) (shortages self.new) };
 
     /// Puts the bytes behind what the target holds. One that failed put a front of them there.
     fn write(&mut self, target: &Target, bytes: &[u8]) -> Done
-        ensures bytes { ChangesAt target.now (WriteLeaves bytes.now result) (held self.old) (held self.new) }
-        ensures counts { Counted (call_failed result) (faults self.old) (faults self.new) target.now }
+        ensures bytes { ChangesAt target.now (WriteLeaves bytes.now result) (held self.old)
+            (held self.new) }
+        ensures counts { Counted (call_failed result) (faults self.old) (faults self.new)
+            target.now }
         ensures memory { Tallied (lacked_memory result) (shortages self.old) (shortages self.new) };
 
     /// Closes a target that was opened. The bytes stay.
     fn close(&mut self, target: &Target) -> Done
         ensures bytes { ChangesAt target.now CloseLeaves (held self.old) (held self.new) }
-        ensures counts { Counted (call_failed result) (faults self.old) (faults self.new) target.now }
+        ensures counts { Counted (call_failed result) (faults self.old) (faults self.new)
+            target.now }
         ensures memory { Tallied (lacked_memory result) (shortages self.old) (shortages self.new) };
 }

@@ -38,7 +38,8 @@ impl<R: Files + Input + Drop> RealInputs<R> {
     /// None is open yet. It takes memory for one buffer, and later only for names and for what a read hands out.
     pub fn new(alloc: Global, rt: R) -> Result<Self, NoMemory>
         ensures closed { IfOk result (λ made. ⟦<RealInputs<R> as Inputs>⟧.open_name made ≡ None) }
-        ensures faults { IfOk result (λ made. (name : InputName) → ⟦<RealInputs<R> as Inputs>⟧.faults made name ≡ 0) }
+        ensures faults { IfOk result (λ made. (name : InputName)
+            → ⟦<RealInputs<R> as Inputs>⟧.faults made name ≡ 0) }
     {
         let unread = Unread::new(alloc)?;
         let stdin = rt.reader();
@@ -129,8 +130,10 @@ fn file_of<R: Files>(rt: &R, name: &InputName) -> io::Result<Option<R::File>> {
 fn read_once<S: Read>(source: &mut S, buffer: &mut [u8], max: usize) -> io::Result<usize>
     ensures most { IfOk result (λ n. n ≤ max) }
     ensures bound { IfOk result (λ n. n ≤ length buffer.new) }
-    ensures bytes { IfOk result (λ n. Consumes (S.remaining source.old) (S.remaining source.new) (take n buffer.new)) }
-    ensures end { IfOk result (λ n. n ≡ 0 → 1 ≤ max → 1 ≤ length buffer.old → IsAtEnd (S.remaining source.new)) }
+    ensures bytes { IfOk result (λ n. Consumes (S.remaining source.old) (S.remaining source.new)
+        (take n buffer.new)) }
+    ensures end { IfOk result (λ n. n ≡ 0 → 1 ≤ max → 1 ≤ length buffer.old
+        → IsAtEnd (S.remaining source.new)) }
     ensures err { OnErr result (Keeps (S.remaining source.old) (S.remaining source.new)) }
 {
     let most = max.min(buffer.len());
@@ -164,7 +167,8 @@ impl Model for Unread {
 
     ghost view = { λ u. drop u.start (take u.end u.buffer.items) };
 
-    ghost invariant = { λ u. (u.start ≤ u.end) × (u.end ≤ length u.buffer.items) × (1 ≤ length u.buffer.items) };
+    ghost invariant = { λ u. (u.start ≤ u.end) × (u.end ≤ length u.buffer.items)
+        × (1 ≤ length u.buffer.items) };
 }
 
 impl Unread {
@@ -195,7 +199,8 @@ impl Unread {
     fn fill<S: Read>(&mut self, source: &mut S, max: usize) -> io::Result<usize>
         ensures count { IfOk result (λ n. n ≡ length self.new) }
         ensures most { IfOk result (λ n. n ≤ max) }
-        ensures bytes { OnOk result (Consumes (S.remaining source.old) (S.remaining source.new) self.new) }
+        ensures bytes { OnOk result (Consumes (S.remaining source.old) (S.remaining source.new)
+            self.new) }
         ensures end { IfOk result (λ n. n ≡ 0 → 1 ≤ max → IsAtEnd (S.remaining source.new)) }
         ensures err { OnErr result (self.new ≡ []) }
     {

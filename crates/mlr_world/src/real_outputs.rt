@@ -44,7 +44,8 @@ pub struct RealOutputs<R: Files + Print + ErrorStream> {
 impl<R: Files + Print + ErrorStream> RealOutputs<R> {
     /// No file is open yet. It takes no memory.
     pub fn new(alloc: Global, rt: R) -> Self
-        ensures faults { (target : Target) → ⟦<RealOutputs<R> as Outputs>⟧.faults result target ≡ 0 }
+        ensures faults { (target : Target)
+            → ⟦<RealOutputs<R> as Outputs>⟧.faults result target ≡ 0 }
         ensures shortages { ⟦<RealOutputs<R> as Outputs>⟧.shortages result ≡ 0 }
     {
         RealOutputs {
@@ -118,7 +119,8 @@ fn done_of_write(answer: io::Result<()>) -> Done
 /// How an open ended, which changes nothing where it finds no memory.
 fn done_of_open(answer: io::Result<()>) -> Done
     ensures ok { (result ≡ Done.Ok) ↔ IsOk answer }
-    ensures memory { (result ≡ Done.NoMemory) ↔ IsErrAnd answer (λ e. error_kind e ≡ ErrorKind.OutOfMemory) }
+    ensures memory { (result ≡ Done.NoMemory) ↔ IsErrAnd answer
+        (λ e. error_kind e ≡ ErrorKind.OutOfMemory) }
 {
     match answer {
         Ok(()) => Done::Ok,
@@ -188,7 +190,8 @@ fn close_file<F: Drop>(files: &mut Vec<FileOutput<F>>, target: &Target) -> bool
 /// The place of the file that is open for a target.
 fn place_of<F>(files: &[FileOutput<F>], target: &Target) -> Option<usize>
     ensures bound { IfSome result (λ place. place < length files.now) }
-    ensures here { IfSome result (λ place. IfSome (slice_get files.now place) (λ output. output.target ≡ target.now)) }
+    ensures here { IfSome result (λ place. IfSome (slice_get files.now place)
+        (λ output. output.target ≡ target.now)) }
     ensures absent { IfNone result (All (λ output. output.target ≢ target.now) files.now) }
 {
     for (place, output) in files.iter().enumerate() {

@@ -50,7 +50,14 @@ impl Model for SureInputs {
     ghost use Rattle.mlr_world.specs.MemoryInputs.{takes_of, open_of};
     ghost use Rattle.mlr_world.specs.SureContents.{SureState};
 
-    ghost view = { λ s. record { contents = take s.given s.entries.items; taken = takes_of s.entries.items s.readings.items; open_name = open_of s.is_open (takes_of s.entries.items s.readings.items); faults = 0 } };
+    ghost view = { λ s. record {
+      contents = take s.given s.entries.items;
+      taken = takes_of
+          s.entries.items s.readings.items;
+      open_name = open_of s.is_open
+          (takes_of s.entries.items s.readings.items);
+      faults = 0;
+    } };
 
     ghost invariant = { λ s. SureState s.given s.entries.items s.readings.items };
 }
@@ -105,9 +112,11 @@ impl Inputs for SureInputs {
         requires some { 1 ≤ max }
         ensures contents { self.new.contents ≡ self.old.contents }
         ensures open { self.new.open_name ≡ self.old.open_name }
-        ensures taken { ReadTakes max result (Some (sure_contents self.old.contents)) (Some self.old.taken) (Some self.new.taken) into.old into.new }
+        ensures taken { ReadTakes max result (Some (sure_contents self.old.contents))
+            (Some self.old.taken) (Some self.new.taken) into.old into.new }
         ensures no_fault { read_failed result ≡ false }
-        ensures most { TakesMost max result (Some (sure_contents self.new.contents)) (Some self.new.taken) }
+        ensures most { TakesMost max result (Some (sure_contents self.new.contents))
+            (Some self.new.taken) }
     {
         take_on(&self.entries, &mut self.readings, max, usize::MAX, into)
     }
@@ -119,7 +128,8 @@ fn place_or_add(
     entries: &mut Vec<(InputName, Bytes)>,
     name: &InputName,
 ) -> Result<usize, NoMemory>
-    ensures found { IfOk result (λ place. IsFirstPlace (λ entry. same_input entry.0 name.now) entries.new.items (Some place)) }
+    ensures found { IfOk result (λ place. IsFirstPlace (λ entry. same_input entry.0 name.now)
+        entries.new.items (Some place)) }
     ensures added { AddsEmpty entries.old.items entries.new.items }
 {
     match place_of(entries, name) {
@@ -137,7 +147,8 @@ fn add_empty(
     entries: &mut Vec<(InputName, Bytes)>,
     name: &InputName,
 ) -> Result<(), NoMemory>
-    ensures { entries.new.items ≡ (if is_ok result then entries.old.items ++ (name.now, []) ∷ [] else entries.old.items) }
+    ensures { entries.new.items ≡ (if is_ok result then entries.old.items ++ (name.now, []) ∷ []
+        else entries.old.items) }
 {
     entries.push((name.copy(alloc)?, Bytes::new(alloc)))?;
     Ok(())

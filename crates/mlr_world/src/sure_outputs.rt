@@ -24,7 +24,11 @@ pub struct SureOutputs {
 // Written out, so that the crates above call it and don't go into the fields.
 impl Drop for SureOutputs {
     fn drop(self) {
-        let SureOutputs { alloc: _, held, shortages: _ } = self;
+        let SureOutputs {
+            alloc: _,
+            held,
+            shortages: _,
+        } = self;
         drop(held);
     }
 }
@@ -36,7 +40,12 @@ impl Model for SureOutputs {
 
     ghost use Rattle.mlr_world.specs.MemoryOutputs.{pairs_of};
 
-    ghost view = { λ s. record { held = pairs_of s.held.items; faults = 0; shortages = s.shortages } };
+    ghost view = { λ s. record {
+      held = pairs_of s.held.items;
+      faults = 0;
+      shortages =
+          s.shortages;
+    } };
 }
 
 impl SureOutputs {
@@ -97,7 +106,8 @@ fn count_shortage(done: Done, shortages: &mut u64)
 
 /// Puts the bytes behind those of the target.
 fn append_text(entries: &mut Vec<HeldText>, target: &Target, bytes: &[u8]) -> Done
-    ensures bytes { ChangesOnly target.now (WriteLeaves bytes.now result) (held_at (pairs_of entries.old.items)) (held_at (pairs_of entries.new.items)) }
+    ensures bytes { ChangesOnly target.now (WriteLeaves bytes.now result)
+        (held_at (pairs_of entries.old.items)) (held_at (pairs_of entries.new.items)) }
     ensures no_fault { call_failed result ≡ false }
 {
     match place_of(entries, target) {

@@ -32,30 +32,30 @@ no-end [] open_is = refl
 no-end (e ∷ events) open_is = let parts = open-parts e events open_is in ap₂ (λ a b. a || b) (no-last-no-end e parts.0) (no-end events parts.1)
 
 -- and no fault
-pub fault-behind : (events behind : List Event) → is_open events ≡ true → fault_in (events ++ behind) ≡ fault_in behind
-fault-behind [] behind open_is = refl
-fault-behind (event.Rec fields ctx ∷ events) behind open_is = fault-behind events behind (open-parts (event.Rec fields ctx) events open_is).1
-fault-behind (event.Text text ∷ events) behind open_is = fault-behind events behind (open-parts (event.Text text) events open_is).1
-fault-behind (event.Out target piece ∷ events) behind open_is = fault-behind events behind (open-parts (event.Out target piece) events open_is).1
-fault-behind (event.End ctx ∷ events) behind open_is = absurd (let e : true ≡ false = (open-parts (event.End ctx) events open_is).0 in cc)
-fault-behind (event.Fault fault ∷ events) behind open_is = absurd (let e : true ≡ false = (open-parts (event.Fault fault) events open_is).0 in cc)
+pub fault-following : (events following : List Event) → is_open events ≡ true → fault_in (events ++ following) ≡ fault_in following
+fault-following [] following open_is = refl
+fault-following (event.Rec fields ctx ∷ events) following open_is = fault-following events following (open-parts (event.Rec fields ctx) events open_is).1
+fault-following (event.Text text ∷ events) following open_is = fault-following events following (open-parts (event.Text text) events open_is).1
+fault-following (event.Out target piece ∷ events) following open_is = fault-following events following (open-parts (event.Out target piece) events open_is).1
+fault-following (event.End ctx ∷ events) following open_is = absurd (let e : true ≡ false = (open-parts (event.End ctx) events open_is).0 in cc)
+fault-following (event.Fault fault ∷ events) following open_is = absurd (let e : true ≡ false = (open-parts (event.Fault fault) events open_is).0 in cc)
 
-pub end-behind : (events behind : List Event) → is_open events ≡ true → list_any is_end (events ++ behind) ≡ list_any is_end behind
-end-behind events behind open_is = list_any-append is_end events behind ∙ ap (λ b. b || list_any is_end behind) (no-end events open_is)
+pub end-following : (events following : List Event) → is_open events ≡ true → list_any is_end (events ++ following) ≡ list_any is_end following
+end-following events following open_is = list_any-append is_end events following ∙ ap (λ b. b || list_any is_end following) (no-end events open_is)
 
-pub bodies-append : (events behind : List Event) → bodies (events ++ behind) ≡ bodies events ++ bodies behind
-bodies-append events behind = flat_map-append event_bodies events behind
+pub bodies-append : (events following : List Event) → bodies (events ++ following) ≡ bodies events ++ bodies following
+bodies-append events following = flat_map-append event_bodies events following
 
 -- the text of an open list, and of one behind it
 pub out-open : (opts : WriteOpts) (events : List Event) → is_open events ≡ true → out_of opts events ≡ written opts (bodies events) false
 out-open opts events open_is = ap (written opts (bodies events)) (no-end events open_is)
 
-pub out-behind : (opts : WriteOpts) (events behind : List Event) → is_open events ≡ true → out_of opts (events ++ behind) ≡ written opts (bodies events ++ bodies behind) (list_any is_end behind)
-out-behind opts events behind open_is = ap₂ (written opts) (bodies-append events behind) (end-behind events behind open_is)
+pub out-following : (opts : WriteOpts) (events following : List Event) → is_open events ≡ true → out_of opts (events ++ following) ≡ written opts (bodies events ++ bodies following) (list_any is_end following)
+out-following opts events following open_is = ap₂ (written opts) (bodies-append events following) (end-following events following open_is)
 
 -- from the law of what is written
-pub out-grows : ((opts : WriteOpts) (bodies behind : List Body) (ended : Bool) → (more : List ℕ) × (written opts (bodies ++ behind) ended ≡ written opts bodies false ++ more))
-    → (opts : WriteOpts) (events behind : List Event) → is_open events ≡ true → (more : List ℕ) × (out_of opts (events ++ behind) ≡ out_of opts events ++ more)
-out-grows grows opts events behind open_is =
-    let more = grows opts (bodies events) (bodies behind) (list_any is_end behind) in
-    (more.0, out-behind opts events behind open_is ∙ more.1 ∙ ap (λ t. t ++ more.0) (sym (out-open opts events open_is)))
+pub out-grows : ((opts : WriteOpts) (bodies following : List Body) (ended : Bool) → (more : List ℕ) × (written opts (bodies ++ following) ended ≡ written opts bodies false ++ more))
+    → (opts : WriteOpts) (events following : List Event) → is_open events ≡ true → (more : List ℕ) × (out_of opts (events ++ following) ≡ out_of opts events ++ more)
+out-grows grows opts events following open_is =
+    let more = grows opts (bodies events) (bodies following) (list_any is_end following) in
+    (more.0, out-following opts events following open_is ∙ more.1 ∙ ap (λ t. t ++ more.0) (sym (out-open opts events open_is)))

@@ -11,8 +11,8 @@ use Rattle.mlr_event.proofs.Ordered.{open-before}
 use Rattle.writers.specs.declared.options.WriteOpts.{WriteOpts}
 use Rattle.outlet.specs.declared.outlet.Outlet.{Outlet}
 use Rattle.outlet.specs.Out.{out_of}
-use Rattle.outlet.specs.Standing.{LetSays}
-use Rattle.outlet.specs.Putting.{IsAt, Puts, let_of, over_by}
+use Rattle.outlet.specs.Represents.{LetSays}
+use Rattle.outlet.specs.PendingText.{IsAt, Appends, let_of, over_by}
 use Rattle.outlet.proofs.Putting.{adds-nothing}
 
 adds-both : (first now later before middle after : List ℕ) → Adds first now before middle → Adds now later middle after → Adds first later before after
@@ -58,29 +58,29 @@ module _ (first : Outlet) (events : List Event) (now : Outlet) (left : List Even
   one-more : (before : List Event) → (before ++ so_far.passed) ++ e ∷ [] ≡ before ++ (so_far.passed ++ e ∷ [])
   one-more before = append_assoc before so_far.passed (e ∷ [])
 
-  module _ (over : Option (Option Fault)) (later : Outlet) (puts : (opts : WriteOpts) (before : List Event) → IsAt opts before now → Puts over opts before (e ∷ []) now later) where
-    then-puts : (opts : WriteOpts) (before : List Event) → IsAt opts before first → is_list (before ++ events) ≡ true → Puts over opts (before ++ so_far.passed) (e ∷ []) now later
-    then-puts opts before at list = puts opts (before ++ so_far.passed) (so_far.at opts before at list)
+  module _ (over : Option (Option Fault)) (later : Outlet) (appends : (opts : WriteOpts) (before : List Event) → IsAt opts before now → Appends over opts before (e ∷ []) now later) where
+    then-appends : (opts : WriteOpts) (before : List Event) → IsAt opts before first → is_list (before ++ events) ≡ true → Appends over opts (before ++ so_far.passed) (e ∷ []) now later
+    then-appends opts before at list = appends opts (before ++ so_far.passed) (so_far.at opts before at list)
 
     adds-more : (opts : WriteOpts) (before : List Event) → IsAt opts before first → is_list (before ++ events) ≡ true → Adds first.text later.text (out_of opts before) (out_of opts (before ++ (so_far.passed ++ e ∷ [])))
     adds-more opts before at list =
         adds-both first.text now.text later.text (out_of opts before) (out_of opts (before ++ so_far.passed)) (out_of opts (before ++ (so_far.passed ++ e ∷ []))) (so_far.adds opts before at list)
-        (subst (λ t. Adds now.text later.text (out_of opts (before ++ so_far.passed)) (out_of opts t)) (one-more before) (then-puts opts before at list).adds)
+        (subst (λ t. Adds now.text later.text (out_of opts (before ++ so_far.passed)) (out_of opts t)) (one-more before) (then-appends opts before at list).adds)
 
     pub one-passed : over ≡ None → Passed first events later left
     one-passed none = record {
       passed = so_far.passed ++ e ∷ [];
       all = rest-is ∙ sym (append_assoc so_far.passed (e ∷ []) (reverse left));
-      at = λ opts before at list. subst (λ t. IsAt opts t later) (one-more before) ((then-puts opts before at list).more none);
+      at = λ opts before at list. subst (λ t. IsAt opts t later) (one-more before) ((then-appends opts before at list).more none);
       adds = adds-more;
     }
 
   -- this one was the last
-  pub last-passed : (fault : Option Fault) (later : Outlet) → over_by e ≡ Some fault → ((opts : WriteOpts) (before : List Event) → IsAt opts before now → Puts (Some fault) opts before (e ∷ []) now later)
-      → (opts : WriteOpts) (before : List Event) → IsAt opts before first → is_list (before ++ events) ≡ true → Puts (Some fault) opts before events first later
-  last-passed fault later is puts opts before at list = subst (λ t. Puts (Some fault) opts before t first later) (sym whole) (record {
-    says = subst (λ t. says-of t) (one-more before) (then-puts (Some fault) later puts opts before at list).says;
-    adds = adds-more (Some fault) later puts opts before at list;
+  pub last-passed : (fault : Option Fault) (later : Outlet) → over_by e ≡ Some fault → ((opts : WriteOpts) (before : List Event) → IsAt opts before now → Appends (Some fault) opts before (e ∷ []) now later)
+      → (opts : WriteOpts) (before : List Event) → IsAt opts before first → is_list (before ++ events) ≡ true → Appends (Some fault) opts before events first later
+  last-passed fault later is appends opts before at list = subst (λ t. Appends (Some fault) opts before t first later) (sym whole) (record {
+    says = subst (λ t. says-of t) (one-more before) (then-appends (Some fault) later appends opts before at list).says;
+    adds = adds-more (Some fault) later appends opts before at list;
     more = λ none. absurd (let e : Some fault ≡ None = none in cc);
   })
     where
@@ -101,10 +101,10 @@ module _ (first : Outlet) (events : List Event) (now : Outlet) (left : List Even
   is-open opts before at list = (opts, before ++ so_far.passed, so_far.at opts before at list)
 
 -- all were passed
-pub all-passed : (first : Outlet) (events : List Event) (now : Outlet) → Passed first events now [] → (opts : WriteOpts) (before : List Event) → IsAt opts before first → is_list (before ++ events) ≡ true → Puts None opts before events first now
+pub all-passed : (first : Outlet) (events : List Event) (now : Outlet) → Passed first events now [] → (opts : WriteOpts) (before : List Event) → IsAt opts before first → is_list (before ++ events) ≡ true → Appends None opts before events first now
 all-passed first events now done opts before at list =
     let now_at = done.at opts before at list in
-    subst (λ t. Puts None opts before t first now) (sym (done.all ∙ append-nil done.passed)) (record {
+    subst (λ t. Appends None opts before t first now) (sym (done.all ∙ append-nil done.passed)) (record {
       says = now_at.clear;
       adds = done.adds opts before at list;
       more = λ none. now_at;

@@ -16,12 +16,12 @@ use Rattle.mlr_event.specs.declared.names.Target.{Target}
 use Rattle.mlr_event.specs.declared.names.Target.TheVariants.{Stdout, Stderr, File}
 use Rattle.mlr_event.specs.Verb.{is_end, is_last, is_open}
 use Rattle.writers.specs.declared.options.WriteOpts.{WriteOpts}
-use Rattle.writers.specs.Standing as writer
+use Rattle.writers.specs.Represents as writer
 use Rattle.writers.specs.Written.{written}
 use Rattle.outlet.specs.declared.outlet.Outlet.{Outlet}
 use Rattle.outlet.specs.Out.{bodies, event_bodies, out_of, piece_bodies}
-use Rattle.outlet.specs.Putting.{IsAt, Puts, over_by}
-use Rattle.outlet.proofs.Growing.{bodies-append, end-behind, fault-behind, out-behind, out-open}
+use Rattle.outlet.specs.PendingText.{IsAt, Appends, over_by}
+use Rattle.outlet.proofs.Growing.{bodies-append, end-following, fault-following, out-following, out-open}
 
 -- the same lists by other names
 pub adds-as : (old new before before' after after' : List ℕ) → before ≡ before' → after ≡ after' → Adds old new before after → Adds old new before' after'
@@ -45,8 +45,8 @@ no-over (event.Out target piece) b is = refl
 no-over (event.End ctx) b is = absurd (let e : [] ≡ b ∷ [] = is in cc)
 no-over (event.Fault fault) b is = absurd (let e : [] ≡ b ∷ [] = is in cc)
 
-pub open-behind : (events behind : List Event) → is_open events ≡ true → is_open (events ++ behind) ≡ is_open behind
-open-behind events behind open_is = ap not (list_any-append is_last events behind ∙ ap (λ b. b || list_any is_last behind) (not-true (list_any is_last events) open_is))
+pub open-following : (events following : List Event) → is_open events ≡ true → is_open (events ++ following) ≡ is_open following
+open-following events following open_is = ap not (list_any-append is_last events following ∙ ap (λ b. b || list_any is_last following) (not-true (list_any is_last events) open_is))
 
 -- what a piece gives by its target
 pub piece-here : (target : Target) (piece : Piece) → target ≡ Stdout → piece_bodies target piece ≡ piece.body ∷ []
@@ -59,50 +59,50 @@ piece-elsewhere (File name) piece apart = refl
 
 module _ (opts : WriteOpts) (before : List Event) (outlet outlet' : Outlet) (at : IsAt opts before outlet) where
   -- a record or a text
-  pub body-puts : (e : Event) (bs : List Body) → over_by e ≡ None → event_bodies e ≡ bs
-      → writer.StandsFor opts outlet'.writer (bodies before ++ bs)
+  pub body-appends : (e : Event) (bs : List Body) → over_by e ≡ None → event_bodies e ≡ bs
+      → writer.Represents opts outlet'.writer (bodies before ++ bs)
       → Adds outlet.text outlet'.text (written opts (bodies before) false) (written opts (bodies before ++ bs) false)
-      → writer.IsOpen outlet'.writer → Puts None opts before (e ∷ []) outlet outlet'
-  body-puts e bs is gives stands adds writes =
+      → writer.IsOpen outlet'.writer → Appends None opts before (e ∷ []) outlet outlet'
+  body-appends e bs is gives represents adds writes =
       let one : bodies (e ∷ []) ≡ bs = append-nil (event_bodies e) ∙ gives in
-      let still : is_open (before ++ e ∷ []) ≡ true = open-behind before (e ∷ []) at.clear ∙ ap (λ b. not (b || false)) (inner e is) in
+      let still : is_open (before ++ e ∷ []) ≡ true = open-following before (e ∷ []) at.clear ∙ ap (λ b. not (b || false)) (inner e is) in
       let all : bodies (before ++ e ∷ []) ≡ bodies before ++ bs = bodies-append before (e ∷ []) ∙ ap (λ t. bodies before ++ t) one in
       record {
         says = still;
         adds = adds-as outlet.text outlet'.text (written opts (bodies before) false) (out_of opts before) (written opts (bodies before ++ bs) false) (out_of opts (before ++ e ∷ []))
             (sym (out-open opts before at.clear)) (sym (out-open opts (before ++ e ∷ []) still ∙ ap (λ t. written opts t false) all)) adds;
-        more = λ none. record { clear = still; stands = subst (writer.StandsFor opts outlet'.writer) (sym all) stands; writes = writes };
+        more = λ none. record { clear = still; represents = subst (writer.Represents opts outlet'.writer) (sym all) represents; writes = writes };
       }
 
-  pub one-puts : (e : Event) (b : Body) → event_bodies e ≡ b ∷ []
-      → ((opts : WriteOpts) (bodies : List Body) → writer.StandsFor opts outlet.writer bodies → writer.StandsFor opts outlet'.writer (bodies ++ b ∷ []))
-      → ((opts : WriteOpts) (bodies : List Body) → writer.StandsFor opts outlet.writer bodies → Adds outlet.text outlet'.text (written opts bodies false) (written opts (bodies ++ b ∷ []) false))
-      → writer.IsOpen outlet'.writer → Puts None opts before (e ∷ []) outlet outlet'
-  one-puts e b gives stands adds writes = body-puts e (b ∷ []) (no-over e b gives) gives (stands opts (bodies before) at.stands) (adds opts (bodies before) at.stands) writes
+  pub one-appends : (e : Event) (b : Body) → event_bodies e ≡ b ∷ []
+      → ((opts : WriteOpts) (bodies : List Body) → writer.Represents opts outlet.writer bodies → writer.Represents opts outlet'.writer (bodies ++ b ∷ []))
+      → ((opts : WriteOpts) (bodies : List Body) → writer.Represents opts outlet.writer bodies → Adds outlet.text outlet'.text (written opts bodies false) (written opts (bodies ++ b ∷ []) false))
+      → writer.IsOpen outlet'.writer → Appends None opts before (e ∷ []) outlet outlet'
+  one-appends e b gives represents adds writes = body-appends e (b ∷ []) (no-over e b gives) gives (represents opts (bodies before) at.represents) (adds opts (bodies before) at.represents) writes
 
   -- the end
-  pub end-puts : (ctx : Ctx) → Adds outlet.text outlet'.text (written opts (bodies before) false) (written opts (bodies before) true) → Puts (Some None) opts before (event.End ctx ∷ []) outlet outlet'
-  end-puts ctx adds = record {
-    says = end-behind before (event.End ctx ∷ []) at.clear;
+  pub end-appends : (ctx : Ctx) → Adds outlet.text outlet'.text (written opts (bodies before) false) (written opts (bodies before) true) → Appends (Some None) opts before (event.End ctx ∷ []) outlet outlet'
+  end-appends ctx adds = record {
+    says = end-following before (event.End ctx ∷ []) at.clear;
     adds = adds-as outlet.text outlet'.text (written opts (bodies before) false) (out_of opts before) (written opts (bodies before) true) (out_of opts (before ++ event.End ctx ∷ []))
-        (sym (out-open opts before at.clear)) (sym (out-behind opts before (event.End ctx ∷ []) at.clear ∙ ap (λ t. written opts t true) (append-nil (bodies before)))) adds;
+        (sym (out-open opts before at.clear)) (sym (out-following opts before (event.End ctx ∷ []) at.clear ∙ ap (λ t. written opts t true) (append-nil (bodies before)))) adds;
     more = λ none. absurd (let e : Some None ≡ None = none in cc);
   }
 
 module _ (opts : WriteOpts) (before : List Event) (outlet : Outlet) (at : IsAt opts before outlet) where
   -- a piece for elsewhere
-  pub nothing-puts : (e : Event) → over_by e ≡ None → event_bodies e ≡ [] → Puts None opts before (e ∷ []) outlet outlet
-  nothing-puts e is gives = body-puts opts before outlet outlet at e [] is gives
-      (subst (writer.StandsFor opts outlet.writer) (sym (append-nil (bodies before))) at.stands)
+  pub nothing-appends : (e : Event) → over_by e ≡ None → event_bodies e ≡ [] → Appends None opts before (e ∷ []) outlet outlet
+  nothing-appends e is gives = body-appends opts before outlet outlet at e [] is gives
+      (subst (writer.Represents opts outlet.writer) (sym (append-nil (bodies before))) at.represents)
       (adds-nothing outlet.text (written opts (bodies before) false) (written opts (bodies before ++ []) false) (ap (λ t. written opts t false) (append-nil (bodies before))))
       at.writes
 
   -- a fault
-  pub fault-puts : (fault : Fault) → Puts (Some (Some fault)) opts before (event.Fault fault ∷ []) outlet outlet
-  fault-puts fault = record {
-    says = fault-behind before (event.Fault fault ∷ []) at.clear;
+  pub fault-appends : (fault : Fault) → Appends (Some (Some fault)) opts before (event.Fault fault ∷ []) outlet outlet
+  fault-appends fault = record {
+    says = fault-following before (event.Fault fault ∷ []) at.clear;
     adds = adds-nothing outlet.text (out_of opts before) (out_of opts (before ++ event.Fault fault ∷ []))
-        (out-behind opts before (event.Fault fault ∷ []) at.clear ∙ ap (λ t. written opts t false) (append-nil (bodies before)) ∙ sym (out-open opts before at.clear));
+        (out-following opts before (event.Fault fault ∷ []) at.clear ∙ ap (λ t. written opts t false) (append-nil (bodies before)) ∙ sym (out-open opts before at.clear));
     more = λ none. absurd (let e : Some (Some fault) ≡ None = none in cc);
   }
 

@@ -12,16 +12,16 @@ use Rattle.writers.proofs.Growing.{written-append}
 use Rattle.outlet.specs.declared.outlet.Let.{Let}
 use Rattle.outlet.specs.declared.outlet.Let.TheVariants.{Went, Over, Failed, NoMemory}
 use Rattle.outlet.specs.declared.outlet.Outlet.{Outlet}
-use Rattle.outlet.specs.Standing.{LetLeaves, LetSays, PutsFront, StandsFor, Took}
-use Rattle.outlet.specs.Putting.{AnswersFor, IsAt, Puts, let_of}
+use Rattle.outlet.specs.Represents.{LetLeaves, LetSays, AppendsPrefix, Represents, Took}
+use Rattle.outlet.specs.PendingText.{AnswersFor, IsAt, Appends, let_of}
 use Rattle.outlet.proofs.Growing.{out-grows}
 
 -- nothing was written
-pub nothing-put : (text : List ℕ) (before now : Option (List ℕ)) → now ≡ before → PutsFront text before now
+pub nothing-put : (text : List ℕ) (before now : Option (List ℕ)) → now ≡ before → AppendsPrefix text before now
 nothing-put text before now same = ([], (text, refl), same ∙ with_bytes-none before)
 
-pub unwritten : (text : List ℕ) (held : Option Held) → ChangesAt Stdout (PutsFront text) held held
-unwritten text held = ChangesAt-none Stdout (PutsFront text) (λ before. nothing-put text before before refl) held
+pub unwritten : (text : List ℕ) (held : Option Held) → ChangesAt Stdout (AppendsPrefix text) held held
+unwritten text held = ChangesAt-none Stdout (AppendsPrefix text) (λ before. nothing-put text before before refl) held
 
 -- an empty text is written by no call
 pub empty-leaves : (over : Option (Option Fault)) (text : List ℕ) (held : Option Held) → text ≡ [] → ChangesAt Stdout (LetLeaves (let_of over) text) held held
@@ -47,26 +47,26 @@ says-of over (Over fault) events is says = subst (λ o. LetSays (let_of o) event
 says-of over (Failed target) events is says = is
 says-of over NoMemory events is says = tt
 
-pub standing-at : (opts : WriteOpts) (before : List Event) (outlet : Outlet) → StandsFor opts before outlet → IsAt opts before outlet
-standing-at opts before outlet stands = record { clear = stands.clear; stands = stands.stands; writes = stands.writes }
+pub standing-at : (opts : WriteOpts) (before : List Event) (outlet : Outlet) → Represents opts before outlet → IsAt opts before outlet
+standing-at opts before outlet represents = record { clear = represents.clear; represents = represents.represents; writes = represents.writes }
 
-module _ (opts : WriteOpts) (before events : List Event) (outlet : Outlet) (stood : StandsFor opts before outlet) where
-  pub took : (over : Option (Option Fault)) (put : Outlet) (answer : Let) (held held' : Option Held) → Puts over opts before events outlet put → AnswersFor over answer → ChangesAt Stdout (LetLeaves answer put.text) held held'
+module _ (opts : WriteOpts) (before events : List Event) (outlet : Outlet) (stood : Represents opts before outlet) where
+  pub took : (over : Option (Option Fault)) (put : Outlet) (answer : Let) (held held' : Option Held) → Appends over opts before events outlet put → AnswersFor over answer → ChangesAt Stdout (LetLeaves answer put.text) held held'
       → Took answer opts before events held held'
-  took over put answer held held' puts is left = record {
-    says = says-of over answer (before ++ events) is puts.says;
-    more = puts.adds.0;
-    text = puts.adds.1;
-    leaves = subst (λ t. ChangesAt Stdout (LetLeaves answer t) held held') (puts.adds.2 ∙ ap (λ t. t ++ puts.adds.0) stood.text) left;
+  took over put answer held held' appends is left = record {
+    says = says-of over answer (before ++ events) is appends.says;
+    more = appends.adds.0;
+    text = appends.adds.1;
+    leaves = subst (λ t. ChangesAt Stdout (LetLeaves answer t) held held') (appends.adds.2 ∙ ap (λ t. t ++ appends.adds.0) stood.text) left;
   }
 
   -- there was no memory for what was to be put
   pub took-none : (held : Option Held) → Took NoMemory opts before events held held
   took-none held =
-      let grown = out-grows (λ opts bodies behind ended. (_, written-append opts bodies behind ended)) opts before events stood.clear in
+      let grown = out-grows (λ opts bodies following ended. (_, written-append opts bodies following ended)) opts before events stood.clear in
       record { says = tt; more = grown.0; text = grown.1; leaves = unwritten grown.0 held }
 
-  pub stands-behind : (over : Option (Option Fault)) (put now : Outlet) (answer : Let) → Puts over opts before events outlet put → AnswersFor over answer → answer ≡ Went → now ≡ record put { text = [] } → StandsFor opts (before ++ events) now
-  stands-behind over put now answer puts is went same =
-      let at = puts.more (subst (AnswersFor over) went is) in
-      subst (StandsFor opts (before ++ events)) (sym same) (record { clear = at.clear; stands = at.stands; writes = at.writes; text = refl })
+  pub represents-following : (over : Option (Option Fault)) (put now : Outlet) (answer : Let) → Appends over opts before events outlet put → AnswersFor over answer → answer ≡ Went → now ≡ record put { text = [] } → Represents opts (before ++ events) now
+  represents-following over put now answer appends is went same =
+      let at = appends.more (subst (AnswersFor over) went is) in
+      subst (Represents opts (before ++ events)) (sym same) (record { clear = at.clear; represents = at.represents; writes = at.writes; text = refl })

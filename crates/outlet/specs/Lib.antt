@@ -1,3 +1,3 @@
 pub mod Out
-pub mod Standing
-pub mod Putting
+pub mod Represents
+pub mod PendingText

@@ -6,7 +6,8 @@ ghost use Rattle.outlet.specs.Out.{out_of};
 
 /// What standard output gets of a list goes on as the list goes on. It does nothing.
 pub fn outlet_laws()
-    ensures { (opts : WriteOpts) (events behind : List Event) → is_open events ≡ true → (more : List ℕ) × (out_of opts (events ++ behind) ≡ out_of opts events ++ more) }
+    ensures { (opts : WriteOpts) (events following : List Event) → is_open events ≡ true
+        → (more : List ℕ) × (out_of opts (events ++ following) ≡ out_of opts events ++ more) }
 {
     writers::growth_law();
 }

@@ -6,10 +6,10 @@ ghost use Rattle.mlr_event.specs.Verb.{is_list};
 ghost use Rattle.mlr_world.specs.Counts.{Counted};
 ghost use Rattle.mlr_world.specs.Outputs.{ChangesAt};
 ghost use Rattle.writers.specs.declared.options.WriteOpts.{WriteOpts as Options};
-ghost use Rattle.writers.specs.Standing.{IsOpen};
+ghost use Rattle.writers.specs.Represents.{IsOpen};
 ghost use Rattle.outlet.specs.Out.{event_bodies};
-ghost use Rattle.outlet.specs.Standing.{LetLeaves, StandsFor, Took, has_failed};
-ghost use Rattle.outlet.specs.Putting.{AnswersFor, IsAt, Puts, let_of, over_by};
+ghost use Rattle.outlet.specs.Represents.{LetLeaves, Represents, Took, has_failed};
+ghost use Rattle.outlet.specs.PendingText.{AnswersFor, IsAt, Appends, let_of, over_by};
 
 use mlr_event::{Body, Event, Events, Fault, Piece, Target};
 use mlr_spec::NoMemory;
@@ -51,7 +51,7 @@ impl Drop for Outlet {
 impl Outlet {
     /// An outlet that was given nothing. It takes memory for options of more than 16 bytes.
     pub fn new(alloc: Global, opts: &WriteOpts) -> Result<Self, NoMemory>
-        ensures { IfOk result (λ made. StandsFor opts.now [] made) }
+        ensures { IfOk result (λ made. Represents opts.now [] made) }
     {
         Ok(Outlet {
             writer: Writer::new(alloc, opts)?,
@@ -61,10 +61,14 @@ impl Outlet {
 
     /// Takes an event, and writes what it becomes. It takes memory for the text.
     pub fn take<O: Outputs>(&mut self, event: Event, outputs: &mut O) -> Let
-        requires { (opts : Options) × (before : List SpecEvent) × StandsFor opts before self.old }
-        ensures took { (opts : Options) (before : List SpecEvent) → StandsFor opts before self.old → Took result opts before (event ∷ []) (O.held outputs.old) (O.held outputs.new) }
-        ensures stands { (opts : Options) (before : List SpecEvent) → StandsFor opts before self.old → result ≡ Let.Went → StandsFor opts (before ++ event ∷ []) self.new }
-        ensures counts { Counted (has_failed result) (O.faults outputs.old) (O.faults outputs.new) Stdout }
+        requires { (opts : Options) × (before : List SpecEvent) × Represents opts before self.old }
+        ensures took { (opts : Options) (before : List SpecEvent) → Represents opts before self.old
+            → Took result opts before (event ∷ []) (O.held outputs.old) (O.held outputs.new) }
+        ensures represents { (opts : Options) (before : List SpecEvent)
+            → Represents opts before self.old → result ≡ Let.Went
+            → Represents opts (before ++ event ∷ []) self.new }
+        ensures counts { Counted (has_failed result) (O.faults outputs.old) (O.faults outputs.new)
+            Stdout }
         ensures shortages { O.shortages outputs.old ≤ O.shortages outputs.new }
     {
         match self.put(event) {
@@ -76,11 +80,17 @@ impl Outlet {
     /// Takes all events of a list, writes what they become with one call, and leaves the list empty where it answers Went.
     /// It takes memory for the text.
     pub fn take_all<O: Outputs>(&mut self, events: &mut Events, outputs: &mut O) -> Let
-        requires { (opts : Options) × (before : List SpecEvent) × StandsFor opts before self.old × (is_list (before ++ events.old) ≡ true) }
-        ensures took { (opts : Options) (before : List SpecEvent) → StandsFor opts before self.old → is_list (before ++ events.old) ≡ true → Took result opts before events.old (O.held outputs.old) (O.held outputs.new) }
-        ensures stands { (opts : Options) (before : List SpecEvent) → StandsFor opts before self.old → is_list (before ++ events.old) ≡ true → result ≡ Let.Went → StandsFor opts (before ++ events.old) self.new }
+        requires { (opts : Options) × (before : List SpecEvent) × Represents opts before self.old
+            × (is_list (before ++ events.old) ≡ true) }
+        ensures took { (opts : Options) (before : List SpecEvent) → Represents opts before self.old
+            → is_list (before ++ events.old) ≡ true
+            → Took result opts before events.old (O.held outputs.old) (O.held outputs.new) }
+        ensures represents { (opts : Options) (before : List SpecEvent)
+            → Represents opts before self.old → is_list (before ++ events.old) ≡ true
+            → result ≡ Let.Went → Represents opts (before ++ events.old) self.new }
         ensures emptied { result ≡ Let.Went → events.new ≡ [] }
-        ensures counts { Counted (has_failed result) (O.faults outputs.old) (O.faults outputs.new) Stdout }
+        ensures counts { Counted (has_failed result) (O.faults outputs.old) (O.faults outputs.new)
+            Stdout }
         ensures shortages { O.shortages outputs.old ≤ O.shortages outputs.new }
     {
         match self.put_all(events) {
@@ -102,7 +112,8 @@ impl Outlet {
     fn put(&mut self, event: Event) -> Result<Option<Option<Fault>>, NoMemory>
         requires { (opts : Options) × (before : List SpecEvent) × IsAt opts before self.old }
         ensures over { IfOk result (λ over. over ≡ over_by event) }
-        ensures puts { IfOk result (λ over. (opts : Options) (before : List SpecEvent) → IsAt opts before self.old → Puts over opts before (event ∷ []) self.old self.new) }
+        ensures appends { IfOk result (λ over. (opts : Options) (before : List SpecEvent)
+            → IsAt opts before self.old → Appends over opts before (event ∷ []) self.old self.new) }
     {
         match event {
             Event::Rec(fields, _) => self.put_body(Body::Rec(fields)),
@@ -120,7 +131,9 @@ impl Outlet {
     fn put_piece(&mut self, target: Target, piece: Piece) -> Result<Option<Option<Fault>>, NoMemory>
         requires { IsOpen self.old.writer }
         ensures over { IfOk result (λ over. over ≡ None) }
-        ensures puts { OnOk result ((opts : Options) (before : List SpecEvent) → IsAt opts before self.old → Puts None opts before (Out target piece ∷ []) self.old self.new) }
+        ensures appends { OnOk result ((opts : Options) (before : List SpecEvent)
+            → IsAt opts before self.old
+            → Appends None opts before (Out target piece ∷ []) self.old self.new) }
     {
         if target.is(&Target::Stdout) {
             self.put_body(piece.body)
@@ -133,7 +146,10 @@ impl Outlet {
     fn put_body(&mut self, body: Body) -> Result<Option<Option<Fault>>, NoMemory>
         requires { IsOpen self.old.writer }
         ensures over { IfOk result (λ over. over ≡ None) }
-        ensures puts { OnOk result ((opts : Options) (before : List SpecEvent) (event : SpecEvent) → IsAt opts before self.old → event_bodies event ≡ body ∷ [] → Puts None opts before (event ∷ []) self.old self.new) }
+        ensures appends { OnOk result ((opts : Options) (before : List SpecEvent)
+            (event : SpecEvent)
+            → IsAt opts before self.old → event_bodies event ≡ body ∷ []
+            → Appends None opts before (event ∷ []) self.old self.new) }
     {
         self.writer.take(body, &mut self.text)?;
         Ok(None)
@@ -141,8 +157,11 @@ impl Outlet {
 
     /// Puts what the events of a list become into the text, and takes them out, up to one that is the last.
     fn put_all(&mut self, events: &mut Events) -> Result<Option<Option<Fault>>, NoMemory>
-        requires { (opts : Options) × (before : List SpecEvent) × IsAt opts before self.old × (is_list (before ++ events.old) ≡ true) }
-        ensures puts { IfOk result (λ over. (opts : Options) (before : List SpecEvent) → IsAt opts before self.old → is_list (before ++ events.old) ≡ true → Puts over opts before events.old self.old self.new) }
+        requires { (opts : Options) × (before : List SpecEvent) × IsAt opts before self.old
+            × (is_list (before ++ events.old) ≡ true) }
+        ensures appends { IfOk result (λ over. (opts : Options) (before : List SpecEvent)
+            → IsAt opts before self.old → is_list (before ++ events.old) ≡ true
+            → Appends over opts before events.old self.old self.new) }
         ensures emptied { OnOk result (events.new ≡ []) }
     {
         events.reverse();
@@ -156,10 +175,12 @@ impl Outlet {
 
     /// Writes the text, and answers by whether the events are over.
     fn write<O: Outputs>(&mut self, over: Option<Option<Fault>>, outputs: &mut O) -> Let
-        ensures leaves { ChangesAt Stdout (LetLeaves result self.old.text) (O.held outputs.old) (O.held outputs.new) }
+        ensures leaves { ChangesAt Stdout (LetLeaves result self.old.text) (O.held outputs.old)
+            (O.held outputs.new) }
         ensures answer { AnswersFor over result }
         ensures went { result ≡ Let.Went → self.new ≡ record self.old { text = [] } }
-        ensures counts { Counted (has_failed result) (O.faults outputs.old) (O.faults outputs.new) Stdout }
+        ensures counts { Counted (has_failed result) (O.faults outputs.old) (O.faults outputs.new)
+            Stdout }
         ensures shortages { O.shortages outputs.old ≤ O.shortages outputs.new }
     {
         if self.text.is_empty() {

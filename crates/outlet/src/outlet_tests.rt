@@ -3,7 +3,7 @@ ghost use Rattle.std.specs.Prelude.{◌≡◌, ◌++◌, List, true, false, IfOk
 ghost use Rattle.mlr_event.specs.declared.event.Event.{Event as SpecEvent};
 ghost use Rattle.mlr_event.specs.Verb.{is_last, is_list, is_open};
 ghost use Rattle.writers.specs.declared.options.WriteOpts.{WriteOpts as Options};
-ghost use Rattle.outlet.specs.Standing.{StandsFor};
+ghost use Rattle.outlet.specs.Represents.{Represents};
 
 use crate::{Let, Outlet};
 use mlr_event::{Body, Ctx, Event, Events, Fault, FileRef, Format, Mode, Piece, StyleId, Target};
@@ -107,7 +107,8 @@ fn events_of(alloc: Global, lines: &str) -> Result<Events, NoMemory>
 
 /// A list of one event.
 fn alone(alloc: Global, event: Event) -> Result<Events, NoMemory>
-    ensures { IfOk result (λ events. (before : List SpecEvent) → is_open before ≡ true → is_list (before ++ events) ≡ true) }
+    ensures { IfOk result (λ events. (before : List SpecEvent) → is_open before ≡ true
+        → is_list (before ++ events) ≡ true) }
 {
     let mut events = Events::new(alloc);
     events.push(event)?;
@@ -122,7 +123,7 @@ fn give_all<O: Outputs>(
     last: Event,
     outputs: &mut O,
 ) -> Result<Let, NoMemory>
-    requires { (opts : Options) × (before : List SpecEvent) × StandsFor opts before outlet.old }
+    requires { (opts : Options) × (before : List SpecEvent) × Represents opts before outlet.old }
 {
     for text in texts.split('/') {
         let mut events = events_of(alloc, text)?;
@@ -143,7 +144,7 @@ fn give_each(
     last: Event,
     outputs: &mut SureOutputs,
 ) -> Result<Let, NoMemory>
-    requires { (opts : Options) × (before : List SpecEvent) × StandsFor opts before outlet.old }
+    requires { (opts : Options) × (before : List SpecEvent) × Represents opts before outlet.old }
 {
     for line in texts.split(['/', '|']) {
         match outlet.take(event_of(alloc, line)?, outputs) {

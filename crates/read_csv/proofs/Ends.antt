@@ -7,7 +7,7 @@ use Rattle.std.proofs.lemmas.Bool.Decides.{nat_tests}
 use Rattle.mlr_lines.specs.Lines.{without_return}
 use Rattle.read_csv.specs.Fields.{quoted_at}
 use Rattle.read_csv.specs.Rules.{line_end}
-use Rattle.read_csv.proofs.Opening.{behind_text, quoted-open, quoted-other}
+use Rattle.read_csv.proofs.Opening.{after_text, quoted-open, quoted-other}
 
 abbrev cut_at : ℕ → List ℕ → List ℕ
 cut_at k line = cond (eqb (get_or line k 0) 13) (take k line) line
@@ -25,11 +25,11 @@ return-cons a b line =
     ap (λ k. cut_at k (a ∷ b ∷ line)) e ∙ cut_at-cons (length (b ∷ line) - 1) a (b ∷ line)
 
 -- a line behind an earlier line keeps its own CR
-pub return-behind : (front line : List ℕ) → without_return (front ++ 10 ∷ line) ≡ front ++ 10 ∷ without_return line
-return-behind [] [] = refl
-return-behind [] (b ∷ line) = return-cons 10 b line
-return-behind (a ∷ []) line = return-cons a 10 line ∙ ap (λ t. a ∷ t) (return-behind [] line)
-return-behind (a ∷ c ∷ front) line = return-cons a c (front ++ 10 ∷ line) ∙ ap (λ t. a ∷ t) (return-behind (c ∷ front) line)
+pub return-following : (prefix line : List ℕ) → without_return (prefix ++ 10 ∷ line) ≡ prefix ++ 10 ∷ without_return line
+return-following [] [] = refl
+return-following [] (b ∷ line) = return-cons 10 b line
+return-following (a ∷ []) line = return-cons a 10 line ∙ ap (λ t. a ∷ t) (return-following [] line)
+return-following (a ∷ c ∷ prefix) line = return-cons a c (prefix ++ 10 ∷ line) ∙ ap (λ t. a ∷ t) (return-following (c ∷ prefix) line)
 
 -- a line and its CR, if there is one
 return-parts : (line : List ℕ) → (without_return line ≡ line) ⊎ (line ≡ without_return line ++ 13 ∷ [])
@@ -48,9 +48,9 @@ return-parts (a ∷ b ∷ line) =
     ]
 
 abbrev IsEnd : List ℕ → Type 0
-IsEnd end = (more : List ℕ) → quoted_at (end ++ more) ≡ option_map (behind_text end) (quoted_at more)
+IsEnd end = (more : List ℕ) → quoted_at (end ++ more) ≡ option_map (after_text end) (quoted_at more)
 
-byte-end : (b : ℕ) (more : List ℕ) → eqb b 34 ≡ false → quoted_at (b ∷ more) ≡ option_map (behind_text (b ∷ [])) (quoted_at more)
+byte-end : (b : ℕ) (more : List ℕ) → eqb b 34 ≡ false → quoted_at (b ∷ more) ≡ option_map (after_text (b ∷ [])) (quoted_at more)
 byte-end b more other = quoted-open (b ∷ []) more (quoted-other b [] other)
 
 feed-end : IsEnd (10 ∷ [])

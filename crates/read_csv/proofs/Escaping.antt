@@ -8,7 +8,7 @@ use Rattle.mlr_spec.specs.Split.{split_by}
 use Rattle.mlr_record.specs.Parts.{parts_of_rest}
 use Rattle.mlr_event.specs.declared.options.ReadOpts.{ReadOpts}
 use Rattle.read_csv.specs.Fields.{Field, unescaped, tsv_fields, value_of}
-use Rattle.read_csv.specs.Taking.{RowState, tsv_reading, with_value, row_with}
+use Rattle.read_csv.specs.OpenRow.{RowState, tsv_reading, with_value, row_with}
 
 -- a text without a backslash
 unescaped-other : (b : ℕ) (text : List ℕ) → eqb b 92 ≡ false → unescaped (b ∷ text) ≡ b ∷ unescaped text

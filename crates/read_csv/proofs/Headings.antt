@@ -6,14 +6,14 @@ use Rattle.std.proofs.lemmas.List.{length-map}
 use Rattle.mlr_spec.specs.declared.infer.InferOpts.{InferOpts}
 use Rattle.mlr_spec.specs.declared.infer.Kind.{Kind}
 use Rattle.mlr_spec.specs.declared.infer.Kind.TheVariants.{Empty, Str, Int, Frac, Wide}
-use Rattle.mlr_spec.specs.Infer.{kind_of, kind_behind_sign, tree_of_kind, whole, word, is_octal, are_digits, is_based, is_fraction, number, base_of, is_negative, unsigned}
+use Rattle.mlr_spec.specs.Infer.{kind_of, kind_after_sign, tree_of_kind, whole, word, is_octal, are_digits, is_based, is_fraction, number, base_of, is_negative, unsigned}
 use Rattle.mlr_event.specs.declared.names.FileRef.{FileRef}
 use Rattle.mlr_event.specs.declared.options.ReadOpts.{ReadOpts}
 use Rattle.mlr_event.specs.declared.fault.Fault.TheVariants.{Length}
 use Rattle.mlr_event.specs.Reading.{fields, fault, record_of}
 use Rattle.read_csv.specs.Fields.{Field, quoted_value, value_of}
 use Rattle.read_csv.specs.Headers.{source_of, header_of, values_items, closed_values, values_header}
-use Rattle.read_csv.specs.Rows.{positions_from, row_keys, row_items, first_header, closed_items, header_behind}
+use Rattle.read_csv.specs.Rows.{positions_from, row_keys, row_items, first_header, closed_items, header_after}
 
 abbrev is_empty_kind : Kind → Bool
 is_empty_kind Empty = true
@@ -30,8 +30,8 @@ whole-kind false n = either-kind (nat_lt n (2 ^ 63)) (Int (pos n)) Wide refl ref
 word-kind : (negative : Bool) (n : ℕ) → is_empty_kind (word negative n) ≡ false
 word-kind negative n = either-kind (not negative && nat_le (2 ^ 63) n && nat_lt n (2 ^ 64)) (Int (pos n -ℤ pos (2 ^ 64))) (whole negative n) refl (whole-kind negative n)
 
-sign-kind : (octal negative : Bool) (text : List ℕ) → is_empty_kind (kind_behind_sign octal negative text) ≡ false
-unfolding kind_behind_sign
+sign-kind : (octal negative : Bool) (text : List ℕ) → is_empty_kind (kind_after_sign octal negative text) ≡ false
+unfolding kind_after_sign
 sign-kind octal negative text =
     let last : Kind = cond (is_fraction text) Frac Str in
     let based : Kind = cond (is_based text) (word negative (number (base_of text) (drop 2 text))) last in
@@ -50,7 +50,7 @@ source-kind Wide text is = refl
 
 source-data : (opts : InferOpts) (text : List ℕ) → source_of (tree_of_kind (kind_of opts text) text) ≡ text
 source-data opts [] = refl
-source-data opts (b ∷ text) = source-kind (kind_of opts (b ∷ text)) (b ∷ text) (either-kind opts.none Str (kind_behind_sign opts.octal (is_negative (b ∷ text)) (unsigned (b ∷ text))) refl (sign-kind opts.octal (is_negative (b ∷ text)) (unsigned (b ∷ text))))
+source-data opts (b ∷ text) = source-kind (kind_of opts (b ∷ text)) (b ∷ text) (either-kind opts.none Str (kind_after_sign opts.octal (is_negative (b ∷ text)) (unsigned (b ∷ text))) refl (sign-kind opts.octal (is_negative (b ∷ text)) (unsigned (b ∷ text))))
 
 source-quoted : (text : List ℕ) → source_of (quoted_value text) ≡ text
 source-quoted [] = refl
@@ -81,6 +81,6 @@ module _ (opts : ReadOpts) (row : List Field) where
       ap (λ items. cond opts.implicit items [])
       (items-are file line (header_of opts.implicit (map (value_of opts.infer) row)) ∙ ap (λ header. row_items opts file line header row) header-is)
 
-  pub header-behind : (header : Option (List (List ℕ))) → values_header opts header (map (value_of opts.infer) row) ≡ header_behind opts header row
-  header-behind (Some header) = refl
-  header-behind None = ap Some header-is
+  pub header-following : (header : Option (List (List ℕ))) → values_header opts header (map (value_of opts.infer) row) ≡ header_after opts header row
+  header-following (Some header) = refl
+  header-following None = ap Some header-is

@@ -8,4 +8,4 @@ pub mod Whole
 pub mod Headings
 pub mod Walk
 pub mod Files
-pub mod Fronts
+pub mod Prefixes

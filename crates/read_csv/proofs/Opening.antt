@@ -7,13 +7,13 @@ use Rattle.std.proofs.lemmas.Bool.Decides.{nat_tests}
 use Rattle.std.specs.Str.{bytes_eq}
 use Rattle.mlr_spec.specs.Split.{place_in, begins_with}
 use Rattle.mlr_spec.proofs.Splitting.{cases_Option, place_in-fits}
-use Rattle.read_csv.specs.Fields.{Field, First, Quoted, quoted_at, with_byte, before_next, behind_next, first_plain, first_quoted, first_field, fields_from, csv_fields}
-use Rattle.read_csv.specs.Taking.{Reading, open_text, reading_from, csv_reading}
-use Rattle.read_csv.proofs.Readings.{rest_of, rest-shorter, next-shorter, reading-is, reading_at, reading_behind}
+use Rattle.read_csv.specs.Fields.{Field, First, Quoted, quoted_at, with_byte, before_next, after_next, first_plain, first_quoted, first_field, fields_from, csv_fields}
+use Rattle.read_csv.specs.OpenRow.{Reading, open_text, reading_from, csv_reading}
+use Rattle.read_csv.proofs.Readings.{rest_of, rest-shorter, next-shorter, reading-is, reading_at, reading_after}
 
 -- more content before what stands in quotes
-abbrev pub behind_text : List ℕ → Quoted → Quoted
-behind_text content q = record { content = content ++ q.content; behind = q.behind }
+abbrev pub after_text : List ℕ → Quoted → Quoted
+after_text content q = record { content = content ++ q.content; following = q.following }
 
 -- the fields behind those that are done, of which the first goes on with what stands in the open quotes
 abbrev pub joined : List Field → List ℕ → List Field → List Field
@@ -24,11 +24,11 @@ pub record Opens (separator text : List ℕ) (done : List Field) (content : List
   pub goes_on : (more : List ℕ) → csv_fields separator (text ++ more) ≡ option_map (joined done content) (csv_fields separator (34 ∷ more))
 
 -- quotes
-map-none : (found : Option Quoted) → option_map (behind_text []) found ≡ found
+map-none : (found : Option Quoted) → option_map (after_text []) found ≡ found
 map-none None = refl
 map-none (Some q) = refl
 
-map-byte : (b : ℕ) (content : List ℕ) (found : Option Quoted) → with_byte b (option_map (behind_text content) found) ≡ option_map (behind_text (b ∷ content)) found
+map-byte : (b : ℕ) (content : List ℕ) (found : Option Quoted) → with_byte b (option_map (after_text content) found) ≡ option_map (after_text (b ∷ content)) found
 map-byte b content None = refl
 map-byte b content (Some q) = refl
 
@@ -39,10 +39,10 @@ quoted-other b (c ∷ text) other = rw other refl
 quoted-twice : (b c : ℕ) (text : List ℕ) → eqb b 34 ≡ true → eqb c 34 ≡ true → quoted_at (b ∷ c ∷ text) ≡ with_byte 34 (quoted_at text)
 quoted-twice b c text here twice = rw (here, twice) refl
 
-quoted-once : (b c : ℕ) (text : List ℕ) → eqb b 34 ≡ true → eqb c 34 ≡ false → quoted_at (b ∷ c ∷ text) ≡ Some (record { content = []; behind = c ∷ text })
+quoted-once : (b c : ℕ) (text : List ℕ) → eqb b 34 ≡ true → eqb c 34 ≡ false → quoted_at (b ∷ c ∷ text) ≡ Some (record { content = []; following = c ∷ text })
 quoted-once b c text here once = rw (here, once) refl
 
-quoted-last : (b : ℕ) → eqb b 34 ≡ true → quoted_at (b ∷ []) ≡ Some (record { content = []; behind = [] })
+quoted-last : (b : ℕ) → eqb b 34 ≡ true → quoted_at (b ∷ []) ≡ Some (record { content = []; following = [] })
 quoted-last b here = rw here refl
 
 open-other : (b : ℕ) (text : List ℕ) → eqb b 34 ≡ false → open_text (b ∷ text) ≡ b ∷ open_text text
@@ -56,29 +56,29 @@ byte-none : (b : ℕ) (found : Option Quoted) → with_byte b found ≡ None →
 byte-none b None is = refl
 byte-none b (Some q) is = absurd (cc)
 
-pub quoted-open : (text more : List ℕ) → quoted_at text ≡ None → quoted_at (text ++ more) ≡ option_map (behind_text (open_text text)) (quoted_at more)
+pub quoted-open : (text more : List ℕ) → quoted_at text ≡ None → quoted_at (text ++ more) ≡ option_map (after_text (open_text text)) (quoted_at more)
 quoted-open [] more none = sym (map-none (quoted_at more))
 quoted-open (b ∷ []) more none =
-    elim (cases_Bool (eqb b 34)) as (λ _. quoted_at (b ∷ more) ≡ option_map (behind_text (b ∷ [])) (quoted_at more)) [
-      | inl here ↦ absurd (let e : Some (record { content = []; behind = [] }) ≡ None = sym (quoted-last b here) ∙ none in cc)
+    elim (cases_Bool (eqb b 34)) as (λ _. quoted_at (b ∷ more) ≡ option_map (after_text (b ∷ [])) (quoted_at more)) [
+      | inl here ↦ absurd (let e : Some (record { content = []; following = [] }) ≡ None = sym (quoted-last b here) ∙ none in cc)
       | inr other ↦ quoted-other b more other ∙ ap (with_byte b) (sym (map-none (quoted_at more))) ∙ map-byte b [] (quoted_at more)
     ]
 quoted-open (b ∷ c ∷ text) more none =
-    elim (cases_Bool (eqb b 34)) as (λ _. quoted_at (b ∷ c ∷ text ++ more) ≡ option_map (behind_text (open_text (b ∷ c ∷ text))) (quoted_at more)) [
+    elim (cases_Bool (eqb b 34)) as (λ _. quoted_at (b ∷ c ∷ text ++ more) ≡ option_map (after_text (open_text (b ∷ c ∷ text))) (quoted_at more)) [
       | inl here ↦
-          elim (cases_Bool (eqb c 34)) as (λ _. quoted_at (b ∷ c ∷ text ++ more) ≡ option_map (behind_text (open_text (b ∷ c ∷ text))) (quoted_at more)) [
+          elim (cases_Bool (eqb c 34)) as (λ _. quoted_at (b ∷ c ∷ text ++ more) ≡ option_map (after_text (open_text (b ∷ c ∷ text))) (quoted_at more)) [
             | inl twice ↦
                 quoted-twice b c (text ++ more) here twice
                 ∙ ap (with_byte 34) (quoted-open text more (byte-none 34 (quoted_at text) (sym (quoted-twice b c text here twice) ∙ none)))
                 ∙ map-byte 34 (open_text text) (quoted_at more)
-                ∙ ap (λ t. option_map (behind_text t) (quoted_at more)) (sym (open-twice b c text here twice))
-            | inr once ↦ absurd (let e : Some (record { content = []; behind = c ∷ text }) ≡ None = sym (quoted-once b c text here once) ∙ none in cc)
+                ∙ ap (λ t. option_map (after_text t) (quoted_at more)) (sym (open-twice b c text here twice))
+            | inr once ↦ absurd (let e : Some (record { content = []; following = c ∷ text }) ≡ None = sym (quoted-once b c text here once) ∙ none in cc)
           ]
       | inr other ↦
           quoted-other b (c ∷ text ++ more) other
           ∙ ap (with_byte b) (quoted-open (c ∷ text) more (byte-none b (quoted_at (c ∷ text)) (sym (quoted-other b (c ∷ text) other) ∙ none)))
           ∙ map-byte b (open_text (c ∷ text)) (quoted_at more)
-          ∙ ap (λ t. option_map (behind_text t) (quoted_at more)) (sym (open-other b (c ∷ text) other))
+          ∙ ap (λ t. option_map (after_text t) (quoted_at more)) (sym (open-other b (c ∷ text) other))
     ]
 
 -- closed quotes stay closed, where something stands behind them
@@ -87,17 +87,17 @@ byte-some b None q is = absurd (let e : None ≡ Some q = is in cc)
 byte-some b (Some p) q is = (p, refl, sym is)
 
 abbrev longer : List ℕ → Quoted → Quoted
-longer more q = record { content = q.content; behind = q.behind ++ more }
+longer more q = record { content = q.content; following = q.following ++ more }
 
 longer-byte : (b : ℕ) (more : List ℕ) (found : Option Quoted) → with_byte b (option_map (longer more) found) ≡ option_map (longer more) (with_byte b found)
 longer-byte b more None = refl
 longer-byte b more (Some q) = refl
 
-pub quoted-closed : (text more : List ℕ) (q : Quoted) → quoted_at text ≡ Some q → 0 < length q.behind → quoted_at (text ++ more) ≡ option_map (longer more) (quoted_at text)
+pub quoted-closed : (text more : List ℕ) (q : Quoted) → quoted_at text ≡ Some q → 0 < length q.following → quoted_at (text ++ more) ≡ option_map (longer more) (quoted_at text)
 quoted-closed [] more q is some = absurd (let e : None ≡ Some q = is in cc)
 quoted-closed (b ∷ []) more q is some =
     elim (cases_Bool (eqb b 34)) as (λ _. quoted_at (b ∷ more) ≡ option_map (longer more) (quoted_at (b ∷ []))) [
-      | inl here ↦ let e : Some (record { content = []; behind = [] }) ≡ Some q = sym (quoted-last b here) ∙ is in let same : [] ≡ q.behind = cc in absurd (omega (arith, ap length same))
+      | inl here ↦ let e : Some (record { content = []; following = [] }) ≡ Some q = sym (quoted-last b here) ∙ is in let same : [] ≡ q.following = cc in absurd (omega (arith, ap length same))
       | inr other ↦ absurd (let e : None ≡ Some q = sym (quoted-other b [] other) ∙ is in cc)
     ]
 quoted-closed (b ∷ c ∷ text) more q is some =
@@ -106,7 +106,7 @@ quoted-closed (b ∷ c ∷ text) more q is some =
           elim (cases_Bool (eqb c 34)) as (λ _. quoted_at (b ∷ c ∷ text ++ more) ≡ option_map (longer more) (quoted_at (b ∷ c ∷ text))) [
             | inl twice ↦
                 let p = byte-some 34 (quoted_at text) q (sym (quoted-twice b c text here twice) ∙ is) in
-                let same : q.behind ≡ p.0.behind = (let e : Some q ≡ Some (record { content = 34 ∷ p.0.content; behind = p.0.behind }) = p.2 in cc) in
+                let same : q.following ≡ p.0.following = (let e : Some q ≡ Some (record { content = 34 ∷ p.0.content; following = p.0.following }) = p.2 in cc) in
                 quoted-twice b c (text ++ more) here twice
                 ∙ ap (with_byte 34) (quoted-closed text more p.0 p.1 (omega (arith, ap length same)))
                 ∙ longer-byte 34 more (quoted_at text)
@@ -115,7 +115,7 @@ quoted-closed (b ∷ c ∷ text) more q is some =
           ]
       | inr other ↦
           let p = byte-some b (quoted_at (c ∷ text)) q (sym (quoted-other b (c ∷ text) other) ∙ is) in
-          let same : q.behind ≡ p.0.behind = (let e : Some q ≡ Some (record { content = b ∷ p.0.content; behind = p.0.behind }) = p.2 in cc) in
+          let same : q.following ≡ p.0.following = (let e : Some q ≡ Some (record { content = b ∷ p.0.content; following = p.0.following }) = p.2 in cc) in
           quoted-other b (c ∷ text ++ more) other
           ∙ ap (with_byte b) (quoted-closed (c ∷ text) more p.0 p.1 (omega (arith, ap length same)))
           ∙ longer-byte b more (quoted_at (c ∷ text))
@@ -152,10 +152,10 @@ abbrev before_at : List ℕ → Option ℕ → List ℕ
 before_at text found = elim found [ Some place ↦ take place text | None ↦ text ]
 
 -- what a found separator cuts off, where more follows
-pub next-more : (separator text more rest : List ℕ) → behind_next separator text ≡ Some rest
-    → (before_next separator (text ++ more) ≡ before_next separator text) × (behind_next separator (text ++ more) ≡ Some (rest ++ more))
+pub next-more : (separator text more rest : List ℕ) → after_next separator text ≡ Some rest
+    → (before_next separator (text ++ more) ≡ before_next separator text) × (after_next separator (text ++ more) ≡ Some (rest ++ more))
 next-more separator text more rest is =
-    elim (cases_Option (place_in separator text)) as (λ _. (before_next separator (text ++ more) ≡ before_next separator text) × (behind_next separator (text ++ more) ≡ Some (rest ++ more))) [
+    elim (cases_Option (place_in separator text)) as (λ _. (before_next separator (text ++ more) ≡ before_next separator text) × (after_next separator (text ++ more) ≡ Some (rest ++ more))) [
       | inl none ↦ absurd (let e : None ≡ Some rest = sym (ap (next_at separator text) none) ∙ is in cc)
       | inr found ↦
           let place = found.0 in
@@ -169,61 +169,61 @@ next-more separator text more rest is =
     ]
 
 abbrev firstly : List ℕ → First → First
-firstly rest first = record { field = first.field; behind = Some rest }
+firstly rest first = record { field = first.field; following = Some rest }
 
 -- the first field stays, where more follows
-quoted-first-more : (separator text more rest : List ℕ) (first : First) (found : Option Quoted) → 0 < length separator → quoted_at text ≡ found → first_quoted separator found ≡ Some first → first.behind ≡ Some rest
+quoted-first-more : (separator text more rest : List ℕ) (first : First) (found : Option Quoted) → 0 < length separator → quoted_at text ≡ found → first_quoted separator found ≡ Some first → first.following ≡ Some rest
     → first_quoted separator (quoted_at (text ++ more)) ≡ Some (firstly (rest ++ more) first)
-quoted-first-more separator text more rest first None some found is behind = absurd (let e : None ≡ Some first = is in cc)
-quoted-first-more separator text more rest first (Some q) some found is behind =
-    let made : First = record { field = record { quoted = true; text = q.content ++ before_next separator q.behind }; behind = behind_next separator q.behind } in
+quoted-first-more separator text more rest first None some found is following = absurd (let e : None ≡ Some first = is in cc)
+quoted-first-more separator text more rest first (Some q) some found is following =
+    let made : First = record { field = record { quoted = true; text = q.content ++ before_next separator q.following }; following = after_next separator q.following } in
     let e : Some made ≡ Some first = is in
     let same : made ≡ first = cc in
-    let next : behind_next separator q.behind ≡ Some rest = ap (λ (f : First). f.behind) same ∙ behind in
-    let cut = next-more separator q.behind more rest next in
-    let some_behind : 0 < length q.behind = omega (arith, next-shorter separator q.behind rest some next) in
-    ap (first_quoted separator) (quoted-closed text more q found some_behind ∙ ap (option_map (longer more)) found)
-    ∙ ap₂ (λ before behind. Some (record { field = record { quoted = true; text = q.content ++ before }; behind = behind })) cut.0 cut.1
+    let next : after_next separator q.following ≡ Some rest = ap (λ (f : First). f.following) same ∙ following in
+    let cut = next-more separator q.following more rest next in
+    let some_after : 0 < length q.following = omega (arith, next-shorter separator q.following rest some next) in
+    ap (first_quoted separator) (quoted-closed text more q found some_after ∙ ap (option_map (longer more)) found)
+    ∙ ap₂ (λ before following. Some (record { field = record { quoted = true; text = q.content ++ before }; following = following })) cut.0 cut.1
     ∙ ap (λ (f : First). Some (firstly (rest ++ more) f)) same
 
-first-more : (separator text more rest : List ℕ) (first : First) → 0 < length separator → first_field separator text ≡ Some first → first.behind ≡ Some rest
+first-more : (separator text more rest : List ℕ) (first : First) → 0 < length separator → first_field separator text ≡ Some first → first.following ≡ Some rest
     → first_field separator (text ++ more) ≡ Some (firstly (rest ++ more) first)
-first-more separator [] more rest first some is behind =
-    let made : First = record { field = record { quoted = false; text = [] }; behind = None } in
+first-more separator [] more rest first some is following =
+    let made : First = record { field = record { quoted = false; text = [] }; following = None } in
     let e : Some made ≡ Some first = is in
     let same : made ≡ first = cc in
-    absurd (let f : None ≡ Some rest = ap (λ (f : First). f.behind) same ∙ behind in cc)
-first-more separator (b ∷ text) more rest first some is behind =
+    absurd (let f : None ≡ Some rest = ap (λ (f : First). f.following) same ∙ following in cc)
+first-more separator (b ∷ text) more rest first some is following =
     let at = λ (t : Bool) (quoted plain : Option First). cond t quoted plain in
     elim (cases_Bool (eqb b 34)) as (λ _. first_field separator (b ∷ text ++ more) ≡ Some (firstly (rest ++ more) first)) [
       | inl here ↦
           let e : first_quoted separator (quoted_at text) ≡ Some first = sym (ap (λ t. at t (first_quoted separator (quoted_at text)) (first_plain separator (b ∷ text))) here) ∙ is in
           ap (λ t. at t (first_quoted separator (quoted_at (text ++ more))) (first_plain separator (b ∷ text ++ more))) here
-          ∙ quoted-first-more separator text more rest first (quoted_at text) some refl e behind
+          ∙ quoted-first-more separator text more rest first (quoted_at text) some refl e following
       | inr other ↦
-          let made : First = record { field = record { quoted = false; text = before_next separator (b ∷ text) }; behind = behind_next separator (b ∷ text) } in
+          let made : First = record { field = record { quoted = false; text = before_next separator (b ∷ text) }; following = after_next separator (b ∷ text) } in
           let e : Some made ≡ Some first = sym (ap (λ t. at t (first_quoted separator (quoted_at text)) (first_plain separator (b ∷ text))) other) ∙ is in
           let same : made ≡ first = cc in
-          let cut = next-more separator (b ∷ text) more rest (ap (λ (f : First). f.behind) same ∙ behind) in
+          let cut = next-more separator (b ∷ text) more rest (ap (λ (f : First). f.following) same ∙ following) in
           ap (λ t. at t (first_quoted separator (quoted_at (text ++ more))) (first_plain separator (b ∷ text ++ more))) other
-          ∙ ap₂ (λ before behind. Some (record { field = record { quoted = false; text = before }; behind = behind })) cut.0 cut.1
+          ∙ ap₂ (λ before following. Some (record { field = record { quoted = false; text = before }; following = following })) cut.0 cut.1
           ∙ ap (λ (f : First). Some (firstly (rest ++ more) f)) same
     ]
 
 -- a text as its first field and its other fields
-abbrev fields_behind : Field → (List ℕ → Option (List Field)) → Option (List ℕ) → Option (List Field)
-fields_behind field more behind = elim behind [ None ↦ Some (field ∷ []) | Some rest ↦ option_map (λ fields. field ∷ fields) (more rest) ]
+abbrev fields_after : Field → (List ℕ → Option (List Field)) → Option (List ℕ) → Option (List Field)
+fields_after field more following = elim following [ None ↦ Some (field ∷ []) | Some rest ↦ option_map (λ fields. field ∷ fields) (more rest) ]
 
 abbrev fields_at : (List ℕ → Option (List Field)) → Option First → Option (List Field)
-fields_at more found = elim found [ None ↦ None | Some first ↦ fields_behind first.field more first.behind ]
+fields_at more found = elim found [ None ↦ None | Some first ↦ fields_after first.field more first.following ]
 
 fields_at-same : (more more_2 : List ℕ → Option (List Field)) (found : Option First) → ((rest : List ℕ) → rest_of found ≡ Some rest → more rest ≡ more_2 rest)
     → fields_at more found ≡ fields_at more_2 found
 fields_at-same more more_2 None same = refl
 fields_at-same more more_2 (Some first) same =
-    elim (cases_Option first.behind) as (λ _. fields_at more (Some first) ≡ fields_at more_2 (Some first)) [
-      | inl none ↦ ap (fields_behind first.field more) none ∙ sym (ap (fields_behind first.field more_2) none)
-      | inr some ↦ ap (fields_behind first.field more) some.1 ∙ ap (option_map (λ fields. first.field ∷ fields)) (same some.0 some.1) ∙ sym (ap (fields_behind first.field more_2) some.1)
+    elim (cases_Option first.following) as (λ _. fields_at more (Some first) ≡ fields_at more_2 (Some first)) [
+      | inl none ↦ ap (fields_after first.field more) none ∙ sym (ap (fields_after first.field more_2) none)
+      | inr some ↦ ap (fields_after first.field more) some.1 ∙ ap (option_map (λ fields. first.field ∷ fields)) (same some.0 some.1) ∙ sym (ap (fields_after first.field more_2) some.1)
     ]
 
 fields-steps : (separator : List ℕ) (n m : ℕ) (text : List ℕ) → 0 < length separator → length text < n → length text < m → fields_from n separator text ≡ fields_from m separator text
@@ -243,17 +243,17 @@ csv-is separator text some =
 abbrev pub fields_read : Reading → Option (List Field)
 fields_read more = elim more.left_open [ None ↦ Some more.fields | Some content ↦ None ]
 
-read-behind : (field : Field) (more : Reading) → option_map (λ fields. field ∷ fields) (fields_read more) ≡ fields_read (record { fields = field ∷ more.fields; left_open = more.left_open })
-read-behind field more =
+read-following : (field : Field) (more : Reading) → option_map (λ fields. field ∷ fields) (fields_read more) ≡ fields_read (record { fields = field ∷ more.fields; left_open = more.left_open })
+read-following field more =
     elim (cases_Option more.left_open) as (λ _. option_map (λ fields. field ∷ fields) (fields_read more) ≡ fields_read (record { fields = field ∷ more.fields; left_open = more.left_open })) [
       | inl none ↦ rw none refl
       | inr some ↦ rw some.1 refl
     ]
 
-fields-read-first : (behind : Option (List ℕ)) (field : Field) (more : List ℕ → Option (List Field)) (more_2 : List ℕ → Reading) → ((rest : List ℕ) → more rest ≡ fields_read (more_2 rest))
-    → fields_behind field more behind ≡ fields_read (reading_behind field more_2 behind)
+fields-read-first : (following : Option (List ℕ)) (field : Field) (more : List ℕ → Option (List Field)) (more_2 : List ℕ → Reading) → ((rest : List ℕ) → more rest ≡ fields_read (more_2 rest))
+    → fields_after field more following ≡ fields_read (reading_after field more_2 following)
 fields-read-first None field more more_2 same = refl
-fields-read-first (Some rest) field more more_2 same = ap (option_map (λ fields. field ∷ fields)) (same rest) ∙ read-behind field (more_2 rest)
+fields-read-first (Some rest) field more more_2 same = ap (option_map (λ fields. field ∷ fields)) (same rest) ∙ read-following field (more_2 rest)
 
 fields-read : (n : ℕ) (separator text : List ℕ) → fields_from n separator text ≡ fields_read (reading_from n separator text)
 fields-read zero separator text = refl
@@ -263,7 +263,7 @@ fields-read (suc n) separator text =
       | inr some ↦
           let first = some.0 in
           ap (fields_at (fields_from n separator)) some.1
-          ∙ fields-read-first first.behind first.field (fields_from n separator) (reading_from n separator) (λ rest. fields-read n separator rest)
+          ∙ fields-read-first first.following first.field (fields_from n separator) (reading_from n separator) (λ rest. fields-read n separator rest)
           ∙ sym (ap (λ f. fields_read (reading_at (reading_from n separator) text f)) some.1)
     ]
 
@@ -276,17 +276,17 @@ joined-more : (content text : List ℕ) (found : Option (List Field))
 joined-more content text None = refl
 joined-more content text (Some fields) = refl
 
-joined-behind : (content text : List ℕ) (more : List ℕ → Option (List Field)) (behind : Option (List ℕ))
-    → fields_behind (record { quoted = true; text = content ++ text }) more behind ≡ option_map (joined [] content) (fields_behind (record { quoted = true; text = text }) more behind)
-joined-behind content text more None = refl
-joined-behind content text more (Some rest) = joined-more content text (more rest)
+joined-following : (content text : List ℕ) (more : List ℕ → Option (List Field)) (following : Option (List ℕ))
+    → fields_after (record { quoted = true; text = content ++ text }) more following ≡ option_map (joined [] content) (fields_after (record { quoted = true; text = text }) more following)
+joined-following content text more None = refl
+joined-following content text more (Some rest) = joined-more content text (more rest)
 
 joined-first : (separator content : List ℕ) (more : List ℕ → Option (List Field)) (found : Option Quoted)
-    → fields_at more (first_quoted separator (option_map (behind_text content) found)) ≡ option_map (joined [] content) (fields_at more (first_quoted separator found))
+    → fields_at more (first_quoted separator (option_map (after_text content) found)) ≡ option_map (joined [] content) (fields_at more (first_quoted separator found))
 joined-first separator content more None = refl
 joined-first separator content more (Some q) =
-    ap (λ t. fields_behind (record { quoted = true; text = t }) more (behind_next separator q.behind)) (append_assoc content q.content (before_next separator q.behind))
-    ∙ joined-behind content (q.content ++ before_next separator q.behind) more (behind_next separator q.behind)
+    ap (λ t. fields_after (record { quoted = true; text = t }) more (after_next separator q.following)) (append_assoc content q.content (before_next separator q.following))
+    ∙ joined-following content (q.content ++ before_next separator q.following) more (after_next separator q.following)
 
 -- fields that are done, and then more
 joined-cons : (field : Field) (done : List Field) (content : List ℕ) (found : Option (List Field))
@@ -332,7 +332,7 @@ joined-joined done content (g ∷ more) more_content (Some (f ∷ fields)) =
 
 -- what is read behind an open quote
 module _ (separator : List ℕ) (some : 0 < length separator) where
-  quotes-go_on : (content text more : List ℕ) → quoted_at (text ++ more) ≡ option_map (behind_text content) (quoted_at more)
+  quotes-go_on : (content text more : List ℕ) → quoted_at (text ++ more) ≡ option_map (after_text content) (quoted_at more)
       → csv_fields separator (34 ∷ text ++ more) ≡ option_map (joined [] content) (csv_fields separator (34 ∷ more))
   quotes-go_on content text more is =
       csv-is separator (34 ∷ text ++ more) some ∙ ap (λ found. fields_at (csv_fields separator) (first_quoted separator found)) is
@@ -350,27 +350,27 @@ module _ (separator : List ℕ) (some : 0 < length separator) where
             ∙ ap (λ c. option_map (joined [] c) (csv_fields separator (34 ∷ more))) same;
       }
 
-  opens-some : (text rest content : List ℕ) (first : First) → first_field separator text ≡ Some first → first.behind ≡ Some rest → Opens separator rest (csv_reading separator rest).fields content
+  opens-some : (text rest content : List ℕ) (first : First) → first_field separator text ≡ Some first → first.following ≡ Some rest → Opens separator rest (csv_reading separator rest).fields content
       → Opens separator text (first.field ∷ (csv_reading separator rest).fields) content
-  opens-some text rest content first is behind more_is = record {
+  opens-some text rest content first is following more_is = record {
     goes_on = λ more. csv-is separator (text ++ more) some
-        ∙ ap (fields_at (csv_fields separator)) (first-more separator text more rest first some is behind)
+        ∙ ap (fields_at (csv_fields separator)) (first-more separator text more rest first some is following)
         ∙ ap (option_map (λ fields. first.field ∷ fields)) (more_is.goes_on more)
         ∙ joined-cons first.field (csv_reading separator rest).fields content (csv_fields separator (34 ∷ more));
   }
 
-  opens-behind : (text content : List ℕ) (first : First) (behind : Option (List ℕ)) → first_field separator text ≡ Some first → first.behind ≡ behind
-      → (reading_behind first.field (csv_reading separator) behind).left_open ≡ Some content
+  opens-following : (text content : List ℕ) (first : First) (following : Option (List ℕ)) → first_field separator text ≡ Some first → first.following ≡ following
+      → (reading_after first.field (csv_reading separator) following).left_open ≡ Some content
       → ((rest : List ℕ) → rest_of (first_field separator text) ≡ Some rest → (csv_reading separator rest).left_open ≡ Some content → Opens separator rest (csv_reading separator rest).fields content)
-      → Opens separator text (reading_behind first.field (csv_reading separator) behind).fields content
-  opens-behind text content first None is behind left more = absurd (let e : None ≡ Some content = left in cc)
-  opens-behind text content first (Some rest) is behind left more = opens-some text rest content first is behind (more rest (ap rest_of is ∙ behind) left)
+      → Opens separator text (reading_after first.field (csv_reading separator) following).fields content
+  opens-following text content first None is following left more = absurd (let e : None ≡ Some content = left in cc)
+  opens-following text content first (Some rest) is following left more = opens-some text rest content first is following (more rest (ap rest_of is ∙ following) left)
 
   opens-at : (text : List ℕ) (found : Option First) (content : List ℕ) → first_field separator text ≡ found → (reading_at (csv_reading separator) text found).left_open ≡ Some content
       → ((rest : List ℕ) → rest_of (first_field separator text) ≡ Some rest → (csv_reading separator rest).left_open ≡ Some content → Opens separator rest (csv_reading separator rest).fields content)
       → Opens separator text (reading_at (csv_reading separator) text found).fields content
   opens-at text None content is left more = opens-none text content is left
-  opens-at text (Some first) content is left more = opens-behind text content first first.behind is refl left more
+  opens-at text (Some first) content is left more = opens-following text content first first.following is refl left more
 
   pub opens : (n : ℕ) (text : List ℕ) → length text < n → (content : List ℕ) → (csv_reading separator text).left_open ≡ Some content
       → Opens separator text (csv_reading separator text).fields content
@@ -382,7 +382,7 @@ module _ (separator : List ℕ) (some : 0 < length separator) where
       (λ rest here left. opens n rest (omega (arith, rest-shorter separator text rest some here)) content left))
 
   -- text without quotes goes on in open quotes
-  pub opens-text : (text : List ℕ) (done : List Field) (content end : List ℕ) → Opens separator text done content → ((more : List ℕ) → quoted_at (end ++ more) ≡ option_map (behind_text end) (quoted_at more))
+  pub opens-text : (text : List ℕ) (done : List Field) (content end : List ℕ) → Opens separator text done content → ((more : List ℕ) → quoted_at (end ++ more) ≡ option_map (after_text end) (quoted_at more))
       → Opens separator (text ++ end) done (content ++ end)
   opens-text text done content end open_row plain = record {
     goes_on = λ more. ap (csv_fields separator) (append_assoc text end more) ∙ open_row.goes_on (end ++ more)

@@ -9,13 +9,13 @@ use Rattle.std.specs.Str.{bytes_eq}
 use Rattle.mlr_spec.specs.Pairs.{are_distinct, value_at, put_at, keys_of}
 use Rattle.mlr_spec.specs.Tree.{Tree}
 use Rattle.mlr_spec.proofs.Flattening.{put_each-distinct}
-use Rattle.mlr_event.specs.Reading.{is_among, free_name, distinct_behind, distinct_names, record_of}
+use Rattle.mlr_event.specs.Reading.{is_among, free_name, distinct_after, distinct_names, record_of}
 use Rattle.mlr_event.specs.Rows.{with_field, with_fields}
 use Rattle.mlr_event.proofs.Distinct.{are_distinct-names, free_name-free, length-distinct}
 use Rattle.mlr_event.proofs.Putting.{with_fields-more, with_fields-none, value_at-free, record_of-is}
 use Rattle.read_csv.specs.Rows.{positions_from, row_keys}
 
-pub take-distinct : (before names : List (List ℕ)) (n : ℕ) → distinct_behind before (take n names) ≡ take n (distinct_behind before names)
+pub take-distinct : (before names : List (List ℕ)) (n : ℕ) → distinct_after before (take n names) ≡ take n (distinct_after before names)
 take-distinct before [] zero = refl
 take-distinct before [] (suc n) = refl
 take-distinct before (name ∷ names) zero = refl
@@ -23,13 +23,13 @@ take-distinct before (name ∷ names) (suc n) = ap (λ more. free_name before na
 
 -- a distinct name is the name as it is free behind those before it
 distinct-at : (before names : List (List ℕ)) (place : ℕ) (name key : List ℕ) → place < length names
-    → get_or (distinct_behind before names) place key ≡ free_name (before ++ take place (distinct_behind before names)) (get_or names place name)
+    → get_or (distinct_after before names) place key ≡ free_name (before ++ take place (distinct_after before names)) (get_or names place name)
 distinct-at before [] place name key below = absurd (omega arith)
 distinct-at before (n ∷ names) zero name key below = ap (λ b. free_name b n) (sym (append-nil before))
 distinct-at before (n ∷ names) (suc place) name key below =
     let free = free_name before n in
     distinct-at (before ++ free ∷ []) names place name key (omega arith)
-    ∙ ap (λ b. free_name b (get_or names place name)) (append_assoc before (free ∷ []) (take place (distinct_behind (before ++ free ∷ []) names)))
+    ∙ ap (λ b. free_name b (get_or names place name)) (append_assoc before (free ∷ []) (take place (distinct_after (before ++ free ∷ []) names)))
 
 keys-paired : (names : List (List ℕ)) (values : List Tree) → length names ≡ length values → keys_of (zip names values) ≡ names
 keys-paired [] values same = refl
@@ -173,7 +173,7 @@ keys-named header n named low low_2 full =
       | inl less ↦
           let is = full less in
           let whole : take (length header) header ≡ take n header = take_all (length header) header (omega arith) ∙ sym (take_all n header (omega arith)) in
-          ap (λ k. take k header ++ positions_from (k + 1) (n - k)) is ∙ ap (λ front. front ++ positions_from (length header + 1) (n - length header)) whole
+          ap (λ k. take k header ++ positions_from (k + 1) (n - k)) is ∙ ap (λ prefix. prefix ++ positions_from (length header + 1) (n - length header)) whole
       | inr more ↦
           let is : named ≡ n = omega arith in
           ap₂ (λ k count. take k header ++ positions_from (k + 1) count) is (let e : n - named ≡ 0 = omega arith in e)

@@ -12,10 +12,10 @@ use Rattle.mlr_event.proofs.Streams.{has_fault-comment, ctx_after-comment}
 use Rattle.mlr_lines.specs.Lines.{without_return}
 use Rattle.read_csv.specs.declared.rules.RowRules.{RowRules}
 use Rattle.read_csv.specs.Fields.{Field, csv_fields, value_of}
-use Rattle.read_csv.specs.Rows.{Begun, begins_at, closed_items, end_items, goes_on, header_behind, is_skipped, row_fields, rows_from, skipped_items}
-use Rattle.read_csv.specs.Rules.{after_line, begins_now, behind_row, behind_text, gives_line, is_passed, last_items, line_end, open_items, row_gives, text_items, with_end}
-use Rattle.read_csv.specs.Taking.{RowState, no_row, row_taken}
-use Rattle.read_csv.proofs.Headings.{closed-are, header-behind}
+use Rattle.read_csv.specs.Rows.{Begun, begins_at, closed_items, end_items, goes_on, header_after, is_skipped, row_fields, rows_from, skipped_items}
+use Rattle.read_csv.specs.Rules.{after_line, begins_now, after_row, after_text, gives_line, is_passed, last_items, line_end, open_items, row_gives, text_items, with_end}
+use Rattle.read_csv.specs.OpenRow.{RowState, no_row, row_taken}
+use Rattle.read_csv.proofs.Headings.{closed-are, header-following}
 use Rattle.read_csv.proofs.Opening.{joined}
 use Rattle.read_csv.proofs.Whole.{Closed, Fits, LeftOpen, ended-open, return-on, took, usable-some}
 
@@ -55,7 +55,7 @@ pub record Step (rules : RowRules) (begun : Begun) (line : List ℕ) : Type 0 wh
 
 pub record LastStep (rules : RowRules) (begun : Begun) (line : List ℕ) : Type 0 where
   pub items_are : last_items rules line ≡ end_items rules.opts rules.file rules.number begun rules.header line
-  pub at_is : (behind_text rules line).at ≡ ctx_after rules.at (last_items rules line)
+  pub at_is : (after_text rules line).at ≡ ctx_after rules.at (last_items rules line)
 
 -- an if by its test
 abbrev branch : {A : Type 0} → Bool → A → A → A
@@ -94,7 +94,7 @@ module _ (rules : RowRules) (begun : Begun) (fits : Fits rules.opts begun rules.
         gives = ap (λ s. branch s [] (events_of rules.at (text_items rules text))) goes
             ∙ ap (λ p. events_of rules.at (branch p (skipped_items rules.opts text) (row_gives rules (row_now text)))) passed;
         next = finished line rules;
-        next_is = ap (λ s. branch s rules (finished line (behind_text rules text))) goes ∙ ap (λ p. finished line (branch p rules (behind_row rules (row_now text)))) passed;
+        next_is = ap (λ s. branch s rules (finished line (after_text rules text))) goes ∙ ap (λ p. finished line (branch p rules (after_row rules (row_now text)))) passed;
         at_is = sym (ctx-skipped rules.opts text rules.at);
         stopped_is = goes ∙ sym (no_fault-skipped rules.opts text);
         next_begun = None;
@@ -103,7 +103,7 @@ module _ (rules : RowRules) (begun : Begun) (fits : Fits rules.opts begun rules.
             (elim (row_fields rules.opts (without_return (goes_on begun line))) [
               | None ↦ rows_from rules.opts rules.file last (rules.number + 1) (Some (begins_at begun rules.number, goes_on begun line)) rules.header lines
               | Some found ↦ closed_items rules.opts rules.file (begins_at begun rules.number) rules.header found
-                  ++ rows_from rules.opts rules.file last (rules.number + 1) None (header_behind rules.opts rules.header found) lines
+                  ++ rows_from rules.opts rules.file last (rules.number + 1) None (header_after rules.opts rules.header found) lines
             ])) skipped;
       }
 
@@ -118,23 +118,23 @@ module _ (rules : RowRules) (begun : Begun) (fits : Fits rules.opts begun rules.
         ∙ ap (λ p. events_of rules.at (branch p (skipped_items rules.opts text) (row_gives rules (row_now text)))) taken
         ∙ ap (λ r. events_of rules.at (row_gives rules r)) is
 
-    next-row : (row : RowState) → row_now text ≡ row → after_line rules line ≡ finished line (behind_row rules row)
+    next-row : (row : RowState) → row_now text ≡ row → after_line rules line ≡ finished line (after_row rules row)
     next-row row is =
-        ap (λ s. branch s rules (finished line (behind_text rules text))) goes
-        ∙ ap (λ p. finished line (branch p rules (behind_row rules (row_now text)))) taken
-        ∙ ap (λ r. finished line (behind_row rules r)) is
+        ap (λ s. branch s rules (finished line (after_text rules text))) goes
+        ∙ ap (λ p. finished line (branch p rules (after_row rules (row_now text)))) taken
+        ∙ ap (λ r. finished line (after_row rules r)) is
 
     rows-row : (found : Option (List Field)) → row_fields rules.opts (goes_on begun text) ≡ found → (last : Option (List ℕ)) (lines : List (List ℕ))
         → rows_from rules.opts rules.file last rules.number begun rules.header (line ∷ lines) ≡ (elim found [
           | None ↦ rows_from rules.opts rules.file last (rules.number + 1) (Some (begins_at begun rules.number, goes_on begun line)) rules.header lines
           | Some found ↦ closed_items rules.opts rules.file (begins_at begun rules.number) rules.header found
-              ++ rows_from rules.opts rules.file last (rules.number + 1) None (header_behind rules.opts rules.header found) lines
+              ++ rows_from rules.opts rules.file last (rules.number + 1) None (header_after rules.opts rules.header found) lines
         ])
     rows-row found is last lines =
         let by : Option (List Field) → List Item = λ f. elim f [
           | None ↦ rows_from rules.opts rules.file last (rules.number + 1) (Some (begins_at begun rules.number, goes_on begun line)) rules.header lines
           | Some found ↦ closed_items rules.opts rules.file (begins_at begun rules.number) rules.header found
-              ++ rows_from rules.opts rules.file last (rules.number + 1) None (header_behind rules.opts rules.header found) lines
+              ++ rows_from rules.opts rules.file last (rules.number + 1) None (header_after rules.opts rules.header found) lines
         ] in
         ap (λ p. branch p (skipped_items rules.opts text ++ rows_from rules.opts rules.file last (rules.number + 1) None rules.header lines) (by (row_fields rules.opts (without_return (goes_on begun line)))))
         (sym (passed-as begun fits text) ∙ taken)
@@ -146,7 +146,7 @@ module _ (rules : RowRules) (begun : Begun) (fits : Fits rules.opts begun rules.
         record {
           items = [];
           gives = gives-row row open_row.row_is;
-          next = finished line (behind_row rules row);
+          next = finished line (after_row rules row);
           next_is = next-row row open_row.row_is;
           at_is = refl;
           stopped_is = refl;
@@ -161,7 +161,7 @@ module _ (rules : RowRules) (begun : Begun) (fits : Fits rules.opts begun rules.
         record {
           items = row_gives rules row;
           gives = gives-row row closed.row_is;
-          next = finished line (behind_row rules row);
+          next = finished line (after_row rules row);
           next_is = next-row row closed.row_is;
           at_is = refl;
           stopped_is = refl;
@@ -170,7 +170,7 @@ module _ (rules : RowRules) (begun : Begun) (fits : Fits rules.opts begun rules.
           rows = λ last lines. rows-row (Some closed.found) closed.fields_are last lines
               ∙ ap₂ (λ items header. items ++ rows_from rules.opts rules.file last (rules.number + 1) None header lines)
               (ap (λ n. closed_items rules.opts rules.file n rules.header closed.found) (sym (begins-as begun fits)) ∙ sym (closed-are rules.opts closed.found rules.file (begins_now rules) rules.header))
-              (sym (header-behind rules.opts closed.found rules.header));
+              (sym (header-following rules.opts closed.found rules.header));
         }
 
     taken-step : Step rules begun line
@@ -187,30 +187,30 @@ module _ (rules : RowRules) (begun : Begun) (fits : Fits rules.opts begun rules.
       | Some f ↦ closed_items rules.opts rules.file (begins_at begun rules.number) rules.header f
     ]
 
-    last-row : (row : RowState) → row_now line ≡ row → is_passed rules line ≡ false → last_items rules line ≡ row_gives rules row ++ open_items (behind_row rules row)
+    last-row : (row : RowState) → row_now line ≡ row → is_passed rules line ≡ false → last_items rules line ≡ row_gives rules row ++ open_items (after_row rules row)
     last-row row is taken =
-        ap (λ p. branch p (skipped_items rules.opts line) (row_gives rules (row_now line)) ++ open_items (branch p rules (behind_row rules (row_now line)))) taken
-        ∙ ap (λ r. row_gives rules r ++ open_items (behind_row rules r)) is
+        ap (λ p. branch p (skipped_items rules.opts line) (row_gives rules (row_now line)) ++ open_items (branch p rules (after_row rules (row_now line)))) taken
+        ∙ ap (λ r. row_gives rules r ++ open_items (after_row rules r)) is
 
     end-row : (found : Option (List Field)) → row_fields rules.opts (goes_on begun line) ≡ found → is_passed rules line ≡ false
         → end_items rules.opts rules.file rules.number begun rules.header line ≡ end_by found
     end-row found is taken =
         ap (λ p. branch p (skipped_items rules.opts line) (end_by (row_fields rules.opts (goes_on begun line)))) (sym (passed-as begun fits line) ∙ taken) ∙ ap end_by is
 
-    at-row : (row : RowState) → row_now line ≡ row → is_passed rules line ≡ false → (behind_text rules line).at ≡ ctx_after rules.at (row_gives rules row)
+    at-row : (row : RowState) → row_now line ≡ row → is_passed rules line ≡ false → (after_text rules line).at ≡ ctx_after rules.at (row_gives rules row)
     at-row row is taken =
-        ap (λ p. (branch p rules (behind_row rules (row_now line))).at) taken ∙ ap (λ r. ctx_after rules.at (row_gives rules r)) is
+        ap (λ p. (branch p rules (after_row rules (row_now line))).at) taken ∙ ap (λ r. ctx_after rules.at (row_gives rules r)) is
 
     skipped-last : is_passed rules line ≡ true → LastStep rules begun line
     skipped-last passed =
         let skipped : is_skipped rules.opts begun line ≡ true = sym (passed-as begun fits line) ∙ passed in
         let none : open_items rules ≡ [] = ap (λ (r : RowState). branch (is_some r.quotes) (fault (Quote rules.file rules.begins) ∷ []) []) (passed-none begun line skipped fits) in
         let items : last_items rules line ≡ skipped_items rules.opts line =
-        ap (λ p. branch p (skipped_items rules.opts line) (row_gives rules (row_now line)) ++ open_items (branch p rules (behind_row rules (row_now line)))) passed
+        ap (λ p. branch p (skipped_items rules.opts line) (row_gives rules (row_now line)) ++ open_items (branch p rules (after_row rules (row_now line)))) passed
         ∙ ap (λ more. skipped_items rules.opts line ++ more) none ∙ append-nil (skipped_items rules.opts line) in
         record {
           items_are = items ∙ sym (ap (λ p. branch p (skipped_items rules.opts line) (end_by (row_fields rules.opts (goes_on begun line)))) skipped);
-          at_is = ap (λ p. (branch p rules (behind_row rules (row_now line))).at) passed ∙ sym (ctx-skipped rules.opts line rules.at) ∙ ap (ctx_after rules.at) (sym items);
+          at_is = ap (λ p. (branch p rules (after_row rules (row_now line))).at) passed ∙ sym (ctx-skipped rules.opts line rules.at) ∙ ap (ctx_after rules.at) (sym items);
         }
 
     open-last : is_passed rules line ≡ false → LeftOpen rules.opts (goes_on begun line) (row_now line) → LastStep rules begun line

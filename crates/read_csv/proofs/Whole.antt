@@ -10,9 +10,9 @@ use Rattle.mlr_lines.specs.Lines.{without_return}
 use Rattle.read_csv.specs.Fields.{Field, csv_fields, tsv_fields, value_of}
 use Rattle.read_csv.specs.Rows.{Begun, goes_on, row_fields}
 use Rattle.read_csv.specs.Rules.{line_end}
-use Rattle.read_csv.specs.Taking.{Reading, RowState, csv_reading, no_row, row_on, row_reading, row_taken, row_with, with_text}
+use Rattle.read_csv.specs.OpenRow.{Reading, RowState, csv_reading, no_row, row_on, row_reading, row_taken, row_with, with_text}
 use Rattle.read_csv.specs.Usable.{is_usable, is_usable_as, has_bytes}
-use Rattle.read_csv.proofs.Ends.{line_end-is, return-behind}
+use Rattle.read_csv.proofs.Ends.{line_end-is, return-following}
 use Rattle.read_csv.proofs.Opening.{Opens, fields_read, grown, joined, opens, opens-more, opens-text, csv-read}
 
 -- the options, where a row may be open
@@ -104,28 +104,28 @@ module _ (opts : ReadOpts) (some : 0 < length opts.ifs) where
       ap₂ (λ values quotes. record { values = values; quotes = quotes })
       (sym (map-append (value_of opts.infer) done (record { quoted = true; text = content ++ f.text } ∷ fields))) (map-same left)
 
-  on-more : (front text : List ℕ) (row : RowState) (open_row : LeftOpen opts front row) (reading : Reading) → csv_reading opts.ifs (34 ∷ text) ≡ reading → (left : Option (List ℕ)) → reading.left_open ≡ left
-      → LeftOpen opts (front ++ text) (row_on opts.infer row reading) ⊎ Closed opts (front ++ text) (row_on opts.infer row reading)
-  on-more front text row open_row reading is left left_is =
+  on-more : (prefix text : List ℕ) (row : RowState) (open_row : LeftOpen opts prefix row) (reading : Reading) → csv_reading opts.ifs (34 ∷ text) ≡ reading → (left : Option (List ℕ)) → reading.left_open ≡ left
+      → LeftOpen opts (prefix ++ text) (row_on opts.infer row reading) ⊎ Closed opts (prefix ++ text) (row_on opts.infer row reading)
+  on-more prefix text row open_row reading is left left_is =
       let done = open_row.done in
       let content = open_row.content in
       let row_is : row_on opts.infer row reading ≡ record { values = map (value_of opts.infer) (joined done content reading.fields); quotes = option_map (grown content reading.fields) left } =
       ap (λ r. row_on opts.infer r reading) open_row.row_is ∙ on-is done content reading.fields reading.left_open
       ∙ ap (λ l. record { values = map (value_of opts.infer) (joined done content reading.fields); quotes = option_map (grown content reading.fields) l }) left_is in
-      let fields_are : row_fields opts (front ++ text) ≡ option_map (joined done content) (elim left [ None ↦ Some reading.fields | Some c ↦ None ]) =
-      open_row.quoting (front ++ text) ∙ open_row.opens.goes_on text
+      let fields_are : row_fields opts (prefix ++ text) ≡ option_map (joined done content) (elim left [ None ↦ Some reading.fields | Some c ↦ None ]) =
+      open_row.quoting (prefix ++ text) ∙ open_row.opens.goes_on text
       ∙ ap (option_map (joined done content)) (csv-read opts.ifs (34 ∷ text) ∙ ap fields_read is ∙ ap (λ l. elim l [ None ↦ Some reading.fields | Some c ↦ None ]) left_is) in
       elim left as (λ l. reading.left_open ≡ l
       → row_on opts.infer row reading ≡ record { values = map (value_of opts.infer) (joined done content reading.fields); quotes = option_map (grown content reading.fields) l }
-      → row_fields opts (front ++ text) ≡ option_map (joined done content) (elim l [ None ↦ Some reading.fields | Some c ↦ None ])
-      → LeftOpen opts (front ++ text) (row_on opts.infer row reading) ⊎ Closed opts (front ++ text) (row_on opts.infer row reading)) [
+      → row_fields opts (prefix ++ text) ≡ option_map (joined done content) (elim l [ None ↦ Some reading.fields | Some c ↦ None ])
+      → LeftOpen opts (prefix ++ text) (row_on opts.infer row reading) ⊎ Closed opts (prefix ++ text) (row_on opts.infer row reading)) [
         | None ↦ λ left_is row_is fields_are. inr (record { found = joined done content reading.fields; row_is = row_is; fields_are = fields_are })
         | Some c ↦ λ left_is row_is fields_are. inl (record {
           done = joined done content reading.fields;
           content = grown content reading.fields c;
           quoting = open_row.quoting;
           row_is = row_is;
-          opens = opens-more opts.ifs some front text done content reading.fields c open_row.opens
+          opens = opens-more opts.ifs some prefix text done content reading.fields c open_row.opens
               (subst (λ (r : Reading). Opens opts.ifs (34 ∷ text) r.fields c) is (opens opts.ifs some (length (34 ∷ text) + 1) (34 ∷ text) (omega arith) c (ap (λ (r : Reading). r.left_open) is ∙ left_is)));
         })
       ] left_is row_is fields_are
@@ -147,7 +147,7 @@ module _ (opts : ReadOpts) (some : 0 < length opts.ifs) where
   -- the CR before the line end is no part of a row that ends, and the line end goes into open quotes
   pub return-on : (begun : Begun) (line : List ℕ) → without_return (goes_on begun line) ≡ goes_on begun (without_return line)
   return-on None line = refl
-  return-on (Some begun) line = return-behind begun.1 line
+  return-on (Some begun) line = return-following begun.1 line
 
   end-on : (begun : Begun) (line : List ℕ) → goes_on begun (without_return line) ++ line_end line ≡ goes_on begun line ++ 10 ∷ []
   end-on None line = (line_end-is line).0

@@ -9,9 +9,9 @@ use Rattle.mlr_event.specs.declared.options.ReadOpts.{ReadOpts}
 use Rattle.mlr_event.specs.Reading.{Item, comment, fields, fault, ctx_after}
 use Rattle.mlr_event.specs.Stream.{has_fault}
 use Rattle.read_csv.specs.declared.rules.RowRules.{RowRules}
-use Rattle.read_csv.specs.Taking.{RowState, row_taken}
+use Rattle.read_csv.specs.OpenRow.{RowState, row_taken}
 use Rattle.read_csv.specs.Headers.{closed_values, header_of, values_items}
-use Rattle.read_csv.specs.Rules.{after_last, after_line, begins_now, behind_row, behind_text, count_of, is_passed, last_items, line_end, row_gives, with_end}
+use Rattle.read_csv.specs.Rules.{after_last, after_line, begins_now, after_row, after_text, count_of, is_passed, last_items, line_end, row_gives, with_end}
 
 few-either : (test : Bool) (items more : List Item) → length items ≤ 1 → length more ≤ 1 → length (if test then items else more) ≤ 1
 few-either true items more few few_more = few
@@ -43,11 +43,11 @@ next-either : (test : Bool) (rules next : RowRules) → IsNext rules next → Is
 next-either true rules next one = (omega arith, omega arith, omega arith)
 next-either false rules next one = one
 
-next-text : (rules : RowRules) (text : List ℕ) → IsNext rules (behind_text rules text)
+next-text : (rules : RowRules) (text : List ℕ) → IsNext rules (after_text rules text)
 next-text rules text =
     let row = row_taken rules.opts rules.row text in
     let one = one-record rules.at (row_gives rules row) (few-gives rules row) in
-    next-either (is_passed rules text) rules (behind_row rules row) (omega arith, one.0, one.1)
+    next-either (is_passed rules text) rules (after_row rules row) (omega arith, one.0, one.1)
 
 count-either : (stopped : Bool) (rules next : RowRules) → count_of next ≤ count_of rules + 1 → count_of (if stopped then rules else next) ≤ count_of rules + 1
 count-either true rules next one = omega arith
@@ -55,12 +55,12 @@ count-either false rules next one = one
 
 pub count-line : (rules : RowRules) (line : List ℕ) → count_of (after_line rules line) ≤ count_of rules + 1
 count-line rules line =
-    let next = behind_text rules (without_return line) in
+    let next = after_text rules (without_return line) in
     let one = next-text rules (without_return line) in
     count-either rules.stopped rules (record next { number = next.number + 1; row = with_end next.row (line_end line) }) (omega (arith, one.0, one.1, one.2))
 
 pub count-last : (rules : RowRules) (line : List ℕ) → count_of (after_last rules line) ≤ count_of rules + 1
 count-last rules line =
-    let next = behind_text rules line in
+    let next = after_text rules line in
     let one = next-text rules line in
     count-either rules.stopped rules (record next { stopped = has_fault (last_items rules line) }) (omega (arith, one.0, one.1, one.2))

@@ -1,6 +1,7 @@
 -- A row of CSV or TSV as its fields, after RFC 4180.
 use Rattle.std.specs.Prelude.{ℕ, zero, suc, ◌+◌, if◌then◌else◌, Bool, true, false, ◌&&◌, ◌==◌, List, [], ◌∷◌, ◌++◌, map, length, take, drop, Option, Some, None}
 use Rattle.std.specs.Option.{option_map}
+use Rattle.mlr_spec.specs.Ascii.{tab, line_feed, quote_mark, backslash, letter_n, letter_t}
 use Rattle.mlr_spec.specs.Infer.{tree_of_data}
 use Rattle.mlr_spec.specs.declared.infer.InferOpts.{InferOpts}
 use Rattle.mlr_spec.specs.Split.{place_in, split_by}
@@ -15,50 +16,50 @@ pub record Field : Type 0 where
 -- that. None where no quote closes it.
 pub record Quoted : Type 0 where
   pub content : List ℕ
-  pub behind : List ℕ
+  pub following : List ℕ
 
 abbrev pub with_byte : ℕ → Option Quoted → Option Quoted
-with_byte b found = option_map (λ q. record { content = b ∷ q.content; behind = q.behind }) found
+with_byte b found = option_map (λ q. record { content = b ∷ q.content; following = q.following }) found
 
 abbrev pub quoted_at : List ℕ → Option Quoted
 quoted_at [] = None
-quoted_at (b ∷ []) = if b == 34 then Some (record { content = []; behind = [] }) else None
+quoted_at (b ∷ []) = if b == quote_mark then Some (record { content = []; following = [] }) else None
 quoted_at (b ∷ c ∷ text) =
-    if b == 34 && c == 34 then with_byte 34 (quoted_at text) else (
-    if b == 34 then Some (record { content = []; behind = c ∷ text }) else with_byte b (quoted_at (c ∷ text)))
+    if b == quote_mark && c == quote_mark then with_byte quote_mark (quoted_at text) else (
+    if b == quote_mark then Some (record { content = []; following = c ∷ text }) else with_byte b (quoted_at (c ∷ text)))
 
 -- what stands before the next separator, and what stands behind it if there is one
 abbrev pub before_next : List ℕ → List ℕ → List ℕ
 before_next separator text = elim (place_in separator text) [ Some place ↦ take place text | None ↦ text ]
 
-abbrev pub behind_next : List ℕ → List ℕ → Option (List ℕ)
-behind_next separator text = elim (place_in separator text) [ Some place ↦ Some (drop (place + length separator) text) | None ↦ None ]
+abbrev pub after_next : List ℕ → List ℕ → Option (List ℕ)
+after_next separator text = elim (place_in separator text) [ Some place ↦ Some (drop (place + length separator) text) | None ↦ None ]
 
 -- the first field of a text, and what stands behind its separator; None where its quote is open
 pub record First : Type 0 where
   pub field : Field
-  pub behind : Option (List ℕ)
+  pub following : Option (List ℕ)
 
 abbrev pub first_plain : List ℕ → List ℕ → Option First
-first_plain separator text = Some (record { field = record { quoted = false; text = before_next separator text }; behind = behind_next separator text })
+first_plain separator text = Some (record { field = record { quoted = false; text = before_next separator text }; following = after_next separator text })
 
 -- bytes between the closing quote and the next separator are appended as they are
 abbrev pub first_quoted : List ℕ → Option Quoted → Option First
 first_quoted separator found = option_map (λ q. record {
-  field = record { quoted = true; text = q.content ++ before_next separator q.behind };
-  behind = behind_next separator q.behind;
+  field = record { quoted = true; text = q.content ++ before_next separator q.following };
+  following = after_next separator q.following;
 }) found
 
 abbrev pub first_field : List ℕ → List ℕ → Option First
 first_field separator [] = first_plain separator []
-first_field separator (b ∷ text) = if b == 34 then first_quoted separator (quoted_at text) else first_plain separator (b ∷ text)
+first_field separator (b ∷ text) = if b == quote_mark then first_quoted separator (quoted_at text) else first_plain separator (b ∷ text)
 
 -- the fields of a row, in at most n steps; None where a quote is open
 abbrev pub fields_from : ℕ → List ℕ → List ℕ → Option (List Field)
 fields_from zero separator text = None
 fields_from (suc n) separator text = elim (first_field separator text) [
   | None ↦ None
-  | Some first ↦ elim first.behind [
+  | Some first ↦ elim first.following [
     | None ↦ Some (first.field ∷ [])
     | Some rest ↦ option_map (λ fields. first.field ∷ fields) (fields_from n separator rest)
   ]
@@ -72,9 +73,9 @@ abbrev pub unescaped : List ℕ → List ℕ
 unescaped [] = []
 unescaped (b ∷ []) = b ∷ []
 unescaped (b ∷ c ∷ text) =
-    if b == 92 && c == 116 then 9 ∷ unescaped text else (
-    if b == 92 && c == 110 then 10 ∷ unescaped text else (
-    if b == 92 && c == 92 then 92 ∷ unescaped text else b ∷ unescaped (c ∷ text)))
+    if b == backslash && c == letter_t then tab ∷ unescaped text else (
+    if b == backslash && c == letter_n then line_feed ∷ unescaped text else (
+    if b == backslash && c == backslash then backslash ∷ unescaped text else b ∷ unescaped (c ∷ text)))
 
 abbrev pub tsv_fields : List ℕ → List ℕ → List Field
 tsv_fields separator text = map (λ part. record { quoted = false; text = unescaped part }) (split_by separator text)

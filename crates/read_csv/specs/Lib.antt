@@ -1,12 +1,12 @@
 pub mod Fields
 pub mod Rows
-pub mod Taking
+pub mod OpenRow
 pub mod Quotes
 pub mod Escapes
 pub mod Headers
 pub mod Usable
-pub mod Given
+pub mod RowOutcome
 pub mod Rules
 pub mod Counting
-pub mod Standing
-pub mod Fronts
+pub mod Represents
+pub mod Prefixes

@@ -1,15 +1,16 @@
 -- A text as its first quote cuts it.
 use Rattle.std.specs.Prelude.{◌≡◌, ℕ, ◌+◌, true, false, List, [], ◌∷◌, ◌++◌, length, drop, Some, None}
-use Rattle.read_csv.specs.Taking.{behind_quotes, inside, starts_quoted}
+use Rattle.mlr_spec.specs.Ascii.{quote_mark}
+use Rattle.read_csv.specs.OpenRow.{after_quotes, inside, starts_quoted}
 
 pub record HasNoQuote (text : List ℕ) : Type 0 where
   pub content : inside text ≡ text
-  pub behind : behind_quotes text ≡ None
+  pub following : after_quotes text ≡ None
 
 -- two quotes are one, and go on; one closes
-pub record HasQuote (text front rest : List ℕ) : Type 0 where
-  pub content : starts_quoted rest ≡ true → inside text ≡ (front ++ 34 ∷ []) ++ inside (drop 1 rest)
-  pub behind : starts_quoted rest ≡ true → behind_quotes text ≡ behind_quotes (drop 1 rest)
-  pub closed_content : starts_quoted rest ≡ false → inside text ≡ front
-  pub closed_behind : starts_quoted rest ≡ false → behind_quotes text ≡ Some rest
-  pub parts : length front + length rest + 1 ≡ length text
+pub record HasQuote (text prefix rest : List ℕ) : Type 0 where
+  pub content : starts_quoted rest ≡ true → inside text ≡ (prefix ++ quote_mark ∷ []) ++ inside (drop 1 rest)
+  pub following : starts_quoted rest ≡ true → after_quotes text ≡ after_quotes (drop 1 rest)
+  pub closed_content : starts_quoted rest ≡ false → inside text ≡ prefix
+  pub closed_after : starts_quoted rest ≡ false → after_quotes text ≡ Some rest
+  pub parts : length prefix + length rest + 1 ≡ length text

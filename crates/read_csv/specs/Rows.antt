@@ -1,6 +1,7 @@
 -- Lines as rows, and rows as records under a header.
 use Rattle.std.specs.Prelude.{ℕ, zero, suc, ◌+◌, ◌-◌, if◌then◌else◌, Bool, false, ◌||◌, ◌==◌, List, [], ◌∷◌, ◌++◌, map, length, take, Option, Some, None}
 use Rattle.std.specs.Fmt.{decimal}
+use Rattle.mlr_spec.specs.Ascii.{line_feed}
 use Rattle.mlr_event.specs.declared.event.Ctx.{Ctx}
 use Rattle.mlr_event.specs.declared.event.Event.{Event}
 use Rattle.mlr_event.specs.declared.names.FileRef.{FileRef}
@@ -44,9 +45,9 @@ abbrev pub closed_items : ReadOpts → FileRef → ℕ → Option (List (List �
 closed_items opts file line None row = first_items opts file line row
 closed_items opts file line (Some header) row = row_items opts file line header row
 
-abbrev pub header_behind : ReadOpts → Option (List (List ℕ)) → List Field → Option (List (List ℕ))
-header_behind opts None row = Some (first_header opts row)
-header_behind opts (Some header) row = Some header
+abbrev pub header_after : ReadOpts → Option (List (List ℕ)) → List Field → Option (List (List ℕ))
+header_after opts None row = Some (first_header opts row)
+header_after opts (Some header) row = Some header
 
 -- a row that has begun: the line on which it begins, and its text so far
 abbrev pub Begun : Type 0
@@ -55,7 +56,7 @@ Begun = Option (ℕ × List ℕ)
 -- the text of the row that a line goes on with, and the line on which the row begins
 abbrev pub goes_on : Begun → List ℕ → List ℕ
 goes_on None line = line
-goes_on (Some row) line = row.1 ++ 10 ∷ line
+goes_on (Some row) line = row.1 ++ line_feed ∷ line
 
 abbrev pub begins_at : Begun → ℕ → ℕ
 begins_at None n = n
@@ -88,7 +89,7 @@ rows_from opts file last n row header (line ∷ lines) =
     if is_skipped opts row (without_return line) then skipped_items opts (without_return line) ++ rows_from opts file last (n + 1) None header lines
     else elim (row_fields opts (without_return (goes_on row line))) [
       | None ↦ rows_from opts file last (n + 1) (Some (begins_at row n, goes_on row line)) header lines
-      | Some found ↦ closed_items opts file (begins_at row n) header found ++ rows_from opts file last (n + 1) None (header_behind opts header found) lines
+      | Some found ↦ closed_items opts file (begins_at row n) header found ++ rows_from opts file last (n + 1) None (header_after opts header found) lines
     ]
 
 -- what a whole file gives, and what a front of it has fixed

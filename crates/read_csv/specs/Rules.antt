@@ -1,5 +1,6 @@
 -- Line by line: what a line gives, and what is known behind it.
 use Rattle.std.specs.Prelude.{ℕ, ◌+◌, not, ◌&&◌, ◌||◌, ◌==◌, Bool, if◌then◌else◌, List, [], ◌∷◌, ◌++◌, length, drop, max, Option, is_some}
+use Rattle.mlr_spec.specs.Ascii.{line_feed}
 use Rattle.mlr_lines.specs.Lines.{without_return}
 use Rattle.mlr_event.specs.declared.event.Event.{Event}
 use Rattle.mlr_event.specs.declared.fault.Fault.TheVariants.{Quote}
@@ -7,7 +8,7 @@ use Rattle.mlr_event.specs.Reading.{Item, fault, is_comment, events_of, ctx_afte
 use Rattle.mlr_event.specs.Stream.{has_fault}
 use Rattle.read_csv.specs.declared.rules.RowRules.{RowRules}
 use Rattle.read_csv.specs.Rows.{skipped_items}
-use Rattle.read_csv.specs.Taking.{RowState, no_row, row_taken, with_text}
+use Rattle.read_csv.specs.OpenRow.{RowState, no_row, row_taken, with_text}
 use Rattle.read_csv.specs.Headers.{closed_values, values_header}
 
 -- whether a text is skipped: a comment or an empty one, where a row may begin
@@ -22,41 +23,41 @@ begins_now rules = if is_some rules.row.quotes then rules.begins else rules.numb
 abbrev pub row_gives : RowRules → RowState → List Item
 row_gives rules row = if is_some row.quotes then [] else closed_values rules.opts rules.file (begins_now rules) rules.header row.values
 
-abbrev pub header_behind_row : RowRules → RowState → Option (List (List ℕ))
-header_behind_row rules row = if is_some row.quotes then rules.header else values_header rules.opts rules.header row.values
+abbrev pub header_after_row : RowRules → RowState → Option (List (List ℕ))
+header_after_row rules row = if is_some row.quotes then rules.header else values_header rules.opts rules.header row.values
 
-abbrev pub row_behind_row : RowState → RowState
-row_behind_row row = if is_some row.quotes then row else no_row
+abbrev pub row_after_row : RowState → RowState
+row_after_row row = if is_some row.quotes then row else no_row
 
 -- what a text gives: a line without its end
 abbrev pub text_items : RowRules → List ℕ → List Item
 text_items rules text = if is_passed rules text then skipped_items rules.opts text else row_gives rules (row_taken rules.opts rules.row text)
 
 -- the rules behind a row, and behind a text, but for the number of the line
-abbrev pub behind_row : RowRules → RowState → RowRules
-behind_row rules row = record rules {
+abbrev pub after_row : RowRules → RowState → RowRules
+after_row rules row = record rules {
   begins = begins_now rules;
-  header = header_behind_row rules row;
-  row = row_behind_row row;
+  header = header_after_row rules row;
+  row = row_after_row row;
   at = ctx_after rules.at (row_gives rules row);
   stopped = has_fault (row_gives rules row);
 }
 
-abbrev pub behind_text : RowRules → List ℕ → RowRules
-behind_text rules text = if is_passed rules text then rules else behind_row rules (row_taken rules.opts rules.row text)
+abbrev pub after_text : RowRules → List ℕ → RowRules
+after_text rules text = if is_passed rules text then rules else after_row rules (row_taken rules.opts rules.row text)
 
 -- the line end belongs to quotes that are open
 abbrev pub with_end : RowState → List ℕ → RowState
 with_end row end = if is_some row.quotes then with_text row end else row
 
 abbrev pub line_end : List ℕ → List ℕ
-line_end line = drop (length (without_return line)) line ++ 10 ∷ []
+line_end line = drop (length (without_return line)) line ++ line_feed ∷ []
 
 -- an ended line
 abbrev pub after_line : RowRules → List ℕ → RowRules
 after_line rules line =
     if rules.stopped then rules else
-    let next = behind_text rules (without_return line) in record next { number = next.number + 1; row = with_end next.row (line_end line) }
+    let next = after_text rules (without_return line) in record next { number = next.number + 1; row = with_end next.row (line_end line) }
 
 abbrev pub gives_line : RowRules → List ℕ → List Event
 gives_line rules line = if rules.stopped then [] else events_of rules.at (text_items rules (without_return line))
@@ -66,12 +67,12 @@ abbrev pub open_items : RowRules → List Item
 open_items rules = if is_some rules.row.quotes then fault (Quote rules.file rules.begins) ∷ [] else []
 
 abbrev pub last_items : RowRules → List ℕ → List Item
-last_items rules text = text_items rules text ++ open_items (behind_text rules text)
+last_items rules text = text_items rules text ++ open_items (after_text rules text)
 
 abbrev pub after_last : RowRules → List ℕ → RowRules
 after_last rules line =
     if rules.stopped then rules else
-    let next = behind_text rules line in record next { stopped = has_fault (last_items rules line) }
+    let next = after_text rules line in record next { stopped = has_fault (last_items rules line) }
 
 abbrev pub gives_last : RowRules → List ℕ → List Event
 gives_last rules line = if rules.stopped then [] else events_of rules.at (last_items rules line)

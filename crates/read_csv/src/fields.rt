@@ -2,10 +2,10 @@ ghost use Rattle.std.specs.Prelude.{◌≡◌, ◌<◌, None, length, IfOk, OnOk
 ghost use Rattle.std.specs.Option.{option_map};
 ghost use Rattle.mlr_spec.specs.Infer.{tree_of_data};
 ghost use Rattle.read_csv.specs.Fields.{unescaped};
-ghost use Rattle.read_csv.specs.Taking.{behind_quoted, behind_row_field, csv_reading, field_row, quoted_row, row_taken, row_with, tsv_reading, with_value};
+ghost use Rattle.read_csv.specs.OpenRow.{after_quoted, after_row_field, csv_reading, field_row, quoted_row, row_taken, row_with, tsv_reading, with_value};
 
 use crate::escapes::unescape;
-use crate::quotes::{behind, starts_quoted, unquote};
+use crate::quotes::{following, starts_quoted, unquote};
 use crate::row::Row;
 use memchr::memchr;
 use mlr_event::{Format, ReadOpts};
@@ -33,7 +33,8 @@ pub(crate) fn take_text(opts: &ReadOpts, row: &mut Row, text: &[u8]) -> Result<(
 fn take_fields(opts: &ReadOpts, row: &mut Row, text: &[u8]) -> Result<(), NoMemory>
     requires ifs { 0 < length opts.now.ifs }
     requires closed { row.old.quotes ≡ None }
-    ensures { OnOk result (row.new ≡ row_with opts.now.infer row.old (csv_reading opts.now.ifs text.now)) }
+    ensures { OnOk result (row.new ≡ row_with opts.now.infer row.old
+        (csv_reading opts.now.ifs text.now)) }
 {
     let mut left = text;
     while let Some(rest) = take_field(opts, row, left)? {
@@ -52,11 +53,13 @@ fn take_field<'t>(
     requires ifs { 0 < length opts.now.ifs }
     requires closed { row.old.quotes ≡ None }
     ensures row { OnOk result (row.new ≡ field_row opts.now row.old text.now) }
-    ensures behind { IfOk result (λ found. option_map (λ rest. rest.now) found ≡ behind_row_field opts.now.ifs text.now) }
-    ensures shorter { IfOk result (λ found. IfSome found (λ rest. length rest.now < length text.now)) }
+    ensures following { IfOk result (λ found. option_map (λ rest. rest.now) found
+        ≡ after_row_field opts.now.ifs text.now) }
+    ensures shorter { IfOk result (λ found. IfSome found
+        (λ rest. length rest.now < length text.now)) }
 {
     if starts_quoted(text) {
-        return take_quoted(opts, row, behind(text, 1));
+        return take_quoted(opts, row, following(text, 1));
     }
     let (part, rest) = next_part(opts.ifs.as_slice(), text);
     row.push_plain(part, opts.infer)?;
@@ -72,13 +75,15 @@ fn take_quoted<'t>(
 ) -> Result<Option<&'t [u8]>, NoMemory>
     requires { 0 < length opts.now.ifs }
     ensures row { OnOk result (row.new ≡ quoted_row opts.now.ifs row.old text.now) }
-    ensures behind { IfOk result (λ found. option_map (λ rest. rest.now) found ≡ behind_quoted opts.now.ifs text.now) }
-    ensures shorter { IfOk result (λ found. IfSome found (λ rest. length rest.now < length text.now)) }
+    ensures following { IfOk result (λ found. option_map (λ rest. rest.now) found
+        ≡ after_quoted opts.now.ifs text.now) }
+    ensures shorter { IfOk result (λ found. IfSome found
+        (λ rest. length rest.now < length text.now)) }
 {
     match unquote(row, text)? {
         None => Ok(None),
-        Some(behind) => {
-            let (tail, rest) = next_part(opts.ifs.as_slice(), behind);
+        Some(following) => {
+            let (tail, rest) = next_part(opts.ifs.as_slice(), following);
             row.append(tail)?;
             row.close()?;
             Ok(rest)
@@ -90,7 +95,8 @@ fn take_quoted<'t>(
 fn take_escaped(opts: &ReadOpts, row: &mut Row, text: &[u8]) -> Result<(), NoMemory>
     requires ifs { 0 < length opts.now.ifs }
     requires closed { row.old.quotes ≡ None }
-    ensures { OnOk result (row.new ≡ row_with opts.now.infer row.old (tsv_reading opts.now.ifs text.now)) }
+    ensures { OnOk result (row.new ≡ row_with opts.now.infer row.old
+        (tsv_reading opts.now.ifs text.now)) }
 {
     let mut left = text;
     loop {

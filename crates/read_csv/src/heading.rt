@@ -22,7 +22,8 @@ impl Model for Heading {
 
     ghost view = { λ heading. heading.header };
 
-    ghost invariant = { λ heading. heading.distinct ≡ true → distinct_names heading.header ≡ heading.header };
+    ghost invariant = { λ heading. heading.distinct ≡ true
+        → distinct_names heading.header ≡ heading.header };
 }
 
 impl Heading {

@@ -4,13 +4,19 @@ ghost use Rattle.mlr_event.specs.declared.event.Event.{Event};
 ghost use Rattle.mlr_event.specs.declared.names.FileRef.{FileRef};
 ghost use Rattle.mlr_event.specs.declared.options.ReadOpts.{ReadOpts};
 ghost use Rattle.mlr_event.specs.Reading.{is_comment};
-ghost use Rattle.read_csv.specs.Fronts.{closed_front};
+ghost use Rattle.read_csv.specs.Prefixes.{closed_prefix};
 ghost use Rattle.read_csv.specs.Rows.{csv_fed, csv_read};
 
 /// What a front of a file fixes: it stays whatever follows, and it is what the longest front that ends with a line end
 /// in no quote stands for as a whole file, where a comment prefix has a byte at least. It does nothing.
-pub fn front_laws()
-    ensures fed { (opts : ReadOpts) (file : FileRef) (start : Ctx) (bytes rest : List ℕ) → (more : List Event) × (csv_fed opts file start (bytes ++ rest) ≡ csv_fed opts file start bytes ++ more) }
-    ensures read { (opts : ReadOpts) (file : FileRef) (start : Ctx) (bytes rest : List ℕ) → (more : List Event) × (csv_read opts file start (bytes ++ rest) ≡ csv_fed opts file start bytes ++ more) }
-    ensures front { (opts : ReadOpts) (file : FileRef) (start : Ctx) (bytes : List ℕ) → is_comment opts.comments [] ≡ false → csv_fed opts file start bytes ≡ csv_read opts file start (closed_front opts bytes) }
+pub fn prefix_laws()
+    ensures fed { (opts : ReadOpts) (file : FileRef) (start : Ctx) (bytes rest : List ℕ)
+        → (more : List Event)
+        × (csv_fed opts file start (bytes ++ rest) ≡ csv_fed opts file start bytes ++ more) }
+    ensures read { (opts : ReadOpts) (file : FileRef) (start : Ctx) (bytes rest : List ℕ)
+        → (more : List Event)
+        × (csv_read opts file start (bytes ++ rest) ≡ csv_fed opts file start bytes ++ more) }
+    ensures prefix { (opts : ReadOpts) (file : FileRef) (start : Ctx) (bytes : List ℕ)
+        → is_comment opts.comments [] ≡ false
+        → csv_fed opts file start bytes ≡ csv_read opts file start (closed_prefix opts bytes) }
 {}

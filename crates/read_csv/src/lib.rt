@@ -3,19 +3,19 @@
 
 mod escapes;
 mod fields;
-mod given;
 mod heading;
 mod laws;
+mod line_step;
 mod quotes;
 mod reader;
 mod records;
 mod row;
+mod row_outcome;
 mod rules;
-mod take;
 #[cfg(test)]
 mod test_files;
 #[cfg(test)]
 mod tests;
 
-pub use laws::front_laws;
+pub use laws::prefix_laws;
 pub use reader::{CsvReader, can_read};

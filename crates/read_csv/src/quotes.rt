@@ -1,6 +1,6 @@
 ghost use Rattle.std.specs.Prelude.{◌≡◌, ◌≤◌, length, drop, IfOk, OnOk, IfSome, MatchOption};
 ghost use Rattle.std.specs.Option.{option_map};
-ghost use Rattle.read_csv.specs.Taking.{behind_quotes, inside, starts_quoted, with_text};
+ghost use Rattle.read_csv.specs.OpenRow.{after_quotes, inside, starts_quoted, with_text};
 ghost use Rattle.read_csv.specs.Quotes.{HasNoQuote, HasQuote};
 
 use crate::row::Row;
@@ -20,7 +20,7 @@ pub(crate) fn starts_quoted(text: &[u8]) -> bool
 
 /// The text from a place on.
 #[inline]
-pub(crate) fn behind(text: &[u8], place: usize) -> &[u8]
+pub(crate) fn following(text: &[u8], place: usize) -> &[u8]
     requires { place ≤ length text.now }
     ensures { result.now ≡ drop place text.now }
 {
@@ -30,27 +30,30 @@ pub(crate) fn behind(text: &[u8], place: usize) -> &[u8]
 /// What stands before the first quote, and what stands behind it.
 #[inline]
 fn first_quote(text: &[u8]) -> Option<(&[u8], &[u8])>
-    ensures { MatchOption result (HasNoQuote text.now) (λ cut. HasQuote text.now cut.0.now cut.1.now) }
+    ensures { MatchOption result (HasNoQuote text.now)
+        (λ cut. HasQuote text.now cut.0.now cut.1.now) }
 {
     let place = memchr(b'"', text)?;
-    Some((&text[..place], behind(text, place + 1)))
+    Some((&text[..place], following(text, place + 1)))
 }
 
 /// Puts what stands in quotes, from behind the opening one on, into the quotes of the row, and says what stands behind
 /// the closing one if there is one.
 pub(crate) fn unquote<'t>(row: &mut Row, text: &'t [u8]) -> Result<Option<&'t [u8]>, NoMemory>
     ensures row { OnOk result (row.new ≡ with_text row.old (inside text.now)) }
-    ensures behind { IfOk result (λ found. option_map (λ rest. rest.now) found ≡ behind_quotes text.now) }
-    ensures shorter { IfOk result (λ found. IfSome found (λ rest. length rest.now ≤ length text.now)) }
+    ensures following { IfOk result (λ found. option_map (λ rest. rest.now) found
+        ≡ after_quotes text.now) }
+    ensures shorter { IfOk result (λ found. IfSome found
+        (λ rest. length rest.now ≤ length text.now)) }
 {
     let mut left = text;
-    while let Some((front, rest)) = first_quote(left) {
-        row.append(front)?;
+    while let Some((prefix, rest)) = first_quote(left) {
+        row.append(prefix)?;
         if !starts_quoted(rest) {
             return Ok(Some(rest));
         }
         row.append(b"\"")?;
-        left = behind(rest, 1);
+        left = following(rest, 1);
     }
     row.append(left)?;
     Ok(None)

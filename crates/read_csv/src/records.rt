@@ -34,7 +34,8 @@ pub(crate) fn record_of_row(
     header: &Heading,
     values: &mut Vec<Value>,
 ) -> Result<Record, NoMemory>
-    ensures made { IfOk result (λ made. made ≡ record_of dedupe (row_keys header.now (vec_len values.old)) (map tree_of values.old.items)) }
+    ensures made { IfOk result (λ made. made ≡ record_of dedupe
+        (row_keys header.now (vec_len values.old)) (map tree_of values.old.items)) }
     ensures empty { OnOk result (values.new.items ≡ []) }
 {
     few(values.len())?;
@@ -56,7 +57,8 @@ pub(crate) fn record_of_row(
 fn full_record(alloc: Global, names: &Header, values: &mut Vec<Value>) -> Result<Record, NoMemory>
     requires full { length names.now ≡ vec_len values.old }
     requires few { length names.now < 2 ^ 62 }
-    ensures made { IfOk result (λ made. made ≡ zip (distinct_names names.now) (map tree_of values.old.items)) }
+    ensures made { IfOk result (λ made. made ≡ zip (distinct_names names.now)
+        (map tree_of values.old.items)) }
     ensures empty { OnOk result (values.new.items ≡ []) }
 {
     let room = Vec::with_capacity(alloc, values.len())?;
@@ -76,7 +78,8 @@ fn put_named(
     requires names { named ≤ length header.now }
     requires few { length header.now < 2 ^ 62 }
     requires empty { into.old ≡ [] }
-    ensures fields { OnOk result (into.new ≡ with_fields dedupe [] (take named header.now) (take named (map tree_of values.old.items))) }
+    ensures fields { OnOk result (into.new ≡ with_fields dedupe [] (take named header.now)
+        (take named (map tree_of values.old.items))) }
     ensures rest { OnOk result (drop named values.new.items ≡ drop named values.old.items) }
     ensures len { OnOk result (vec_len values.new ≡ vec_len values.old) }
 {
@@ -101,7 +104,9 @@ fn put_surplus(
 ) -> Result<(), NoMemory>
     requires few { vec_len values.old < 2 ^ 62 }
     requires into { length into.old ≤ named }
-    ensures { OnOk result (into.new ≡ with_fields dedupe into.old (positions_from (named + 1) (vec_len values.old - named)) (map tree_of (drop named values.old.items))) }
+    ensures { OnOk result (into.new ≡ with_fields dedupe into.old
+        (positions_from (named + 1) (vec_len values.old - named))
+        (map tree_of (drop named values.old.items))) }
 {
     for place in named..values.len() {
         let value = taken(values, place);

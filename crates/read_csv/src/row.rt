@@ -4,7 +4,7 @@ ghost use Rattle.mlr_event.specs.Reading.{record_of};
 ghost use Rattle.read_csv.specs.Headers.{source_of};
 ghost use Rattle.read_csv.specs.Rows.{row_keys};
 ghost use Rattle.read_csv.specs.Fields.{quoted_value};
-ghost use Rattle.read_csv.specs.Taking.{in_quotes, no_row, with_text, with_value};
+ghost use Rattle.read_csv.specs.OpenRow.{in_quotes, no_row, with_text, with_value};
 
 use crate::heading::Heading;
 use crate::records::{record_of_row, texts};
@@ -31,13 +31,17 @@ impl Model for Row {
     ghost use Rattle.std.specs.Coded.{codes};
     ghost use Rattle.mlr_spec.specs.TreeCode.{coded_tree};
     ghost use Rattle.mlr_value.specs.Value.{tree_of};
-    ghost use Rattle.read_csv.specs.Taking.{RowState};
+    ghost use Rattle.read_csv.specs.OpenRow.{RowState};
 
     ghost Value = { RowState };
 
     ghost coded = { Prim.hlevel (codes, coded_tree) };
 
-    ghost view = { λ row. record { values = map tree_of row.values.items; quotes = (if row.quoted then Some row.text.items else None) } };
+    ghost view = { λ row. record {
+      values = map tree_of row.values.items;
+      quotes =
+          (if row.quoted then Some row.text.items else None);
+    } };
 
     ghost invariant = { λ row. row.quoted ≡ false → row.text.items ≡ [] };
 }
@@ -136,7 +140,8 @@ impl Row {
         header: &Heading,
     ) -> Result<Record, NoMemory>
         requires { self.old.quotes ≡ None }
-        ensures made { IfOk result (λ made. made ≡ record_of dedupe (row_keys header.now (length self.old.values)) self.old.values) }
+        ensures made { IfOk result (λ made. made ≡ record_of dedupe
+            (row_keys header.now (length self.old.values)) self.old.values) }
         ensures empty { OnOk result (self.new ≡ no_row) }
     {
         record_of_row(alloc, dedupe, header, &mut self.values)

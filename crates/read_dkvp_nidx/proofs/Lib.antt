@@ -1,4 +1,4 @@
 pub mod Piecewise
 pub mod Whole
 pub mod Tables
-pub mod Fronts
+pub mod Prefixes

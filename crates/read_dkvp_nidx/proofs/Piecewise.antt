@@ -21,7 +21,7 @@ use Rattle.mlr_event.specs.Rows.{with_field, with_fields}
 use Rattle.mlr_event.proofs.Putting.{with_fields-more, value_at-free}
 use Rattle.read_dkvp_nidx.specs.Dkvp.{key_of, value_of, keys_from, values_from}
 use Rattle.read_dkvp_nidx.specs.Nidx.{by_position}
-use Rattle.read_dkvp_nidx.specs.Pieces.{with_piece, with_word, position_behind}
+use Rattle.read_dkvp_nidx.specs.Pieces.{with_piece, with_word, position_after}
 
 -- a text that was cut at its first separator
 pub parts-more : (separator left part : List ℕ) (found : Option (Bor (List ℕ))) (rest : Bor (List ℕ)) → found ≡ Some rest
@@ -68,7 +68,7 @@ word-kept : (b : ℕ) (word : List ℕ) (more : List (List ℕ)) → cond (is_wo
 word-kept b word more = ap (λ t. cond (not t) ((b ∷ word) ∷ more) more) (never-empty b word)
 
 pub with_word-more : (opts : ReadOpts) (position : ℕ) (word : List ℕ) (words : List (List ℕ)) (pairs : List (List ℕ × Tree))
-    → with_word opts position word pairs ++ by_position opts (position_behind position word) (filter is_word words) ≡ pairs ++ by_position opts position (filter is_word (word ∷ words))
+    → with_word opts position word pairs ++ by_position opts (position_after position word) (filter is_word words) ≡ pairs ++ by_position opts position (filter is_word (word ∷ words))
 with_word-more opts position [] words pairs = refl
 with_word-more opts position (b ∷ word) words pairs =
     append_assoc pairs ((decimal position, tree_of_data opts.infer (b ∷ word)) ∷ []) (by_position opts (position + 1) (filter is_word words))
@@ -85,7 +85,7 @@ decimal-apart j k less small =
       | inr apart ↦ apart
     ]
 
-pub AreFree-more : (opts : ReadOpts) (position : ℕ) (word : List ℕ) (pairs : List (List ℕ × Tree)) → AreFree position pairs → AreFree (position_behind position word) (with_word opts position word pairs)
+pub AreFree-more : (opts : ReadOpts) (position : ℕ) (word : List ℕ) (pairs : List (List ℕ × Tree)) → AreFree position pairs → AreFree (position_after position word) (with_word opts position word pairs)
 AreFree-more opts position [] pairs free = free
 AreFree-more opts position (b ∷ word) pairs free = λ k low small.
     let pair : List ℕ × Tree = (decimal position, tree_of_data opts.infer (b ∷ word)) in
@@ -97,6 +97,6 @@ AreFree-more opts position (b ∷ word) pairs free = λ k low small.
 pub AreFree-now : (position : ℕ) (pairs : List (List ℕ × Tree)) → position < 2 ^ 64 → AreFree position pairs → value_at (decimal position) pairs ≡ None
 AreFree-now position pairs small free = value_at-free (decimal position) pairs (free position (omega arith) small)
 
-pub position-small : (position : ℕ) (word : List ℕ) → position_behind position word ≤ position + 1
+pub position-small : (position : ℕ) (word : List ℕ) → position_after position word ≤ position + 1
 position-small position [] = omega arith
 position-small position (b ∷ word) = omega arith

@@ -4,8 +4,8 @@ use Rattle.std.specs.List.{onto_first}
 use Rattle.std.proofs.Math.Seq.{take-length}
 use Rattle.std.proofs.lemmas.Bool.{cases_Bool, and_parts, eqb-true}
 use Rattle.std.proofs.lemmas.List.{append-nil}
-use Rattle.read_dkvp_nidx.specs.Cells.{IsBarCut, HasNoBar, bar_from, cells_with, is_escape, with_front}
-use Rattle.read_dkvp_nidx.specs.Markdown.{bar_parts, cell_of, cells_behind, closed, unescaped}
+use Rattle.read_dkvp_nidx.specs.Cells.{IsBarCut, HasNoBar, bar_from, cells_with, is_escape, with_prefix}
+use Rattle.read_dkvp_nidx.specs.Markdown.{bar_parts, cell_of, cells_after, closed, unescaped}
 
 -- whether a byte ends a part
 abbrev ends : ℕ → ℕ → Bool
@@ -78,23 +78,23 @@ some-parts last (b ∷ text) =
       | inr on ↦ rw (parts-on last b text on) (onto-some b (bar_parts b text))
     ]
 
-with_front-twice : (front more : List (List ℕ)) (cells : Option (List (List ℕ))) → with_front front (with_front more cells) ≡ with_front (front ++ more) cells
-with_front-twice front more None = refl
-with_front-twice front more (Some cells) = ap Some (sym (append_assoc front more cells))
+with_prefix-twice : (prefix more : List (List ℕ)) (cells : Option (List (List ℕ))) → with_prefix prefix (with_prefix more cells) ≡ with_prefix (prefix ++ more) cells
+with_prefix-twice prefix more None = refl
+with_prefix-twice prefix more (Some cells) = ap Some (sym (append_assoc prefix more cells))
 
-one-front : (cell : List ℕ) (found : Option (List (List ℕ))) → (elim found [ Some cells ↦ Some (cell ∷ cells) | None ↦ None ]) ≡ with_front (cell ∷ []) found
-one-front cell None = refl
-one-front cell (Some cells) = refl
+one-prefix : (cell : List ℕ) (found : Option (List (List ℕ))) → (elim found [ Some cells ↦ Some (cell ∷ cells) | None ↦ None ]) ≡ with_prefix (cell ∷ []) found
+one-prefix cell None = refl
+one-prefix cell (Some cells) = refl
 
-closed-more : (part next : List ℕ) (parts : List (List ℕ)) → closed (part ∷ next ∷ parts) ≡ with_front (cell_of part ∷ []) (closed (next ∷ parts))
-closed-more [] next parts = one-front (cell_of []) (closed (next ∷ parts))
-closed-more (b ∷ part) next parts = one-front (cell_of (b ∷ part)) (closed (next ∷ parts))
+closed-more : (part next : List ℕ) (parts : List (List ℕ)) → closed (part ∷ next ∷ parts) ≡ with_prefix (cell_of part ∷ []) (closed (next ∷ parts))
+closed-more [] next parts = one-prefix (cell_of []) (closed (next ∷ parts))
+closed-more (b ∷ part) next parts = one-prefix (cell_of (b ∷ part)) (closed (next ∷ parts))
 
 with-more : (cells : List (List ℕ)) (part : List ℕ) (parts : List (List ℕ)) → 0 < length parts → cells_with cells (part ∷ parts) ≡ cells_with (cells ++ cell_of part ∷ []) parts
 with-more cells part [] some = absurd (omega arith)
 with-more [] part (next ∷ parts) some = closed-more part next parts
 with-more (cell ∷ cells) part (next ∷ parts) some =
-    ap (with_front (cell ∷ cells)) (closed-more part next parts) ∙ with_front-twice (cell ∷ cells) (cell_of part ∷ []) (closed (next ∷ parts))
+    ap (with_prefix (cell ∷ cells)) (closed-more part next parts) ∙ with_prefix-twice (cell ∷ cells) (cell_of part ∷ []) (closed (next ∷ parts))
 
 -- one more part
 pub cells_with-more : (cells : List (List ℕ)) (text part rest : List ℕ) → IsBarCut text part rest → cells_with cells (bar_parts 124 text) ≡ cells_with (cells ++ cell_of part ∷ []) (bar_parts 124 rest)
@@ -106,9 +106,9 @@ cells_with-closed [] text none empty some = absurd (omega arith)
 cells_with-closed (cell ∷ cells) text none empty some = ap (cells_with (cell ∷ cells)) (none ∙ ap (λ t. t ∷ []) empty) ∙ ap Some (append-nil (cell ∷ cells))
 
 pub cells_with-open : (cells : List (List ℕ)) (text : List ℕ) → HasNoBar text → (length text ≡ 0 → 0 < length cells → ⊥) → cells_with cells (bar_parts 124 text) ≡ None
-cells_with-open [] text none open_at = ap cells_behind none
+cells_with-open [] text none open_at = ap cells_after none
 cells_with-open (cell ∷ cells) [] none open_at = absurd (open_at refl (omega arith))
-cells_with-open (cell ∷ cells) (b ∷ text) none open_at = ap (λ parts. with_front (cell ∷ cells) (closed parts)) none
+cells_with-open (cell ∷ cells) (b ∷ text) none open_at = ap (λ parts. with_prefix (cell ∷ cells) (closed parts)) none
 
 pub unescaped-more : (b : ℕ) (rest : List ℕ) → unescaped (b ∷ rest) ≡ cond (is_escape b rest) (unescaped rest) (b ∷ unescaped rest)
 unescaped-more b [] = refl

@@ -15,7 +15,7 @@ use Rattle.read_dkvp_nidx.specs.declared.rules.LineRules.{LineRules}
 use Rattle.read_dkvp_nidx.specs.Dkvp.{dkvp_record}
 use Rattle.read_dkvp_nidx.specs.Nidx.{nidx_record, words_of}
 use Rattle.read_dkvp_nidx.specs.Markdown as markdown
-use Rattle.read_dkvp_nidx.specs.Rules.{after_last, after_line, behind_line, count_of, items_by, line_items, plain_items}
+use Rattle.read_dkvp_nidx.specs.Rules.{after_last, after_line, rules_after, count_of, items_by, line_items, plain_items}
 
 few-either : (test : Bool) (items more : List Item) → length items ≤ 1 → length more ≤ 1 → length (if test then items else more) ≤ 1
 few-either true items more few few_more = few
@@ -63,15 +63,15 @@ one-record at (fault f ∷ items) few = (omega arith, omega arith)
 one-record at (comment text ∷ item ∷ items) few = absurd (omega arith)
 one-record at (fields pairs ∷ item ∷ items) few = absurd (omega arith)
 
-count-behind : (stopped : Bool) (rules : LineRules) (line : List ℕ) → rules.stopped ≡ stopped → count_of (behind_line rules line) ≤ count_of rules + 1
-count-behind true rules line is = rw is (omega arith)
-count-behind false rules line is =
+count-following : (stopped : Bool) (rules : LineRules) (line : List ℕ) → rules.stopped ≡ stopped → count_of (rules_after rules line) ≤ count_of rules + 1
+count-following true rules line is = rw is (omega arith)
+count-following false rules line is =
     let one = one-record rules.at (items_by rules line) (few-items rules.opts rules.file rules.number _ line) in
     rw is (omega (arith, one.0, one.1))
 
 pub count-line : (rules : LineRules) (line : List ℕ) → count_of (after_line rules line) ≤ count_of rules + 1
-count-line rules line = count-behind rules.stopped rules (without_return line) refl
+count-line rules line = count-following rules.stopped rules (without_return line) refl
 
 pub count-last : (rules : LineRules) (line : List ℕ) → count_of (after_last rules line) ≤ count_of rules + 1
 count-last rules [] = omega arith
-count-last rules (b ∷ line) = count-behind rules.stopped rules (b ∷ line) refl
+count-last rules (b ∷ line) = count-following rules.stopped rules (b ∷ line) refl

@@ -7,5 +7,5 @@ pub mod Row
 pub mod Usable
 pub mod Rules
 pub mod Counting
-pub mod Standing
+pub mod Represents
 pub mod Cells

@@ -1,6 +1,7 @@
 -- Markdown tables: blocks of lines of cells between bars.
 use Rattle.std.specs.Prelude.{ℕ, ◌+◌, ◌-◌, if◌then◌else◌, Bool, not, ◌&&◌, ◌==◌, nat_lt, List, [], ◌∷◌, ◌++◌, map, length, take, drop, Option, Some, None}
 use Rattle.std.specs.List.{list_all, onto_first, prefix_len, suffix_len}
+use Rattle.mlr_spec.specs.Ascii.{space, dash, colon, backslash, vertical_bar}
 use Rattle.mlr_spec.specs.Infer.{tree_of_data}
 use Rattle.mlr_event.specs.declared.names.FileRef.{FileRef}
 use Rattle.mlr_event.specs.declared.fault.Fault.TheVariants.{Length, Table}
@@ -10,20 +11,20 @@ use Rattle.mlr_event.specs.Reading.{Item, fields, fault, is_comment, comment_ite
 -- a line split at each bar that no backslash precedes; `last` is the byte before
 abbrev pub bar_parts : ℕ → List ℕ → List (List ℕ)
 bar_parts last [] = [] ∷ []
-bar_parts last (b ∷ text) = if b == 124 && not (last == 92) then [] ∷ bar_parts b text else onto_first b (bar_parts b text)
+bar_parts last (b ∷ text) = if b == vertical_bar && not (last == backslash) then [] ∷ bar_parts b text else onto_first b (bar_parts b text)
 
 abbrev pub is_space : ℕ → Bool
-is_space b = b == 32
+is_space b = b == space
 
 -- a cell without the spaces round it
 abbrev pub trimmed : List ℕ → List ℕ
-trimmed text = let front = drop (prefix_len is_space text) text in take (length front - suffix_len is_space front) front
+trimmed text = let prefix = drop (prefix_len is_space text) text in take (length prefix - suffix_len is_space prefix) prefix
 
 -- `\|` is a bar
 abbrev pub unescaped : List ℕ → List ℕ
 unescaped [] = []
 unescaped (b ∷ []) = b ∷ []
-unescaped (b ∷ c ∷ text) = if b == 92 && c == 124 then unescaped (c ∷ text) else b ∷ unescaped (c ∷ text)
+unescaped (b ∷ c ∷ text) = if b == backslash && c == vertical_bar then unescaped (c ∷ text) else b ∷ unescaped (c ∷ text)
 
 abbrev pub cell_of : List ℕ → List ℕ
 cell_of part = unescaped (trimmed part)
@@ -36,25 +37,25 @@ closed ((b ∷ part) ∷ []) = None
 closed (part ∷ next ∷ parts) = elim (closed (next ∷ parts)) [ Some cells ↦ Some (cell_of part ∷ cells) | None ↦ None ]
 
 -- The cells of a line, which begins and ends with a bar; None of another line, and of one bar alone.
-abbrev pub cells_behind : List (List ℕ) → Option (List (List ℕ))
-cells_behind [] = None
-cells_behind (part ∷ []) = None
-cells_behind (part ∷ next ∷ parts) = closed (part ∷ next ∷ parts)
+abbrev pub cells_after : List (List ℕ) → Option (List (List ℕ))
+cells_after [] = None
+cells_after (part ∷ []) = None
+cells_after (part ∷ next ∷ parts) = closed (part ∷ next ∷ parts)
 
 abbrev pub cells_of : List ℕ → Option (List (List ℕ))
 cells_of line = elim (bar_parts 0 line) [
   | [] ↦ None
-  | first ∷ parts ↦ if length first == 0 then cells_behind parts else None
+  | first ∷ parts ↦ if length first == 0 then cells_after parts else None
 ]
 
 -- one or more dashes, with or without a colon at either end
 abbrev pub without_colons : List ℕ → List ℕ
 without_colons text =
-    let front = (if nat_lt 0 (length text) && list_all (λ b. b == 58) (take 1 text) then drop 1 text else text) in
-    if nat_lt 0 (length front) && list_all (λ b. b == 58) (drop (length front - 1) front) then take (length front - 1) front else front
+    let prefix = (if nat_lt 0 (length text) && list_all (λ b. b == colon) (take 1 text) then drop 1 text else text) in
+    if nat_lt 0 (length prefix) && list_all (λ b. b == colon) (drop (length prefix - 1) prefix) then take (length prefix - 1) prefix else prefix
 
 abbrev pub is_rule : List ℕ → Bool
-is_rule cell = nat_lt 0 (length (without_colons cell)) && list_all (λ b. b == 45) (without_colons cell)
+is_rule cell = nat_lt 0 (length (without_colons cell)) && list_all (λ b. b == dash) (without_colons cell)
 
 -- where a line stands in its block: first, second under a header, or later
 pub data Block : Type 0 where
@@ -88,16 +89,16 @@ abbrev pub markdown_row : ReadOpts → FileRef → ℕ → Block → List ℕ �
 markdown_row opts file n block [] = []
 markdown_row opts file n block (b ∷ line) = row_items opts file n block (cells_of (b ∷ line))
 
-abbrev pub block_behind : Block → List ℕ → Block
-block_behind block [] = outside
-block_behind block (b ∷ line) = row_block block (cells_of (b ∷ line))
+abbrev pub block_after : Block → List ℕ → Block
+block_after block [] = outside
+block_after block (b ∷ line) = row_block block (cells_of (b ∷ line))
 
 -- what the line with number n gives, and the block behind it
 abbrev pub markdown_line : ReadOpts → FileRef → ℕ → Block → List ℕ → List Item
 markdown_line opts file n block line = if is_comment opts.comments line then comment_items opts.comments line else markdown_row opts file n block line
 
 abbrev pub markdown_block : ReadOpts → Block → List ℕ → Block
-markdown_block opts block line = if is_comment opts.comments line then block else block_behind block line
+markdown_block opts block line = if is_comment opts.comments line then block else block_after block line
 
 -- the lines of a table from number n on
 abbrev pub markdown_lines : ReadOpts → FileRef → ℕ → Block → List (List ℕ) → List Item

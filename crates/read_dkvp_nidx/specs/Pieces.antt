@@ -18,6 +18,6 @@ abbrev pub with_word : ReadOpts → ℕ → List ℕ → List (List ℕ × Tree)
 with_word opts position [] pairs = pairs
 with_word opts position (b ∷ word) pairs = pairs ++ (decimal position, tree_of_data opts.infer (b ∷ word)) ∷ []
 
-abbrev pub position_behind : ℕ → List ℕ → ℕ
-position_behind position [] = position
-position_behind position (b ∷ word) = position + 1
+abbrev pub position_after : ℕ → List ℕ → ℕ
+position_after position [] = position
+position_after position (b ∷ word) = position + 1

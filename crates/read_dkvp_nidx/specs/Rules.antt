@@ -24,7 +24,7 @@ plain_items format.Markdown opts file n block line = markdown.markdown_row opts 
 plain_items _ opts file n block line = []
 
 abbrev pub plain_block : Format → markdown.Block → List ℕ → markdown.Block
-plain_block format.Markdown block line = markdown.block_behind block line
+plain_block format.Markdown block line = markdown.block_after block line
 plain_block _ block line = block
 
 -- a line without its end
@@ -45,8 +45,8 @@ abbrev pub items_by : LineRules → List ℕ → List Item
 items_by rules line = line_items rules.opts rules.file rules.number (block_of rules.block) line
 
 -- the rules behind a row
-abbrev pub behind_row : LineRules → List ℕ → LineRules
-behind_row rules line =
+abbrev pub after_row : LineRules → List ℕ → LineRules
+after_row rules line =
     let items = plain_items rules.opts.format rules.opts rules.file rules.number (block_of rules.block) line in
     record rules {
       block = place_of (plain_block rules.opts.format (block_of rules.block) line);
@@ -55,8 +55,8 @@ behind_row rules line =
     }
 
 -- the rules behind a line without its end, and its events
-abbrev pub behind_line : LineRules → List ℕ → LineRules
-behind_line rules line =
+abbrev pub rules_after : LineRules → List ℕ → LineRules
+rules_after rules line =
     if rules.stopped then rules else
     record rules {
       number = rules.number + 1;
@@ -70,7 +70,7 @@ line_events rules line = if rules.stopped then [] else events_of rules.at (items
 
 -- an ended line
 abbrev pub after_line : LineRules → List ℕ → LineRules
-after_line rules line = behind_line rules (without_return line)
+after_line rules line = rules_after rules (without_return line)
 
 abbrev pub gives_line : LineRules → List ℕ → List Event
 gives_line rules line = line_events rules (without_return line)
@@ -78,7 +78,7 @@ gives_line rules line = line_events rules (without_return line)
 -- what is left at the end
 abbrev pub after_last : LineRules → List ℕ → LineRules
 after_last rules [] = rules
-after_last rules (b ∷ line) = behind_line rules (b ∷ line)
+after_last rules (b ∷ line) = rules_after rules (b ∷ line)
 
 abbrev pub gives_last : LineRules → List ℕ → List Event
 gives_last rules [] = []

@@ -2,7 +2,7 @@ ghost use Rattle.std.specs.Prelude.{◌≡◌, ◌<◌, ◌≤◌, ◌==◌, len
 ghost use Rattle.std.specs.List.{list_all, prefix_len, suffix_len};
 ghost use Rattle.std.specs.Option.{option_map};
 ghost use Rattle.read_dkvp_nidx.specs.Cells.{HasNoBar, IsBarCut, bar_from, is_escape};
-ghost use Rattle.read_dkvp_nidx.specs.Markdown.{bar_parts, cell_of, cells_behind, cells_of, is_rule, is_space, trimmed, unescaped, without_colons};
+ghost use Rattle.read_dkvp_nidx.specs.Markdown.{bar_parts, cell_of, cells_after, cells_of, is_rule, is_space, trimmed, unescaped, without_colons};
 ghost use Rattle.read_dkvp_nidx.specs.Row.{cells_in};
 
 use mlr_spec::NoMemory;
@@ -14,14 +14,15 @@ pub(crate) fn cells_of(alloc: Global, line: &[u8]) -> Result<Option<Vec<Bytes>>,
     ensures { IfOk result (λ cells. option_map cells_in cells ≡ cells_of line.now) }
 {
     match line {
-        [b'|', rest @ ..] => cells_behind(alloc, rest),
+        [b'|', rest @ ..] => cells_after(alloc, rest),
         _ => Ok(None),
     }
 }
 
 /// The cells behind the first bar of a line.
-fn cells_behind(alloc: Global, text: &[u8]) -> Result<Option<Vec<Bytes>>, NoMemory>
-    ensures { IfOk result (λ cells. option_map cells_in cells ≡ cells_behind (bar_parts 124 text.now)) }
+fn cells_after(alloc: Global, text: &[u8]) -> Result<Option<Vec<Bytes>>, NoMemory>
+    ensures { IfOk result (λ cells. option_map cells_in cells
+        ≡ cells_after (bar_parts 124 text.now)) }
 {
     let mut cells = Vec::new(alloc);
     let mut left = text;
@@ -38,7 +39,8 @@ fn cells_behind(alloc: Global, text: &[u8]) -> Result<Option<Vec<Bytes>>, NoMemo
 
 /// What stands before the next bar and behind it.
 fn cut_bar(text: &[u8]) -> Option<(&[u8], &[u8])>
-    ensures { MatchOption result (HasNoBar text.now) (λ cut. IsBarCut text.now cut.0.now cut.1.now) }
+    ensures { MatchOption result (HasNoBar text.now)
+        (λ cut. IsBarCut text.now cut.0.now cut.1.now) }
 {
     let place = bar_place(text)?;
     Some((&text[..place], &text[place + 1..]))
@@ -92,8 +94,8 @@ fn is_escape(byte: u8, rest: &[u8]) -> bool
 fn trimmed(text: &[u8]) -> &[u8]
     ensures { result.now ≡ trimmed text.now }
 {
-    let front = &text[spaces_before(text)..];
-    &front[..front.len() - spaces_behind(front)]
+    let prefix = &text[spaces_before(text)..];
+    &prefix[..prefix.len() - spaces_after(prefix)]
 }
 
 fn spaces_before(text: &[u8]) -> usize
@@ -108,7 +110,7 @@ fn spaces_before(text: &[u8]) -> usize
     text.len()
 }
 
-fn spaces_behind(text: &[u8]) -> usize
+fn spaces_after(text: &[u8]) -> usize
     ensures count { result ≡ suffix_len is_space text.now }
     ensures inside { result ≤ length text.now }
 {
@@ -152,12 +154,12 @@ fn are_dashes(text: &[u8]) -> bool
 fn without_colons(cell: &[u8]) -> &[u8]
     ensures { result.now ≡ without_colons cell.now }
 {
-    let front = match cell {
+    let prefix = match cell {
         [b':', rest @ ..] => rest,
         _ => cell,
     };
-    match front {
+    match prefix {
         [rest @ .., b':'] => rest,
-        _ => front,
+        _ => prefix,
     }
 }

@@ -40,7 +40,9 @@ fn put_pieces(
     requires ips { 0 < length opts.now.ips }
     requires length { length line.now < 2 ^ 63 }
     requires empty { record.old ≡ [] }
-    ensures { OnOk result (record.new ≡ record_of opts.now.dedupe (keys_from opts.now.ips 1 (split_by opts.now.ifs line.now)) (values_from opts.now (split_by opts.now.ifs line.now))) }
+    ensures { OnOk result (record.new ≡ record_of opts.now.dedupe
+        (keys_from opts.now.ips 1 (split_by opts.now.ifs line.now))
+        (values_from opts.now (split_by opts.now.ifs line.now))) }
 {
     let mut position = 1;
     let mut left = line;

@@ -3,13 +3,18 @@ ghost use Rattle.mlr_event.specs.declared.event.Ctx.{Ctx};
 ghost use Rattle.mlr_event.specs.declared.event.Event.{Event};
 ghost use Rattle.mlr_event.specs.declared.names.FileRef.{FileRef};
 ghost use Rattle.mlr_event.specs.declared.options.ReadOpts.{ReadOpts};
-ghost use Rattle.mlr_lines.specs.Fronts.{ended_front};
+ghost use Rattle.mlr_lines.specs.Prefixes.{ended_prefix};
 ghost use Rattle.read_dkvp_nidx.specs.Lines.{line_fed, line_read};
 
 /// What a front of a file fixes: it stays whatever follows, and it is what the longest front that ends with a line
 /// end stands for as a whole file. It does nothing.
-pub fn front_laws()
-    ensures fed { (opts : ReadOpts) (file : FileRef) (start : Ctx) (bytes rest : List ℕ) → (more : List Event) × (line_fed opts file start (bytes ++ rest) ≡ line_fed opts file start bytes ++ more) }
-    ensures read { (opts : ReadOpts) (file : FileRef) (start : Ctx) (bytes rest : List ℕ) → (more : List Event) × (line_read opts file start (bytes ++ rest) ≡ line_fed opts file start bytes ++ more) }
-    ensures front { (opts : ReadOpts) (file : FileRef) (start : Ctx) (bytes : List ℕ) → line_fed opts file start bytes ≡ line_read opts file start (ended_front bytes) }
+pub fn prefix_laws()
+    ensures fed { (opts : ReadOpts) (file : FileRef) (start : Ctx) (bytes rest : List ℕ)
+        → (more : List Event)
+        × (line_fed opts file start (bytes ++ rest) ≡ line_fed opts file start bytes ++ more) }
+    ensures read { (opts : ReadOpts) (file : FileRef) (start : Ctx) (bytes rest : List ℕ)
+        → (more : List Event)
+        × (line_read opts file start (bytes ++ rest) ≡ line_fed opts file start bytes ++ more) }
+    ensures prefix { (opts : ReadOpts) (file : FileRef) (start : Ctx) (bytes : List ℕ)
+        → line_fed opts file start bytes ≡ line_read opts file start (ended_prefix bytes) }
 {}

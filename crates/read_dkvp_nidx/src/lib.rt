@@ -5,14 +5,14 @@ mod block;
 mod cells;
 mod dkvp;
 mod laws;
+mod line_step;
 mod markdown;
 mod nidx;
 mod reader;
 mod row;
 mod rules;
-mod take;
 #[cfg(test)]
 mod tests;
 
-pub use laws::front_laws;
+pub use laws::prefix_laws;
 pub use reader::{LineReader, can_read};

@@ -3,7 +3,7 @@ ghost use Rattle.std.specs.List.{zip};
 ghost use Rattle.mlr_spec.specs.Infer.{tree_of_data};
 ghost use Rattle.mlr_spec.specs.Pairs.{are_distinct};
 ghost use Rattle.mlr_event.specs.Reading.{record_of};
-ghost use Rattle.read_dkvp_nidx.specs.Markdown.{block_behind, markdown_row, row, row_block, row_items as items_in_block, under};
+ghost use Rattle.read_dkvp_nidx.specs.Markdown.{block_after, markdown_row, row, row_block, row_items as items_in_block, under};
 ghost use Rattle.read_dkvp_nidx.specs.Row.{block_of, place_of, row_items};
 
 use crate::block::Block;
@@ -32,8 +32,9 @@ pub(crate) fn markdown_row(
     block: &mut Block,
     line: &[u8],
 ) -> Result<Row, NoMemory>
-    ensures items { IfOk result (λ row. row_items row ≡ markdown_row opts.now place.file place.line (block_of block.old) line.now) }
-    ensures block { OnOk result (block.new ≡ place_of (block_behind (block_of block.old) line.now)) }
+    ensures items { IfOk result (λ row. row_items row
+        ≡ markdown_row opts.now place.file place.line (block_of block.old) line.now) }
+    ensures block { OnOk result (block.new ≡ place_of (block_after (block_of block.old) line.now)) }
 {
     if line.is_empty() {
         *block = Block::Outside;
@@ -55,8 +56,10 @@ fn table_row(
     block: &mut Block,
     cells: Vec<Bytes>,
 ) -> Result<Row, NoMemory>
-    ensures items { IfOk result (λ row. row_items row ≡ items_in_block opts.now place.file place.line (block_of block.old) (Some cells.items)) }
-    ensures block { OnOk result (block.new ≡ place_of (row_block (block_of block.old) (Some cells.items))) }
+    ensures items { IfOk result (λ row. row_items row
+        ≡ items_in_block opts.now place.file place.line (block_of block.old) (Some cells.items)) }
+    ensures block { OnOk result (block.new ≡ place_of
+        (row_block (block_of block.old) (Some cells.items))) }
 {
     let (row, next) = match mem::replace(block, Block::Outside) {
         Block::Outside => (Row::Nothing, Block::Under(Header::new(alloc, cells)?)),
@@ -75,7 +78,8 @@ fn table_row(
 
 /// What the line under a header gives: nothing, or a fault.
 fn rule_row(opts: &ReadOpts, place: Place, header: &Header, cells: &[Bytes]) -> Row
-    ensures { row_items result ≡ items_in_block opts.now place.file place.line (under header.now) (Some cells.now) }
+    ensures { row_items result ≡ items_in_block opts.now place.file place.line (under header.now)
+        (Some cells.now) }
 {
     if !are_rules(cells) {
         return Row::Fault(Fault::Table {
@@ -98,7 +102,8 @@ fn cells_row(
     header: &Header,
     cells: &[Bytes],
 ) -> Result<Row, NoMemory>
-    ensures { IfOk result (λ made. row_items made ≡ row opts.now place.file place.line header.now cells.now) }
+    ensures { IfOk result (λ made. row_items made
+        ≡ row opts.now place.file place.line header.now cells.now) }
 {
     if cells.len() != header.len() {
         return Ok(Row::Fault(length_fault(place, header, cells)));
@@ -118,7 +123,8 @@ fn fill(
 ) -> Result<(), NoMemory>
     requires same { length cells.now ≡ length header.now }
     requires empty { record.old ≡ [] }
-    ensures { OnOk result (record.new ≡ record_of opts.now.dedupe header.now (map (tree_of_data opts.now.infer) cells.now)) }
+    ensures { OnOk result (record.new ≡ record_of opts.now.dedupe header.now
+        (map (tree_of_data opts.now.infer) cells.now)) }
 {
     if opts.dedupe {
         push_cells(alloc, opts, header.keys(), cells, record)
@@ -138,7 +144,8 @@ fn push_cells(
     requires distinct { are_distinct names.now ≡ true }
     requires same { length cells.now ≡ length names.now }
     requires empty { record.old ≡ [] }
-    ensures { OnOk result (record.new ≡ zip names.now (map (tree_of_data opts.now.infer) cells.now)) }
+    ensures { OnOk result (record.new ≡ zip names.now
+        (map (tree_of_data opts.now.infer) cells.now)) }
 {
     for (i, cell) in cells.iter().enumerate() {
         push_text(alloc, opts, names[i].as_slice(), cell.as_slice(), record)?;
@@ -157,7 +164,8 @@ fn put_cells(
     requires length { length cells.now < 2 ^ 63 }
     requires same { length cells.now ≡ length names.now }
     requires empty { record.old ≡ [] }
-    ensures { OnOk result (record.new ≡ record_of opts.now.dedupe names.now (map (tree_of_data opts.now.infer) cells.now)) }
+    ensures { OnOk result (record.new ≡ record_of opts.now.dedupe names.now
+        (map (tree_of_data opts.now.infer) cells.now)) }
 {
     for (i, cell) in cells.iter().enumerate() {
         put_text(alloc, opts, names[i].as_slice(), cell.as_slice(), record)?;

@@ -2,7 +2,7 @@ ghost use Rattle.std.specs.Prelude.{◌≡◌, ◌-◌, ◌^◌, ◌<◌, [], No
 ghost use Rattle.std.specs.Fmt.{decimal};
 ghost use Rattle.mlr_spec.specs.Pairs.{value_at};
 ghost use Rattle.read_dkvp_nidx.specs.Nidx.{nidx_record, by_position, words_of};
-ghost use Rattle.read_dkvp_nidx.specs.Pieces.{with_word, position_behind};
+ghost use Rattle.read_dkvp_nidx.specs.Pieces.{with_word, position_after};
 ghost use Rattle.read_dkvp_nidx.specs.Row.{row_items};
 
 use crate::row::Row;
@@ -18,7 +18,8 @@ use std::alloc::Global;
 pub(crate) fn nidx_row(alloc: Global, opts: &ReadOpts, line: &[u8]) -> Result<Row, NoMemory>
     requires ifs { 0 < length opts.now.ifs }
     requires length { length line.now < 2 ^ 63 }
-    ensures { IfOk result (λ row. row_items row ≡ nidx_record opts.now (words_of opts.now.ifs line.now)) }
+    ensures { IfOk result (λ row. row_items row
+        ≡ nidx_record opts.now (words_of opts.now.ifs line.now)) }
 {
     let mut record = Record::new(alloc)?;
     put_words(alloc, opts, line, &mut record)?;
@@ -63,7 +64,7 @@ fn put_word(
     requires room { position < 2 ^ 64 - 1 }
     requires free { value_at (decimal position) record.old ≡ None }
     ensures record { OnOk result (record.new ≡ with_word opts.now position word.now record.old) }
-    ensures position { IfOk result (λ next. next ≡ position_behind position word.now) }
+    ensures position { IfOk result (λ next. next ≡ position_after position word.now) }
 {
     if word.is_empty() {
         return Ok(position);

@@ -15,7 +15,7 @@ or-false true = refl
 or-false false = refl
 
 -- a fault stands last alone
-fault-last : (x : Event) (xs : List Event) → is_list (x ∷ xs) ≡ true → (front : List Event) × (e : Event) × (x ∷ xs ≡ front ++ e ∷ []) × (list_any is_fault (x ∷ xs) ≡ is_fault e)
+fault-last : (x : Event) (xs : List Event) → is_list (x ∷ xs) ≡ true → (prefix : List Event) × (e : Event) × (x ∷ xs ≡ prefix ++ e ∷ []) × (list_any is_fault (x ∷ xs) ≡ is_fault e)
 fault-last x [] list = ([], x, refl, or-false (is_fault x))
 fault-last x (y ∷ xs) list =
     let parts = and_parts (not (is_last x)) (is_list (y ∷ xs)) list in
@@ -29,11 +29,11 @@ pub last-tells : (events known more : List Event) (i : ℕ) (e : Event) → even
 last-tells events known [] i e are some last part at = absurd (let none = ap length (are ∙ append-nil known) in omega (arith, none, some))
 last-tells events known (x ∷ xs) i e are some last part at =
     let found = fault-last x xs (and_parts (not (list_any is_end (x ∷ xs))) (is_list (x ∷ xs)) part).1 in
-    let front = known ++ found.0 in
-    let all : events ≡ front ++ found.1 ∷ [] = are ∙ ap (λ l. known ++ l) found.2 ∙ sym (append_assoc known found.0 (found.1 ∷ [])) in
-    let place : i ≡ length front = omega (arith, last, ap length all, length-append front (found.1 ∷ [])) in
+    let prefix = known ++ found.0 in
+    let all : events ≡ prefix ++ found.1 ∷ [] = are ∙ ap (λ l. known ++ l) found.2 ∙ sym (append_assoc known found.0 (found.1 ∷ [])) in
+    let place : i ≡ length prefix = omega (arith, last, ap length all, length-append prefix (found.1 ∷ [])) in
     let same : found.1 ≡ e =
-    sym (get_or-append_seam front found.1 [] e) ∙ ap (λ n. get_or (front ++ found.1 ∷ []) n e) (sym place) ∙ ap (λ l. get_or l i e) (sym all) ∙ get_or_from_slice_get events i e e at in
+    sym (get_or-append_seam prefix found.1 [] e) ∙ ap (λ n. get_or (prefix ++ found.1 ∷ []) n e) (sym place) ∙ ap (λ l. get_or l i e) (sym all) ∙ get_or_from_slice_get events i e e at in
     ap is_fault (sym same) ∙ sym found.3
 
 -- and there is none where there are no more

@@ -17,11 +17,11 @@ until-clear (x ∷ xs) h =
     let parts = or_parts (is_fault x) (list_any is_fault xs) h in
     ap (λ b. x ∷ cond b [] (until_fault xs)) parts.0 ∙ ap (λ l. x ∷ l) (until-clear xs parts.1)
 
-pub until-behind : (xs ys : List Event) → list_any is_fault xs ≡ false → until_fault (xs ++ ys) ≡ xs ++ until_fault ys
-until-behind [] ys h = refl
-until-behind (x ∷ xs) ys h =
+pub until-following : (xs ys : List Event) → list_any is_fault xs ≡ false → until_fault (xs ++ ys) ≡ xs ++ until_fault ys
+until-following [] ys h = refl
+until-following (x ∷ xs) ys h =
     let parts = or_parts (is_fault x) (list_any is_fault xs) h in
-    ap (λ b. x ∷ cond b [] (until_fault (xs ++ ys))) parts.0 ∙ ap (λ l. x ∷ l) (until-behind xs ys parts.1)
+    ap (λ b. x ∷ cond b [] (until_fault (xs ++ ys))) parts.0 ∙ ap (λ l. x ∷ l) (until-following xs ys parts.1)
 
 pub until-faulty : (xs ys : List Event) → list_any is_fault xs ≡ true → until_fault (xs ++ ys) ≡ until_fault xs
 until-faulty [] ys h = absurd (let e : false ≡ true = h in cc)
@@ -37,7 +37,7 @@ until-faulty (x ∷ xs) ys h = elim (cases_Bool (is_fault x)) [
 pub until-grows : (xs ys : List Event) → (more : List Event) × (until_fault (xs ++ ys) ≡ until_fault xs ++ more)
 until-grows xs ys = elim (cases_Bool (list_any is_fault xs)) [
   | inl some ↦ ([], until-faulty xs ys some ∙ sym (append-nil (until_fault xs)))
-  | inr none ↦ (until_fault ys, until-behind xs ys none ∙ ap (λ l. l ++ until_fault ys) (sym (until-clear xs none)))
+  | inr none ↦ (until_fault ys, until-following xs ys none ∙ ap (λ l. l ++ until_fault ys) (sym (until-clear xs none)))
 ]
 
 pub until-prefix : (xs ys zs : List Event) → (more : List Event) × (until_fault zs ≡ until_fault ys ++ more) → (more : List Event) × (until_fault (xs ++ zs) ≡ until_fault (xs ++ ys) ++ more)
@@ -45,7 +45,7 @@ until-prefix xs ys zs longer = elim (cases_Bool (list_any is_fault xs)) [
   | inl some ↦ ([], until-faulty xs zs some ∙ sym (until-faulty xs ys some) ∙ sym (append-nil (until_fault (xs ++ ys))))
   | inr none ↦ (
     longer.0,
-    until-behind xs zs none ∙ ap (λ l. xs ++ l) longer.1 ∙ sym (append_assoc xs (until_fault ys) longer.0) ∙ ap (λ l. l ++ longer.0) (sym (until-behind xs ys none)),
+    until-following xs zs none ∙ ap (λ l. xs ++ l) longer.1 ∙ sym (append_assoc xs (until_fault ys) longer.0) ∙ ap (λ l. l ++ longer.0) (sym (until-following xs ys none)),
   )
 ]
 

@@ -10,7 +10,7 @@ use Rattle.mlr_event.specs.declared.options.ReadOpts.{ReadOpts}
 use Rattle.mlr_event.specs.Verb.{is_fault, is_list, is_open}
 use Rattle.mlr_event.proofs.Ordered.{open-before}
 use Rattle.mlr_world.specs.Taken.{Take}
-use Rattle.read_files.specs.Given.{GoesOn, InOrder, TakeGoesOn, stops_at}
+use Rattle.read_files.specs.Takes.{GoesOn, InOrder, TakeGoesOn, stops_at}
 use Rattle.read_files.specs.Sources.{events_taken, source}
 use Rattle.read_files.proofs.Formats.{Growth}
 use Rattle.read_files.proofs.Growing.{inputs-list, source-grows}

@@ -13,12 +13,12 @@ use Rattle.mlr_event.specs.Reading.{Item, comment, fields, fault, next, events_o
 use Rattle.mlr_event.specs.Verb.{is_end, is_last, is_list, is_part}
 use Rattle.mlr_json.specs.Reading.{lexemes_left}
 use Rattle.mlr_lines.specs.Lines.{begun_line, ended_lines, fixed_lines, whole_lines}
-use Rattle.mlr_spec.specs.JsonTokens.{front_outside}
+use Rattle.mlr_spec.specs.JsonTokens.{prefix_outside}
 use Rattle.read_csv.specs.Rows.{rows_from}
 use Rattle.read_dkvp_nidx.specs.Lines.{items_of_lines}
 use Rattle.read_xtab_pprint.specs.Blocks.{items_fixed, items_whole}
 use Rattle.read_json_lines.specs.Files.{file_items}
-use Rattle.read_files.specs.Sources.{Source, ctx_behind, gives_as, csv_fed_of, csv_read_of, line_fed_of, line_read_of, block_fed_of, block_read_of, json_fed_of, json_read_of}
+use Rattle.read_files.specs.Sources.{Source, ctx_after_events, gives_as, csv_fed_of, csv_read_of, line_fed_of, line_read_of, block_fed_of, block_read_of, json_fed_of, json_read_of}
 
 -- the events of items are a part
 no-end : (at : Ctx) (items : List Item) → list_any is_end (events_of at items) ≡ false
@@ -41,13 +41,13 @@ events-part : (at : Ctx) (items : List Item) → is_part (events_of at items) �
 events-part at items = ap₂ (λ a b. not a && b) (no-end at items) (events-list at items)
 
 -- the context behind them, which keeps the number of the file
-pub events-ctx : (at : Ctx) (items : List Item) → ctx_after at items ≡ ctx_behind at (events_of at items)
+pub events-ctx : (at : Ctx) (items : List Item) → ctx_after at items ≡ ctx_after_events at (events_of at items)
 events-ctx at [] = refl
 events-ctx at (comment text ∷ items) = events-ctx at items
 events-ctx at (fields pairs ∷ items) = events-ctx (next at) items
 events-ctx at (fault f ∷ items) = refl
 
-events-filenum : (at : Ctx) (items : List Item) → (ctx_behind at (events_of at items)).filenum ≡ at.filenum
+events-filenum : (at : Ctx) (items : List Item) → (ctx_after_events at (events_of at items)).filenum ≡ at.filenum
 events-filenum at [] = refl
 events-filenum at (comment text ∷ items) = events-filenum at items
 events-filenum at (fields pairs ∷ items) = events-filenum (next at) items
@@ -87,9 +87,9 @@ items-as format.Markdown source all bytes = line-items source all bytes
 pub gives-part : (fmt : Format) (source : Source) (all : Bool) (bytes : List ℕ) → is_part (gives_as fmt source all bytes) ≡ true
 gives-part fmt source all bytes = let found = items-as fmt source all bytes in ap is_part found.1 ∙ events-part source.ctx found.0
 
-pub gives-filenum : (fmt : Format) (source : Source) (all : Bool) (bytes : List ℕ) → (ctx_behind source.ctx (gives_as fmt source all bytes)).filenum ≡ source.ctx.filenum
+pub gives-filenum : (fmt : Format) (source : Source) (all : Bool) (bytes : List ℕ) → (ctx_after_events source.ctx (gives_as fmt source all bytes)).filenum ≡ source.ctx.filenum
 gives-filenum fmt source all bytes =
-    let found = items-as fmt source all bytes in ap (λ e. (ctx_behind source.ctx e).filenum) found.1 ∙ events-filenum source.ctx found.0
+    let found = items-as fmt source all bytes in ap (λ e. (ctx_after_events source.ctx e).filenum) found.1 ∙ events-filenum source.ctx found.0
 
 -- no bytes give nothing
 no-lines : (opts : ReadOpts) (file : FileRef) (fmt : Format) → items_of_lines opts file fmt [] ≡ []
@@ -121,7 +121,7 @@ block-none : (source : Source) → block_fed_of source [] ≡ []
 block-none source = ap (events_of source.ctx) (no-blocks source.opts source.file source.opts.format)
 
 json-none : (source : Source) → json_fed_of source [] ≡ []
-unfolding lexemes_left front_outside
+unfolding lexemes_left prefix_outside
 json-none source = refl
 
 pub gives-none : (fmt : Format) (source : Source) → gives_as fmt source false [] ≡ []

@@ -8,31 +8,31 @@ use Rattle.mlr_event.specs.declared.names.InputName.{InputName}
 use Rattle.mlr_event.specs.declared.options.ReadOpts.{ReadOpts}
 use Rattle.mlr_world.specs.Inputs.{Contents}
 use Rattle.mlr_world.specs.Taken.{Take, grown, last_take, with_last}
-use Rattle.read_files.specs.Given.{AreFrontsTaken, GoesOn, InOrder, TakeGoesOn, ends, stops_at, total}
+use Rattle.read_files.specs.Takes.{ArePrefixesTaken, GoesOn, InOrder, TakeGoesOn, ends, stops_at, total}
 use Rattle.read_files.specs.Sources.{ctx_after_take, ctx_from, events_from, take_gives}
-use Rattle.read_files.specs.Standing.{AllRead}
+use Rattle.read_files.specs.Represents.{AllRead}
 
 -- what stops, and the order, behind inputs that were read whole
-pub stops-behind : (names more : List InputName) (given takes : List Take) → AllRead names given → stops_at (names ++ more) (given ++ takes) ≡ stops_at more takes
-stops-behind [] more [] takes read = refl
-stops-behind [] more (t ∷ given) takes read = absurd read
-stops-behind (name ∷ names) more [] takes read = absurd read
-stops-behind (name ∷ names) more (t ∷ given) takes read =
-    ap (λ ended. if ended then stops_at (names ++ more) (given ++ takes) else Some name) read.1 ∙ stops-behind names more given takes read.2
+pub stops-following : (names more : List InputName) (given takes : List Take) → AllRead names given → stops_at (names ++ more) (given ++ takes) ≡ stops_at more takes
+stops-following [] more [] takes read = refl
+stops-following [] more (t ∷ given) takes read = absurd read
+stops-following (name ∷ names) more [] takes read = absurd read
+stops-following (name ∷ names) more (t ∷ given) takes read =
+    ap (λ ended. if ended then stops_at (names ++ more) (given ++ takes) else Some name) read.1 ∙ stops-following names more given takes read.2
 
-pub order-behind : (names more : List InputName) (given takes : List Take) → AllRead names given → InOrder more takes → InOrder (names ++ more) (given ++ takes)
-order-behind [] more [] takes read order = order
-order-behind [] more (t ∷ given) takes read order = absurd read
-order-behind (name ∷ names) more [] takes read order = absurd read
-order-behind (name ∷ names) more (t ∷ []) [] read order = read.0
-order-behind (name ∷ names) more (t ∷ []) (u ∷ takes) read order = (read.0, read.1, order-behind names more [] (u ∷ takes) read.2 order)
-order-behind (name ∷ names) more (t ∷ u ∷ given) takes read order = (read.0, read.1, order-behind names more (u ∷ given) takes read.2 order)
+pub order-following : (names more : List InputName) (given takes : List Take) → AllRead names given → InOrder more takes → InOrder (names ++ more) (given ++ takes)
+order-following [] more [] takes read order = order
+order-following [] more (t ∷ given) takes read order = absurd read
+order-following (name ∷ names) more [] takes read order = absurd read
+order-following (name ∷ names) more (t ∷ []) [] read order = read.0
+order-following (name ∷ names) more (t ∷ []) (u ∷ takes) read order = (read.0, read.1, order-following names more [] (u ∷ takes) read.2 order)
+order-following (name ∷ names) more (t ∷ u ∷ given) takes read order = (read.0, read.1, order-following names more (u ∷ given) takes read.2 order)
 
 pub read-append : (names more : List InputName) (given takes : List Take) → AllRead names given → AllRead more takes → AllRead (names ++ more) (given ++ takes)
-read-append [] more [] takes read behind = behind
-read-append [] more (t ∷ given) takes read behind = absurd read
-read-append (name ∷ names) more [] takes read behind = absurd read
-read-append (name ∷ names) more (t ∷ given) takes read behind = (read.0, read.1, read-append names more given takes read.2 behind)
+read-append [] more [] takes read following = following
+read-append [] more (t ∷ given) takes read following = absurd read
+read-append (name ∷ names) more [] takes read following = absurd read
+read-append (name ∷ names) more (t ∷ given) takes read following = (read.0, read.1, read-append names more given takes read.2 following)
 
 -- of inputs that were read whole the last one was
 pub read-ended : (names : List InputName) (given : List Take) → AllRead names given → IfSome (last_take given) (λ last. last.ended ≡ true)
@@ -63,13 +63,13 @@ ctx-append opts ctx [] takes = refl
 ctx-append opts ctx (t ∷ given) takes = ctx-append opts (ctx_after_take opts ctx t) given takes
 
 -- fronts
-pub fronts-append : (told : Contents) (given takes : List Take) → AreFrontsTaken told given → AreFrontsTaken told takes → AreFrontsTaken told (given ++ takes)
-fronts-append told [] takes first second = second
-fronts-append told (t ∷ given) takes first second = (first.0, fronts-append told given takes first.1 second)
+pub prefixes-append : (told : Contents) (given takes : List Take) → ArePrefixesTaken told given → ArePrefixesTaken told takes → ArePrefixesTaken told (given ++ takes)
+prefixes-append told [] takes first second = second
+prefixes-append told (t ∷ given) takes first second = (first.0, prefixes-append told given takes first.1 second)
 
-pub fronts-before : (told : Contents) (given takes : List Take) → AreFrontsTaken told (given ++ takes) → AreFrontsTaken told given
-fronts-before told [] takes fronts = tt
-fronts-before told (t ∷ given) takes fronts = (fronts.0, fronts-before told given takes fronts.1)
+pub prefixes-before : (told : Contents) (given takes : List Take) → ArePrefixesTaken told (given ++ takes) → ArePrefixesTaken told given
+prefixes-before told [] takes prefixes = tt
+prefixes-before told (t ∷ given) takes prefixes = (prefixes.0, prefixes-before told given takes prefixes.1)
 
 -- the last entry
 pub with_last-push : (f : Take → Take) (takes : List Take) (t : Take) → with_last f (takes ++ t ∷ []) ≡ takes ++ f t ∷ []

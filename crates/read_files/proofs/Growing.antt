@@ -13,9 +13,9 @@ use Rattle.mlr_event.specs.declared.options.ReadOpts.{ReadOpts}
 use Rattle.mlr_event.specs.Verb.{is_end, is_fault, is_list}
 use Rattle.mlr_world.specs.Inputs.{Contents}
 use Rattle.mlr_world.specs.Taken.{Take}
-use Rattle.read_files.specs.Given.{AreFrontsTaken, AreWhole, GoesOn, InOrder, IsFrontTaken, TakeGoesOn, stops_at}
-use Rattle.read_files.specs.Sources.{Source, ctx_after_take, ctx_behind, ctx_from, events_from, events_taken, gives_as, is_whole, next_file, source, take_gives, until_fault, zero_context}
-use Rattle.read_files.specs.Standing.{source_behind}
+use Rattle.read_files.specs.Takes.{ArePrefixesTaken, AreWhole, GoesOn, InOrder, IsPrefixTaken, TakeGoesOn, stops_at}
+use Rattle.read_files.specs.Sources.{Source, ctx_after_take, ctx_after_events, ctx_from, events_from, events_taken, gives_as, is_whole, next_file, source, take_gives, until_fault, zero_context}
+use Rattle.read_files.specs.Represents.{source_after}
 use Rattle.read_files.proofs.Events.{ended-list, fault-none, part-no_end, until-clear, until-grows, until-prefix}
 use Rattle.read_files.proofs.Formats.{Growth, gives-part}
 
@@ -24,7 +24,7 @@ pub inputs-no_end : (opts : ReadOpts) (ctx : Ctx) (given : List Take) → list_a
 inputs-no_end opts ctx [] = refl
 inputs-no_end opts ctx (t ∷ given) =
     list_any-append is_end (take_gives opts ctx t) (events_from opts (ctx_after_take opts ctx t) given)
-    ∙ ap₂ (λ a b. a || b) (part-no_end (take_gives opts ctx t) (gives-part opts.format (source_behind opts ctx) t.ended t.bytes)) (inputs-no_end opts (ctx_after_take opts ctx t) given)
+    ∙ ap₂ (λ a b. a || b) (part-no_end (take_gives opts ctx t) (gives-part opts.format (source_after opts ctx) t.ended t.bytes)) (inputs-no_end opts (ctx_after_take opts ctx t) given)
 
 pub inputs-list : (opts : ReadOpts) (names : List InputName) (given : List Take) → is_list (source opts names given) ≡ true
 inputs-list opts names given =
@@ -37,15 +37,15 @@ module _ (growth : Growth) (opts : ReadOpts) where
   whole-same : (ctx : Ctx) (t u : Take) → TakeGoesOn t u → t.ended ≡ true → take_gives opts ctx u ≡ take_gives opts ctx t
   whole-same ctx t u on e =
       let all = on.1.2 e in
-      ap₂ (λ ended bytes. gives_as opts.format (source_behind opts ctx) ended bytes) (all.1 ∙ sym e) (on.1.1 ∙ ap (λ more. t.bytes ++ more) all.0 ∙ append-nil t.bytes)
+      ap₂ (λ ended bytes. gives_as opts.format (source_after opts ctx) ended bytes) (all.1 ∙ sym e) (on.1.1 ∙ ap (λ more. t.bytes ++ more) all.0 ∙ append-nil t.bytes)
 
   take-grows : (ctx : Ctx) (t u : Take) → TakeGoesOn t u → (more : List Event) × (take_gives opts ctx u ≡ take_gives opts ctx t ++ more)
   take-grows ctx t u on = elim (cases_Bool t.ended) [
     | inl is ↦ ([], whole-same ctx t u on is ∙ sym (append-nil (take_gives opts ctx t)))
     | inr none ↦
-        let more = growth opts.format (source_behind opts ctx) u.ended t.bytes on.1.0 in (
+        let more = growth opts.format (source_after opts ctx) u.ended t.bytes on.1.0 in (
           more.0,
-          ap (gives_as opts.format (source_behind opts ctx) u.ended) on.1.1 ∙ more.1 ∙ ap (λ ended. gives_as opts.format (source_behind opts ctx) ended t.bytes ++ more.0) (sym none),
+          ap (gives_as opts.format (source_after opts ctx) u.ended) on.1.1 ∙ more.1 ∙ ap (λ ended. gives_as opts.format (source_after opts ctx) ended t.bytes ++ more.0) (sym none),
         )
   ]
 
@@ -65,10 +65,10 @@ module _ (growth : Growth) (opts : ReadOpts) where
       )
   inputs-grow ctx (name ∷ names) (t ∷ next ∷ given) (u ∷ longer) order on =
       let here = take_gives opts ctx t in
-      let behind = ctx_after_take opts ctx t in
-      let more = until-prefix here (events_from opts behind (next ∷ given)) (events_from opts behind longer) (inputs-grow behind names (next ∷ given) longer order.2 on.1) in (
+      let following = ctx_after_take opts ctx t in
+      let more = until-prefix here (events_from opts following (next ∷ given)) (events_from opts following longer) (inputs-grow following names (next ∷ given) longer order.2 on.1) in (
         more.0,
-        ap (λ e. until_fault (e ++ events_from opts (ctx_behind (next_file ctx) e) longer)) (whole-same ctx t u on.0 order.1) ∙ more.1,
+        ap (λ e. until_fault (e ++ events_from opts (ctx_after_events (next_file ctx) e) longer)) (whole-same ctx t u on.0 order.1) ∙ more.1,
       )
 
   pub source-grows : (names : List InputName) (given longer : List Take) → InOrder names given → GoesOn given longer → (more : List Event) × (source opts names longer ≡ events_taken opts given ++ more)
@@ -78,17 +78,17 @@ module _ (growth : Growth) (opts : ReadOpts) where
       (more.0 ++ tail, ap (λ e. e ++ tail) more.1 ∙ append_assoc (events_taken opts given) more.0 tail)
 
 -- what was taken goes on as the whole
-take-whole : (told : Contents) (name : InputName) (t u : Take) → t.name ≡ name → IsFrontTaken told t → u.name ≡ name → u.ended ≡ true → told name ≡ Some u.bytes → TakeGoesOn t u
-take-whole told name t u same front same' ended holds =
-    (same' ∙ sym same, (front.0, some-is (sym holds ∙ ap told (sym same) ∙ front.1), λ e. (front.2 e, ended)))
+take-whole : (told : Contents) (name : InputName) (t u : Take) → t.name ≡ name → IsPrefixTaken told t → u.name ≡ name → u.ended ≡ true → told name ≡ Some u.bytes → TakeGoesOn t u
+take-whole told name t u same prefix same' ended holds =
+    (same' ∙ sym same, (prefix.0, some-is (sym holds ∙ ap told (sym same) ∙ prefix.1), λ e. (prefix.2 e, ended)))
   where
     some-is : {x y : List ℕ} → Some x ≡ Some y → x ≡ y
     some-is e = cc
 
-pub inputs-whole : (told : Contents) (names : List InputName) (given whole : List Take) → InOrder names given → AreFrontsTaken told given → AreWhole told names whole → GoesOn given whole
-inputs-whole told names [] whole order fronts all = tt
-inputs-whole told [] (t ∷ given) whole order fronts all = absurd order
-inputs-whole told (name ∷ names) (t ∷ given) [] order fronts all = absurd all
-inputs-whole told (name ∷ names) (t ∷ []) (u ∷ whole) order fronts all = (take-whole told name t u order fronts.0 all.0 all.1 all.2, tt)
-inputs-whole told (name ∷ names) (t ∷ next ∷ given) (u ∷ whole) order fronts all =
-    (take-whole told name t u order.0 fronts.0 all.0 all.1 all.2, inputs-whole told names (next ∷ given) whole order.2 fronts.1 all.3)
+pub inputs-whole : (told : Contents) (names : List InputName) (given whole : List Take) → InOrder names given → ArePrefixesTaken told given → AreWhole told names whole → GoesOn given whole
+inputs-whole told names [] whole order prefixes all = tt
+inputs-whole told [] (t ∷ given) whole order prefixes all = absurd order
+inputs-whole told (name ∷ names) (t ∷ given) [] order prefixes all = absurd all
+inputs-whole told (name ∷ names) (t ∷ []) (u ∷ whole) order prefixes all = (take-whole told name t u order prefixes.0 all.0 all.1 all.2, tt)
+inputs-whole told (name ∷ names) (t ∷ next ∷ given) (u ∷ whole) order prefixes all =
+    (take-whole told name t u order.0 prefixes.0 all.0 all.1 all.2, inputs-whole told names (next ∷ given) whole order.2 prefixes.1 all.3)

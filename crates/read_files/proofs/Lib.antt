@@ -11,4 +11,4 @@ pub mod Stepping
 pub mod Ending
 pub mod Steps
 pub mod Fixed
-pub mod Fronts
+pub mod Prefixes

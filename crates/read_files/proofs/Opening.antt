@@ -15,13 +15,13 @@ use Rattle.mlr_world.specs.Taken.{Take, begun}
 use Rattle.read_files.specs.declared.reader.FileReader.{FileReader}
 use Rattle.read_files.specs.declared.reader.ReadTurn.{ReadTurn}
 use Rattle.read_files.specs.declared.reader.ReadTurn.TheVariants.{Went, Ended, Failed, TooLong, NoMemory}
-use Rattle.read_files.specs.Given.{Behind, InOrder, ends, stops_at, total}
+use Rattle.read_files.specs.Takes.{After, InOrder, ends, stops_at, total}
 use Rattle.read_files.specs.Sources.{ctx_from, events_taken, source, zero_context}
-use Rattle.read_files.specs.Standing.{AllRead, NoneStands, OpenStands, StandsFor, Turned, TurnSays, open_count}
-use Rattle.read_files.specs.Steps.{PutsEnd, StandsNext}
+use Rattle.read_files.specs.Represents.{AllRead, NoneRepresents, OpenRepresents, Represents, Turned, TurnSays, open_count}
+use Rattle.read_files.specs.Steps.{AppendsEnd, RepresentsNext}
 use Rattle.read_files.proofs.Beginning.{begun-events}
 use Rattle.read_files.proofs.Events.{end-closed, open-clear}
-use Rattle.read_files.proofs.Given.{ends-append, goes_on-before, goes_on-more, order-behind, stops-behind, total-append}
+use Rattle.read_files.proofs.Given.{ends-append, goes_on-before, goes_on-more, order-following, stops-following, total-append}
 use Rattle.read_files.proofs.Reading.{goes_on-same}
 use Rattle.read_files.proofs.Steps.{source-stops, source-whole}
 
@@ -39,53 +39,53 @@ turned-opened turn opts names before given opened reader' contents contents' tak
   given' = turned.given';
   order = turned.order;
   goes_on = goes_on-before given (begun opened ∷ []) turned.given' turned.goes_on;
-  behind = subst (λ c. Behind before turned.given' c taken' name') same turned.behind;
+  following = subst (λ c. After before turned.given' c taken' name') same turned.following;
   one_read = omega (arith, turned.one_read, total-append given (begun opened ∷ []));
   few = turned.few;
   says = says-opened turn opts names given turned.given' opened turned.says;
   more = turned.more;
   events = turned.events ∙ ap (λ e. e ++ turned.more) (begun-events opts given opened);
-  puts = turned.puts;
-  stands = turned.stands;
+  appends = turned.appends;
+  represents = turned.represents;
 }
 
 -- it was opened, and there was no memory for its reader
-pub turned-opened-none : (opts : ReadOpts) (names : List InputName) (before : Option (List Take)) (given : List Take) (reader reader' : FileReader) (s : StandsFor opts names given reader) (contents contents' : Option Contents) (taken' : Option (List Take)) (name' : Option InputName)
-    (opened : InputName) → contents' ≡ contents → Behind before (given ++ begun opened ∷ []) contents' taken' name' → InOrder names (given ++ begun opened ∷ []) → stops_at names (given ++ begun opened ∷ []) ≡ Some opened → (out : List Event)
+pub turned-opened-none : (opts : ReadOpts) (names : List InputName) (before : Option (List Take)) (given : List Take) (reader reader' : FileReader) (s : Represents opts names given reader) (contents contents' : Option Contents) (taken' : Option (List Take)) (name' : Option InputName)
+    (opened : InputName) → contents' ≡ contents → After before (given ++ begun opened ∷ []) contents' taken' name' → InOrder names (given ++ begun opened ∷ []) → stops_at names (given ++ begun opened ∷ []) ≡ Some opened → (out : List Event)
     → Turned NoMemory opts names before given reader' contents taken' name' out out
-turned-opened-none opts names before given reader reader' s contents contents' taken' name' opened same behind order stops out = record {
+turned-opened-none opts names before given reader reader' s contents contents' taken' name' opened same following order stops out = record {
   given' = given ++ begun opened ∷ [];
   order = order;
   goes_on = goes_on-more given (begun opened ∷ []);
-  behind = subst (λ c. Behind before (given ++ begun opened ∷ []) c taken' name') same behind;
+  following = subst (λ c. After before (given ++ begun opened ∷ []) c taken' name') same following;
   one_read = omega (arith, total-append given (begun opened ∷ []));
   few = omega (arith, s.few, total-append given (begun opened ∷ []));
   says = tt;
   more = [];
   events = source-stops opts names (given ++ begun opened ∷ []) opened stops ∙ begun-events opts given opened ∙ sym (append-nil (events_taken opts given));
-  puts = λ none. absurd (none refl);
-  stands = λ e. absurd (let f : NoMemory ≡ Went = e in cc);
+  appends = λ none. absurd (none refl);
+  represents = λ e. absurd (let f : NoMemory ≡ Went = e in cc);
 }
 
 -- where no input is open
-module _ (opts : ReadOpts) (names : List InputName) (given : List Take) (reader : FileReader) (s : StandsFor opts names given reader) (closed : reader.current ≡ None) where
-  none : NoneStands s.front (reverse reader.names.items) s.done names given
-  none = subst (λ o. OpenStands o opts s.front (reverse reader.names.items) s.done names given) closed s.current
+module _ (opts : ReadOpts) (names : List InputName) (given : List Take) (reader : FileReader) (s : Represents opts names given reader) (closed : reader.current ≡ None) where
+  none : NoneRepresents s.prefix (reverse reader.names.items) s.done names given
+  none = subst (λ o. OpenRepresents o opts s.prefix (reverse reader.names.items) s.done names given) closed s.current
 
-  pub read-so : AllRead s.front given
-  read-so = subst (AllRead s.front) (sym none.given_is) s.read
+  pub read-so : AllRead s.prefix given
+  read-so = subst (AllRead s.prefix) (sym none.given_is) s.read
 
-  names-next : (name : InputName) (left : Vec InputName Global) → reader.names.items ≡ left.items ++ name ∷ [] → names ≡ s.front ++ name ∷ reverse left.items
-  names-next name left popped = none.names_are ∙ ap (λ l. s.front ++ reverse l) popped ∙ ap (λ l. s.front ++ l) (reverse-append left.items (name ∷ []))
+  names-next : (name : InputName) (left : Vec InputName Global) → reader.names.items ≡ left.items ++ name ∷ [] → names ≡ s.prefix ++ name ∷ reverse left.items
+  names-next name left popped = none.names_are ∙ ap (λ l. s.prefix ++ reverse l) popped ∙ ap (λ l. s.prefix ++ l) (reverse-append left.items (name ∷ []))
 
-  pub next-stands : (name : InputName) (left : Vec InputName Global) → reader.names.items ≡ left.items ++ name ∷ [] → StandsNext opts names given name (record reader { names = left })
-  next-stands name left popped = record {
+  pub next-represents : (name : InputName) (left : Vec InputName Global) → reader.names.items ≡ left.items ++ name ∷ [] → RepresentsNext opts names given name (record reader { names = left })
+  next-represents name left popped = record {
     few = s.few;
     clear = s.clear;
     usable = s.usable;
     opts_are = s.opts_are;
     taken_is = s.taken_is;
-    front = s.front;
+    prefix = s.prefix;
     read = read-so;
     at_is = s.at_is ∙ ap (ctx_from opts zero_context) (sym none.given_is);
     few_files = omega (arith, s.few_files, ap open_count closed, ap length popped, length-append left.items (name ∷ []));
@@ -95,21 +95,21 @@ module _ (opts : ReadOpts) (names : List InputName) (given : List Take) (reader 
 
   pub stops-next : (name : InputName) (left : Vec InputName Global) → reader.names.items ≡ left.items ++ name ∷ [] → stops_at names given ≡ Some name
   stops-next name left popped =
-      ap (λ n. stops_at n given) (names-next name left popped) ∙ ap (stops_at (s.front ++ name ∷ reverse left.items)) (sym (append-nil given)) ∙ stops-behind s.front (name ∷ reverse left.items) given [] read-so
+      ap (λ n. stops_at n given) (names-next name left popped) ∙ ap (stops_at (s.prefix ++ name ∷ reverse left.items)) (sym (append-nil given)) ∙ stops-following s.prefix (name ∷ reverse left.items) given [] read-so
 
   pub order-opened : (name : InputName) (left : Vec InputName Global) → reader.names.items ≡ left.items ++ name ∷ [] → InOrder names (given ++ begun name ∷ [])
   order-opened name left popped =
-      subst (λ n. InOrder n (given ++ begun name ∷ [])) (sym (names-next name left popped)) (order-behind s.front (name ∷ reverse left.items) given (begun name ∷ []) read-so refl)
+      subst (λ n. InOrder n (given ++ begun name ∷ [])) (sym (names-next name left popped)) (order-following s.prefix (name ∷ reverse left.items) given (begun name ∷ []) read-so refl)
 
   pub stops-opened : (name : InputName) (left : Vec InputName Global) → reader.names.items ≡ left.items ++ name ∷ [] → stops_at names (given ++ begun name ∷ []) ≡ Some name
   stops-opened name left popped =
-      ap (λ n. stops_at n (given ++ begun name ∷ [])) (names-next name left popped) ∙ stops-behind s.front (name ∷ reverse left.items) given (begun name ∷ []) read-so
+      ap (λ n. stops_at n (given ++ begun name ∷ [])) (names-next name left popped) ∙ stops-following s.prefix (name ∷ reverse left.items) given (begun name ∷ []) read-so
 
   -- and there is no other
-  module _ (before : Option (List Take)) (contents : Option Contents) (taken : Option (List Take)) (name : Option InputName) (behind : Behind before given contents taken name) (last : reader.names.items ≡ []) (reader' : FileReader) (out out' : List Event) where
+  module _ (before : Option (List Take)) (contents : Option Contents) (taken : Option (List Take)) (name : Option InputName) (following : After before given contents taken name) (last : reader.names.items ≡ []) (reader' : FileReader) (out out' : List Event) where
     stops-none : stops_at names given ≡ None
     stops-none =
-        ap (λ n. stops_at n given) (none.names_are ∙ ap (λ l. s.front ++ reverse l) last) ∙ ap (stops_at (s.front ++ [])) (sym (append-nil given)) ∙ stops-behind s.front [] given [] read-so
+        ap (λ n. stops_at n given) (none.names_are ∙ ap (λ l. s.prefix ++ reverse l) last) ∙ ap (stops_at (s.prefix ++ [])) (sym (append-nil given)) ∙ stops-following s.prefix [] given [] read-so
 
     clear-so : list_any is_fault (events_taken opts given) ≡ false
     clear-so = open-clear (events_taken opts given) s.clear
@@ -120,33 +120,33 @@ module _ (opts : ReadOpts) (names : List InputName) (given : List Take) (reader 
     source-so : source opts names given ≡ events_taken opts given ++ End reader.at ∷ []
     source-so = source-whole opts names given stops-none clear-so ∙ ap (λ c. events_taken opts given ++ End c ∷ []) (sym at-so)
 
-    pub turned-all : (turn : ReadTurn) → PutsEnd turn reader.at out out' → Turned turn opts names before given reader' contents taken name out out'
-    turned-all Went puts = absurd puts
-    turned-all Ended puts = record {
+    pub turned-all : (turn : ReadTurn) → AppendsEnd turn reader.at out out' → Turned turn opts names before given reader' contents taken name out out'
+    turned-all Went appends = absurd appends
+    turned-all Ended appends = record {
       given' = given;
       order = s.order;
       goes_on = goes_on-same given;
-      behind = behind;
+      following = following;
       one_read = omega arith;
       few = omega (arith, s.few);
       says = ap is_open source-so ∙ end-closed (events_taken opts given) (End reader.at) refl;
       more = End reader.at ∷ [];
       events = source-so;
-      puts = λ _. puts;
-      stands = λ e. absurd (let f : Ended ≡ Went = e in cc);
+      appends = λ _. appends;
+      represents = λ e. absurd (let f : Ended ≡ Went = e in cc);
     }
-    turned-all (Failed failed) puts = absurd puts
-    turned-all TooLong puts = absurd puts
-    turned-all NoMemory puts = record {
+    turned-all (Failed failed) appends = absurd appends
+    turned-all TooLong appends = absurd appends
+    turned-all NoMemory appends = record {
       given' = given;
       order = s.order;
       goes_on = goes_on-same given;
-      behind = behind;
+      following = following;
       one_read = omega arith;
       few = omega (arith, s.few);
       says = tt;
       more = End reader.at ∷ [];
       events = source-so;
-      puts = λ none. absurd (none refl);
-      stands = λ e. absurd (let f : NoMemory ≡ Went = e in cc);
+      appends = λ none. absurd (none refl);
+      represents = λ e. absurd (let f : NoMemory ≡ Went = e in cc);
     }

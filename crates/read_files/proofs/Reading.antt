@@ -14,24 +14,24 @@ use Rattle.read_files.specs.declared.open_file.OpenInput.{OpenInput}
 use Rattle.read_files.specs.declared.reader.FileReader.{FileReader}
 use Rattle.read_files.specs.declared.reader.ReadTurn.{ReadTurn}
 use Rattle.read_files.specs.declared.reader.ReadTurn.TheVariants.{Went, Ended, Failed, TooLong, NoMemory}
-use Rattle.read_files.specs.Given.{Behind, GoesOn, ends, stops_at, total}
+use Rattle.read_files.specs.Takes.{After, GoesOn, ends, stops_at, total}
 use Rattle.read_files.specs.Sources.{events_taken, source}
-use Rattle.read_files.specs.Standing.{StandsFor, Turned, TurnCause, TurnSays}
+use Rattle.read_files.specs.Represents.{Represents, Turned, TurnCause, TurnSays}
 use Rattle.read_files.specs.Steps.{Stepped, failed}
-use Rattle.read_files.proofs.Given.{goes_on-more, stops-behind, total-append, with_last-push}
+use Rattle.read_files.proofs.Given.{goes_on-more, stops-following, total-append, with_last-push}
 use Rattle.read_files.proofs.Steps.{given_to, source-stops, take_of}
-use Rattle.read_files.proofs.Taking.{behind-ended, behind-grown, behind-same, open-name, open-some}
+use Rattle.read_files.proofs.Taking.{following-ended, following-grown, following-same, open-name, open-some}
 
 -- what was read is no other for what is kept of the last piece
-pub stands-piece : (opts : ReadOpts) (names : List InputName) (given : List Take) (reader : FileReader) (piece : List ℕ) → StandsFor opts names given reader → StandsFor opts names given (record reader { piece = piece })
-stands-piece opts names given reader piece s = record {
+pub represents-piece : (opts : ReadOpts) (names : List InputName) (given : List Take) (reader : FileReader) (piece : List ℕ) → Represents opts names given reader → Represents opts names given (record reader { piece = piece })
+represents-piece opts names given reader piece s = record {
   order = s.order;
   few = s.few;
   clear = s.clear;
   usable = s.usable;
   opts_are = s.opts_are;
   taken_is = s.taken_is;
-  front = s.front;
+  prefix = s.prefix;
   done = s.done;
   read = s.read;
   at_is = s.at_is;
@@ -53,25 +53,25 @@ goes_on-same given = subst (GoesOn given) (append-nil given) (goes_on-more given
 
 -- a read that led to more, as the inputs tell it
 pub turned-of : (turn : ReadTurn) (opts : ReadOpts) (names : List InputName) (before : Option (List Take)) (given given' : List Take) (reader' : FileReader) (contents : Option Contents) (taken' : Option (List Take)) (name' : Option InputName)
-    (out out' : List Event) → Stepped turn opts names given given' reader' out out' → Behind before given' contents taken' name' → total given' < total given + 65536 → total given' ≤ 2 ^ 60
+    (out out' : List Event) → Stepped turn opts names given given' reader' out out' → After before given' contents taken' name' → total given' < total given + 65536 → total given' ≤ 2 ^ 60
     → Turned turn opts names before given reader' contents taken' name' out out'
-turned-of turn opts names before given given' reader' contents taken' name' out out' step behind one few = record {
+turned-of turn opts names before given given' reader' contents taken' name' out out' step following one few = record {
   given' = given';
   order = step.order;
   goes_on = step.goes_on;
-  behind = behind;
+  following = following;
   one_read = one;
   few = few;
   says = step.says;
   more = step.more;
   events = step.events;
-  puts = step.puts;
-  stands = step.stands;
+  appends = step.appends;
+  represents = step.represents;
 }
 
 -- a call that took nothing, where an input is still to be read
-module _ (opts : ReadOpts) (names : List InputName) (before : Option (List Take)) (given : List Take) (reader reader' : FileReader) (s : StandsFor opts names given reader) (contents : Option Contents) (taken' : Option (List Take)) (name' : Option InputName)
-    (behind : Behind before given contents taken' name') (next : InputName) (stops : stops_at names given ≡ Some next) (out : List Event) where
+module _ (opts : ReadOpts) (names : List InputName) (before : Option (List Take)) (given : List Take) (reader reader' : FileReader) (s : Represents opts names given reader) (contents : Option Contents) (taken' : Option (List Take)) (name' : Option InputName)
+    (following : After before given contents taken' name') (next : InputName) (stops : stops_at names given ≡ Some next) (out : List Event) where
   source-same : source opts names given ≡ events_taken opts given ++ []
   source-same = source-stops opts names given next stops ∙ sym (append-nil (events_taken opts given))
 
@@ -80,14 +80,14 @@ module _ (opts : ReadOpts) (names : List InputName) (before : Option (List Take)
     given' = given;
     order = s.order;
     goes_on = goes_on-same given;
-    behind = behind;
+    following = following;
     one_read = omega arith;
     few = omega (arith, s.few);
     says = (ap is_open (source-stops opts names given next stops) ∙ s.clear, s.few, stops, source-stops opts names given next stops);
     more = [];
     events = source-same;
-    puts = λ _. sym (append-nil out);
-    stands = λ e. absurd (let f : Failed next ≡ Went = e in cc);
+    appends = λ _. sym (append-nil out);
+    represents = λ e. absurd (let f : Failed next ≡ Went = e in cc);
   }
 
   pub turned-none : Turned NoMemory opts names before given reader' contents taken' name' out out
@@ -95,35 +95,35 @@ module _ (opts : ReadOpts) (names : List InputName) (before : Option (List Take)
     given' = given;
     order = s.order;
     goes_on = goes_on-same given;
-    behind = behind;
+    following = following;
     one_read = omega arith;
     few = omega (arith, s.few);
     says = tt;
     more = [];
     events = source-same;
-    puts = λ none. absurd (none refl);
-    stands = λ e. absurd (let f : NoMemory ≡ Went = e in cc);
+    appends = λ none. absurd (none refl);
+    represents = λ e. absurd (let f : NoMemory ≡ Went = e in cc);
   }
 
 -- a read of the open input
-module _ (opts : ReadOpts) (names : List InputName) (given : List Take) (reader : FileReader) (input : OpenInput) (s : StandsFor opts names given (record reader { current = Some input }))
-    (before : Option (List Take)) (contents : Option Contents) (taken : Option (List Take)) (name : Option InputName) (behind : Behind before given contents taken name) where
+module _ (opts : ReadOpts) (names : List InputName) (given : List Take) (reader : FileReader) (input : OpenInput) (s : Represents opts names given (record reader { current = Some input }))
+    (before : Option (List Take)) (contents : Option Contents) (taken : Option (List Take)) (name : Option InputName) (following : After before given contents taken name) where
   abbrev take_so : Take
   take_so = take_of input.name false s.current.bytes
 
-  behind-so : Behind before (s.done ++ take_so ∷ []) contents taken name
-  behind-so = subst (λ g. Behind before g contents taken name) s.current.given_is behind
+  following-so : After before (s.done ++ take_so ∷ []) contents taken name
+  following-so = subst (λ g. After before g contents taken name) s.current.given_is following
 
   pub name-so : name ≡ Some input.name
-  name-so = open-name before s.done take_so refl contents taken taken name name behind-so
+  name-so = open-name before s.done take_so refl contents taken taken name name following-so
 
   pub some-so : IsSome name
-  some-so = open-some before s.done take_so refl contents taken taken name name behind-so
+  some-so = open-some before s.done take_so refl contents taken taken name name following-so
 
   pub stops-so : stops_at names given ≡ Some input.name
   stops-so =
-      ap (λ n. stops_at n given) s.current.names_are ∙ ap (stops_at (s.front ++ input.name ∷ reverse reader.names.items)) s.current.given_is
-      ∙ stops-behind s.front (input.name ∷ reverse reader.names.items) s.done (take_so ∷ []) s.read
+      ap (λ n. stops_at n given) s.current.names_are ∙ ap (stops_at (s.prefix ++ input.name ∷ reverse reader.names.items)) s.current.given_is
+      ∙ stops-following s.prefix (input.name ∷ reverse reader.names.items) s.done (take_so ∷ []) s.read
 
   with_last-so : (f : Take → Take) → with_last f given ≡ s.done ++ f take_so ∷ []
   with_last-so f = ap (with_last f) s.current.given_is ∙ with_last-push f s.done take_so
@@ -143,14 +143,14 @@ module _ (opts : ReadOpts) (names : List InputName) (given : List Take) (reader 
     turned-piece max empty into none step one few stepped =
         let is : into ≡ step.piece = step.appended ∙ ap (λ i. i ++ step.piece) none in
         turned-of turn opts names before given (with_last (grown into) given) reader' contents taken' name' out out' stepped
-        (subst (λ g. Behind before g contents taken' name') (sym (with_last-so (grown into)))
-        (subst (λ p. Behind before (s.done ++ grown p take_so ∷ []) contents taken' name') (sym is)
-        (behind-grown before s.done take_so refl contents taken taken' name name' behind-so step.piece step.entry step.front same)))
+        (subst (λ g. After before g contents taken' name') (sym (with_last-so (grown into)))
+        (subst (λ p. After before (s.done ++ grown p take_so ∷ []) contents taken' name') (sym is)
+        (following-grown before s.done take_so refl contents taken taken' name name' following-so step.piece step.entry step.prefix same)))
         (omega (arith, total-grown into, ap length is, step.count, step.no_more, one))
         (omega (arith, total-grown into, ap length is, step.count, step.no_more, few))
 
     pub turned-end : (into into' : List ℕ) (step : MeetsEnd contents taken taken' into into') → Stepped turn opts names given (with_last ended given) reader' out out' → Turned turn opts names before given reader' contents taken' name' out out'
     turned-end into into' step stepped =
         turned-of turn opts names before given (with_last ended given) reader' contents taken' name' out out' stepped
-        (subst (λ g. Behind before g contents taken' name') (sym (with_last-so ended)) (behind-ended before s.done take_so refl contents taken taken' name name' behind-so step.entry step.all))
+        (subst (λ g. After before g contents taken' name') (sym (with_last-so ended)) (following-ended before s.done take_so refl contents taken taken' name name' following-so step.entry step.all))
         (omega (arith, total-ended)) (omega (arith, total-ended, s.few))

@@ -17,10 +17,10 @@ use Rattle.read_files.specs.declared.open_file.OpenInput.{OpenInput}
 use Rattle.read_files.specs.declared.reader.FileReader.{FileReader}
 use Rattle.read_files.specs.declared.reader.ReadTurn.{ReadTurn}
 use Rattle.read_files.specs.declared.reader.ReadTurn.TheVariants.{Went, Ended, Failed, TooLong, NoMemory}
-use Rattle.read_files.specs.Given.{GoesOn, InOrder, ends, stops_at, total}
-use Rattle.read_files.specs.Readers.{FileStands, counted}
-use Rattle.read_files.specs.Sources.{Source, ctx_behind, ctx_from, events_taken, gives_as, source, zero_context}
-use Rattle.read_files.specs.Standing.{StandsFor, source_behind}
+use Rattle.read_files.specs.Takes.{GoesOn, InOrder, ends, stops_at, total}
+use Rattle.read_files.specs.Readers.{FileRepresents, counted}
+use Rattle.read_files.specs.Sources.{Source, ctx_after_events, ctx_from, events_taken, gives_as, source, zero_context}
+use Rattle.read_files.specs.Represents.{Represents, source_after}
 use Rattle.read_files.specs.Steps.{Closes, Stepped, WentTo}
 use Rattle.read_files.proofs.Formats.{gives-part}
 use Rattle.read_files.proofs.Given.{ends-append, read-append}
@@ -40,15 +40,15 @@ less-or : (n : ℕ) → n ≤ 2 ^ 60 → (n ≡ 2 ^ 60 → ⊥) → n < 2 ^ 60
 less-or n few other = elim (cases_lt n (2 ^ 60)) [ inl less ↦ less | inr more ↦ absurd (other (omega (arith, few, more))) ]
 
 -- the reader whose open input is known
-pub in-place : (opts : ReadOpts) (names : List InputName) (given : List Take) (reader : FileReader) (input : OpenInput) → reader.current ≡ Some input → StandsFor opts names given reader → StandsFor opts names given (record reader { current = Some input })
-in-place opts names given reader input is s = subst (λ o. StandsFor opts names given (record reader { current = o })) is s
+pub in-place : (opts : ReadOpts) (names : List InputName) (given : List Take) (reader : FileReader) (input : OpenInput) → reader.current ≡ Some input → Represents opts names given reader → Represents opts names given (record reader { current = Some input })
+in-place opts names given reader input is s = subst (λ o. Represents opts names given (record reader { current = o })) is s
 
-module _ (opts : ReadOpts) (names : List InputName) (given : List Take) (reader : FileReader) (input : OpenInput) (s : StandsFor opts names given (record reader { current = Some input })) where
+module _ (opts : ReadOpts) (names : List InputName) (given : List Take) (reader : FileReader) (input : OpenInput) (s : Represents opts names given (record reader { current = Some input })) where
   abbrev pub bytes_so : List ℕ
   bytes_so = s.current.bytes
 
   abbrev pub source_so : Source
-  source_so = source_behind opts (ctx_from opts zero_context s.done)
+  source_so = source_after opts (ctx_from opts zero_context s.done)
 
   abbrev pub gives_so : Bool → List ℕ → List Event
   gives_so all b = gives_as opts.format source_so all b
@@ -60,7 +60,7 @@ module _ (opts : ReadOpts) (names : List InputName) (given : List Take) (reader 
   rest = reverse reader.names.items
 
   abbrev inputs : List InputName
-  inputs = s.front ++ input.name ∷ rest
+  inputs = s.prefix ++ input.name ∷ rest
 
   abbrev known : List Take
   known = now_taken false bytes_so
@@ -69,10 +69,10 @@ module _ (opts : ReadOpts) (names : List InputName) (given : List Take) (reader 
   clear = subst (λ g. is_open (events_taken opts g) ≡ true) s.current.given_is s.clear
 
   pub total-so : total given ≡ total s.done + length bytes_so
-  total-so = ap total s.current.given_is ∙ steps.total-now opts s.front rest s.done s.read input.name bytes_so false bytes_so
+  total-so = ap total s.current.given_is ∙ steps.total-now opts s.prefix rest s.done s.read input.name bytes_so false bytes_so
 
   total-to : (all : Bool) (b : List ℕ) → total (now_taken all b) ≡ total s.done + length b
-  total-to all b = steps.total-now opts s.front rest s.done s.read input.name bytes_so all b
+  total-to all b = steps.total-now opts s.prefix rest s.done s.read input.name bytes_so all b
 
   -- in terms of what is read whole and what is open
   stepped-so : (turn : ReadTurn) (f : Take → Take) (all : Bool) (b : List ℕ) (reader' : FileReader) (out out' : List Event) → with_last f known ≡ now_taken all b
@@ -83,16 +83,16 @@ module _ (opts : ReadOpts) (names : List InputName) (given : List Take) (reader 
       (subst (λ g. Stepped turn opts inputs known g reader' out out') (sym is) step))
 
   grown-is : (piece : List ℕ) → with_last (grown piece) known ≡ now_taken false (bytes_so ++ piece)
-  grown-is piece = steps.grown-now opts s.front rest s.done s.read input.name bytes_so piece
+  grown-is piece = steps.grown-now opts s.prefix rest s.done s.read input.name bytes_so piece
 
   ended-is : with_last ended known ≡ now_taken true bytes_so
-  ended-is = steps.ended-now opts s.front rest s.done s.read input.name bytes_so
+  ended-is = steps.ended-now opts s.prefix rest s.done s.read input.name bytes_so
 
   pub more-part : (all : Bool) (b : List ℕ) (more : List Event) → gives_so all b ≡ gives_so false bytes_so ++ more → is_part more ≡ true
-  more-part all b more now_is = steps.more-part opts s.front rest s.done s.read input.name bytes_so clear all b more now_is
+  more-part all b more now_is = steps.more-part opts s.prefix rest s.done s.read input.name bytes_so clear all b more now_is
 
   order-to : (all : Bool) (b : List ℕ) → InOrder inputs (now_taken all b)
-  order-to all b = steps.order-now opts s.front rest s.done s.read input.name bytes_so all b
+  order-to all b = steps.order-now opts s.prefix rest s.done s.read input.name bytes_so all b
 
   -- want of memory
   none-to : (grows : SourceGrows) (all : Bool) (b : List ℕ) (reader' : FileReader) (out out' : List Event) → GoesOn known (now_taken all b) → Stepped NoMemory opts inputs known (now_taken all b) reader' out out'
@@ -104,8 +104,8 @@ module _ (opts : ReadOpts) (names : List InputName) (given : List Take) (reader 
         says = tt;
         more = more.0;
         events = more.1;
-        puts = λ none. absurd (none refl);
-        stands = λ e. absurd (let f : NoMemory ≡ Went = e in cc);
+        appends = λ none. absurd (none refl);
+        represents = λ e. absurd (let f : NoMemory ≡ Went = e in cc);
       }
 
   -- a fault
@@ -114,20 +114,20 @@ module _ (opts : ReadOpts) (names : List InputName) (given : List Take) (reader 
   faulty-to all b reader' out out' on adds some = record {
     order = order-to all b;
     goes_on = on;
-    says = steps.faulty-closed opts s.front rest s.done s.read input.name bytes_so clear all b adds.0 adds.1 some;
+    says = steps.faulty-closed opts s.prefix rest s.done s.read input.name bytes_so clear all b adds.0 adds.1 some;
     more = adds.0;
-    events = steps.faulty-source opts s.front rest s.done s.read input.name bytes_so clear all b adds.0 adds.1 some;
-    puts = λ _. adds.2;
-    stands = λ e. absurd (let f : Ended ≡ Went = e in cc);
+    events = steps.faulty-source opts s.prefix rest s.done s.read input.name bytes_so clear all b adds.0 adds.1 some;
+    appends = λ _. adds.2;
+    represents = λ e. absurd (let f : Ended ≡ Went = e in cc);
   }
 
   -- a piece was read
   module _ (piece : List ℕ) (out out' : List Event) where
     on-piece : GoesOn known (now_taken false (bytes_so ++ piece))
-    on-piece = steps.goes_on-grown opts s.front rest s.done s.read input.name bytes_so piece
+    on-piece = steps.goes_on-grown opts s.prefix rest s.done s.read input.name bytes_so piece
 
     stops-piece : stops_at inputs (now_taken false (bytes_so ++ piece)) ≡ Some input.name
-    stops-piece = steps.stops-open opts s.front rest s.done s.read input.name bytes_so (bytes_so ++ piece)
+    stops-piece = steps.stops-open opts s.prefix rest s.done s.read input.name bytes_so (bytes_so ++ piece)
 
     pub piece-none : (grows : SourceGrows) (reader' : FileReader) → Stepped NoMemory opts names given (with_last (grown piece) given) reader' out out'
     piece-none grows reader' =
@@ -140,10 +140,10 @@ module _ (opts : ReadOpts) (names : List InputName) (given : List Take) (reader 
 
       module _ (none : list_any is_fault adds.0 ≡ false) where
         open-piece : is_open (source opts inputs (now_taken false (bytes_so ++ piece))) ≡ true
-        open-piece = steps.stopped-open opts s.front rest s.done s.read input.name bytes_so clear false (bytes_so ++ piece) adds.0 adds.1 input.name stops-piece none
+        open-piece = steps.stopped-open opts s.prefix rest s.done s.read input.name bytes_so clear false (bytes_so ++ piece) adds.0 adds.1 input.name stops-piece none
 
         source-piece : source opts inputs (now_taken false (bytes_so ++ piece)) ≡ events_taken opts known ++ adds.0
-        source-piece = steps.stopped-source opts s.front rest s.done s.read input.name bytes_so clear false (bytes_so ++ piece) adds.0 adds.1 input.name stops-piece
+        source-piece = steps.stopped-source opts s.prefix rest s.done s.read input.name bytes_so clear false (bytes_so ++ piece) adds.0 adds.1 input.name stops-piece
 
         pub piece-long : (reader' : FileReader) → total given + length piece ≡ 2 ^ 60 → Stepped TooLong opts names given (with_last (grown piece) given) reader' out out'
         piece-long reader' long =
@@ -153,13 +153,13 @@ module _ (opts : ReadOpts) (names : List InputName) (given : List Take) (reader 
               says = (open-piece, omega (arith, long, total-so, total-to false (bytes_so ++ piece), length-append bytes_so piece));
               more = adds.0;
               events = source-piece;
-              puts = λ _. adds.2;
-              stands = λ e. absurd (let f : TooLong ≡ Went = e in cc);
+              appends = λ _. adds.2;
+              represents = λ e. absurd (let f : TooLong ≡ Went = e in cc);
             })
 
-        pub piece-on : (bytes' : List ℕ) (taken' : ℕ) (file' : OpenFile) → taken' ≡ total given + length piece → taken' < 2 ^ 60 → 1 ≤ length piece → FileStands file' source_so (bytes_so ++ piece)
+        pub piece-on : (bytes' : List ℕ) (taken' : ℕ) (file' : OpenFile) → taken' ≡ total given + length piece → taken' < 2 ^ 60 → 1 ≤ length piece → FileRepresents file' source_so (bytes_so ++ piece)
             → Stepped Went opts names given (with_last (grown piece) given) (record reader { piece = bytes'; taken = taken'; current = Some (record { name = input.name; reader = file' }) }) out out'
-        piece-on bytes' taken' file' taken_is few some stands =
+        piece-on bytes' taken' file' taken_is few some represents =
             let reader' : FileReader = record reader { piece = bytes'; taken = taken'; current = Some (record { name = input.name; reader = file' }) } in
             let sum : total (now_taken false (bytes_so ++ piece)) ≡ taken' = omega (arith, taken_is, total-so, total-to false (bytes_so ++ piece), length-append bytes_so piece) in
             stepped-so Went (grown piece) false (bytes_so ++ piece) reader' out out' (grown-is piece) (record {
@@ -172,32 +172,32 @@ module _ (opts : ReadOpts) (names : List InputName) (given : List Take) (reader 
               );
               more = adds.0;
               events = source-piece;
-              puts = λ _. adds.2;
-              stands = λ _. record {
+              appends = λ _. adds.2;
+              represents = λ _. record {
                 order = order-to false (bytes_so ++ piece);
                 few = omega (arith, sum, few);
-                clear = steps.clear-now opts s.front rest s.done s.read input.name bytes_so clear false (bytes_so ++ piece) adds.0 adds.1 none;
+                clear = steps.clear-now opts s.prefix rest s.done s.read input.name bytes_so clear false (bytes_so ++ piece) adds.0 adds.1 none;
                 usable = s.usable;
                 opts_are = s.opts_are;
                 taken_is = sym sum;
-                front = s.front;
+                prefix = s.prefix;
                 done = s.done;
                 read = s.read;
                 at_is = s.at_is;
                 few_files = s.few_files;
                 few_records = s.few_records;
-                current = record { bytes = bytes_so ++ piece; names_are = refl; given_is = refl; stands = stands };
+                current = record { bytes = bytes_so ++ piece; names_are = refl; given_is = refl; represents = represents };
               };
             })
 
         -- whether or not too many bytes were taken
-        pub piece-went : (turn : ReadTurn) (bytes' : List ℕ) (taken' : ℕ) (file' : OpenFile) → taken' ≡ total given + length piece → taken' ≤ 2 ^ 60 → 1 ≤ length piece → FileStands file' source_so (bytes_so ++ piece) → WentTo turn taken'
+        pub piece-went : (turn : ReadTurn) (bytes' : List ℕ) (taken' : ℕ) (file' : OpenFile) → taken' ≡ total given + length piece → taken' ≤ 2 ^ 60 → 1 ≤ length piece → FileRepresents file' source_so (bytes_so ++ piece) → WentTo turn taken'
             → Stepped turn opts names given (with_last (grown piece) given) (record reader { piece = bytes'; taken = taken'; current = Some (record { name = input.name; reader = file' }) }) out out'
-        piece-went Went bytes' taken' file' taken_is few some stands went = piece-on bytes' taken' file' taken_is (less-or taken' few went) some stands
-        piece-went Ended bytes' taken' file' taken_is few some stands went = absurd went
-        piece-went (Failed name) bytes' taken' file' taken_is few some stands went = absurd went
-        piece-went TooLong bytes' taken' file' taken_is few some stands went = piece-long (record reader { piece = bytes'; taken = taken'; current = Some (record { name = input.name; reader = file' }) }) (sym taken_is ∙ went)
-        piece-went NoMemory bytes' taken' file' taken_is few some stands went = absurd went
+        piece-went Went bytes' taken' file' taken_is few some represents went = piece-on bytes' taken' file' taken_is (less-or taken' few went) some represents
+        piece-went Ended bytes' taken' file' taken_is few some represents went = absurd went
+        piece-went (Failed name) bytes' taken' file' taken_is few some represents went = absurd went
+        piece-went TooLong bytes' taken' file' taken_is few some represents went = piece-long (record reader { piece = bytes'; taken = taken'; current = Some (record { name = input.name; reader = file' }) }) (sym taken_is ∙ went)
+        piece-went NoMemory bytes' taken' file' taken_is few some represents went = absurd went
 
   pub part-so : (all : Bool) (b : List ℕ) → is_part (gives_so all b) ≡ true
   part-so all b = gives-part opts.format source_so all b
@@ -205,7 +205,7 @@ module _ (opts : ReadOpts) (names : List InputName) (given : List Take) (reader 
   -- the end was met
   module _ (out : List Event) where
     on-end : GoesOn known (now_taken true bytes_so)
-    on-end = steps.goes_on-ended opts s.front rest s.done s.read input.name bytes_so
+    on-end = steps.goes_on-ended opts s.prefix rest s.done s.read input.name bytes_so
 
     pub end-none : (grows : SourceGrows) (reader' : FileReader) (out' : List Event) → Stepped NoMemory opts names given (with_last ended given) reader' out out'
     end-none grows reader' out' = stepped-so NoMemory ended true bytes_so reader' out out' ended-is (none-to grows true bytes_so reader' out out' on-end)
@@ -214,58 +214,58 @@ module _ (opts : ReadOpts) (names : List InputName) (given : List Take) (reader 
       pub end-faulty : (reader' : FileReader) → list_any is_fault adds.0 ≡ true → Stepped Ended opts names given (with_last ended given) reader' out out1
       end-faulty reader' some = stepped-so Ended ended true bytes_so reader' out out1 ended-is (faulty-to true bytes_so reader' out out1 on-end adds some)
 
-      module _ (none : list_any is_fault adds.0 ≡ false) (at' : Ctx) (at_is : at' ≡ ctx_behind source_so.ctx (gives_so true bytes_so)) where
+      module _ (none : list_any is_fault adds.0 ≡ false) (at' : Ctx) (at_is : at' ≡ ctx_after_events source_so.ctx (gives_so true bytes_so)) where
         at-now : at' ≡ ctx_from opts zero_context (now_taken true bytes_so)
-        at-now = at_is ∙ sym (steps.ctx-ended opts s.front rest s.done s.read input.name bytes_so bytes_so)
+        at-now = at_is ∙ sym (steps.ctx-ended opts s.prefix rest s.done s.read input.name bytes_so bytes_so)
 
         filenum-now : at'.filenum ≡ reader.at.filenum + 1
-        filenum-now = ap (λ c. c.filenum) at-now ∙ steps.filenum-ended opts s.front rest s.done s.read input.name bytes_so bytes_so ∙ ap (λ c. c.filenum + 1) (sym s.at_is)
+        filenum-now = ap (λ c. c.filenum) at-now ∙ steps.filenum-ended opts s.prefix rest s.done s.read input.name bytes_so bytes_so ∙ ap (λ c. c.filenum + 1) (sym s.at_is)
 
         -- the last one
         end-all : (reader' : FileReader) (out2 : List Event) → reader.names.items ≡ [] → out2 ≡ out1 ++ End at' ∷ [] → Stepped Ended opts names given (with_last ended given) reader' out out2
-        end-all reader' out2 last puts =
-            let stops : stops_at inputs (now_taken true bytes_so) ≡ None = steps.stops-ended opts s.front rest s.done s.read input.name bytes_so bytes_so ∙ ap (λ n. stops_at (reverse n) []) last in
+        end-all reader' out2 last appends =
+            let stops : stops_at inputs (now_taken true bytes_so) ≡ None = steps.stops-ended opts s.prefix rest s.done s.read input.name bytes_so bytes_so ∙ ap (λ n. stops_at (reverse n) []) last in
             stepped-so Ended ended true bytes_so reader' out out2 ended-is (record {
               order = order-to true bytes_so;
               goes_on = on-end;
-              says = steps.whole-closed opts s.front rest s.done s.read input.name bytes_so clear true bytes_so adds.0 adds.1 stops none at' at-now;
+              says = steps.whole-closed opts s.prefix rest s.done s.read input.name bytes_so clear true bytes_so adds.0 adds.1 stops none at' at-now;
               more = adds.0 ++ End at' ∷ [];
-              events = steps.whole-source opts s.front rest s.done s.read input.name bytes_so clear true bytes_so adds.0 adds.1 stops none at' at-now;
-              puts = λ _. puts ∙ ap (λ o. o ++ End at' ∷ []) adds.2 ∙ append_assoc out adds.0 (End at' ∷ []);
-              stands = λ e. absurd (let f : Ended ≡ Went = e in cc);
+              events = steps.whole-source opts s.prefix rest s.done s.read input.name bytes_so clear true bytes_so adds.0 adds.1 stops none at' at-now;
+              appends = λ _. appends ∙ ap (λ o. o ++ End at' ∷ []) adds.2 ∙ append_assoc out adds.0 (End at' ∷ []);
+              represents = λ e. absurd (let f : Ended ≡ Went = e in cc);
             })
 
         -- another one stands behind it
         end-on : 1 ≤ length reader.names.items → at'.nr ≤ counted source_so (length bytes_so) + 1 → Stepped Went opts names given (with_last ended given) (record reader { current = None; at = at' }) out out1
         end-on some few =
             let next = stops-some rest (omega (arith, some, length-reverse reader.names.items)) in
-            let stops : stops_at inputs (now_taken true bytes_so) ≡ Some next.0 = steps.stops-ended opts s.front rest s.done s.read input.name bytes_so bytes_so ∙ next.1 in
+            let stops : stops_at inputs (now_taken true bytes_so) ≡ Some next.0 = steps.stops-ended opts s.prefix rest s.done s.read input.name bytes_so bytes_so ∙ next.1 in
             let sum : total (now_taken true bytes_so) ≡ total given = omega (arith, total-so, total-to true bytes_so) in
             stepped-so Went ended true bytes_so (record reader { current = None; at = at' }) out out1 ended-is (record {
               order = order-to true bytes_so;
               goes_on = on-end;
               says = (
-                steps.stopped-open opts s.front rest s.done s.read input.name bytes_so clear true bytes_so adds.0 adds.1 next.0 stops none,
+                steps.stopped-open opts s.prefix rest s.done s.read input.name bytes_so clear true bytes_so adds.0 adds.1 next.0 stops none,
                 omega (arith, sum, s.few),
                 omega (arith, sum, total-so, total-to false bytes_so, ends-append s.done (take_of input.name false bytes_so ∷ []), ends-append s.done (take_of input.name true bytes_so ∷ [])),
               );
               more = adds.0;
-              events = steps.stopped-source opts s.front rest s.done s.read input.name bytes_so clear true bytes_so adds.0 adds.1 next.0 stops;
-              puts = λ _. adds.2;
-              stands = λ _. record {
+              events = steps.stopped-source opts s.prefix rest s.done s.read input.name bytes_so clear true bytes_so adds.0 adds.1 next.0 stops;
+              appends = λ _. adds.2;
+              represents = λ _. record {
                 order = order-to true bytes_so;
                 few = omega (arith, sum, s.few);
-                clear = steps.clear-now opts s.front rest s.done s.read input.name bytes_so clear true bytes_so adds.0 adds.1 none;
+                clear = steps.clear-now opts s.prefix rest s.done s.read input.name bytes_so clear true bytes_so adds.0 adds.1 none;
                 usable = s.usable;
                 opts_are = s.opts_are;
                 taken_is = s.taken_is ∙ sym sum;
-                front = s.front ++ input.name ∷ [];
+                prefix = s.prefix ++ input.name ∷ [];
                 done = now_taken true bytes_so;
-                read = read-append s.front (input.name ∷ []) s.done (take_of input.name true bytes_so ∷ []) s.read (refl, refl, tt);
+                read = read-append s.prefix (input.name ∷ []) s.done (take_of input.name true bytes_so ∷ []) s.read (refl, refl, tt);
                 at_is = at-now;
                 few_files = omega (arith, filenum-now, s.few_files);
                 few_records = omega (arith, filenum-now, s.few_records, few, ap (λ c. c.nr) s.at_is, total-to true bytes_so);
-                current = record { names_are = sym (append_assoc s.front (input.name ∷ []) rest); given_is = refl };
+                current = record { names_are = sym (append_assoc s.prefix (input.name ∷ []) rest); given_is = refl };
               };
             })
 

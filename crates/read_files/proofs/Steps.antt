@@ -16,14 +16,14 @@ use Rattle.mlr_world.specs.Taken.{Take, ended, grown, with_last}
 use Rattle.read_files.specs.declared.open_file.OpenInput.{OpenInput}
 use Rattle.read_files.specs.declared.reader.FileReader.{FileReader}
 use Rattle.read_files.specs.declared.reader.ReadTurn.TheVariants.{Went, Ended, Failed, TooLong, NoMemory}
-use Rattle.read_files.specs.Given.{GoesOn, InOrder, TakeGoesOn, ends, stops_at, total}
-use Rattle.read_files.specs.Readers.{FileStands}
-use Rattle.read_files.specs.Sources.{Source, ctx_behind, ctx_from, events_from, events_taken, gives_as, is_whole, source, until_fault, zero_context}
-use Rattle.read_files.specs.Standing.{AllRead, StandsFor, TurnSays, can_read, source_behind}
-use Rattle.read_files.specs.Steps.{PutsEnd, Stepped}
-use Rattle.read_files.proofs.Events.{clear-open, end-closed, fault-closed, part-rest, part-until, until-behind, until-clear, until-no_end, until-open}
+use Rattle.read_files.specs.Takes.{GoesOn, InOrder, TakeGoesOn, ends, stops_at, total}
+use Rattle.read_files.specs.Readers.{FileRepresents}
+use Rattle.read_files.specs.Sources.{Source, ctx_after_events, ctx_from, events_from, events_taken, gives_as, is_whole, source, until_fault, zero_context}
+use Rattle.read_files.specs.Represents.{AllRead, Represents, TurnSays, can_read, source_after}
+use Rattle.read_files.specs.Steps.{AppendsEnd, Stepped}
+use Rattle.read_files.proofs.Events.{clear-open, end-closed, fault-closed, part-rest, part-until, until-following, until-clear, until-no_end, until-open}
 use Rattle.read_files.proofs.Formats.{gives-filenum, gives-part}
-use Rattle.read_files.proofs.Given.{ctx-append, ends-append, events-append, goes_on-last, last_take-push, order-behind, read-append, stops-behind, total-append, with_last-push}
+use Rattle.read_files.proofs.Given.{ctx-append, ends-append, events-append, goes_on-last, last_take-push, order-following, read-append, stops-following, total-append, with_last-push}
 use Rattle.read_files.proofs.Growing.{inputs-no_end}
 
 -- what inputs give that stop at one of them, and what they give whole
@@ -58,12 +58,12 @@ abbrev pub given_to : List Take → InputName → Bool → List ℕ → List Tak
 given_to done name all bytes = done ++ take_of name all bytes ∷ []
 
 -- an input that is open, behind those that were read whole
-module _ (opts : ReadOpts) (front rest : List InputName) (done : List Take) (read : AllRead front done) (name : InputName) (bytes : List ℕ) where
+module _ (opts : ReadOpts) (prefix rest : List InputName) (done : List Take) (read : AllRead prefix done) (name : InputName) (bytes : List ℕ) where
   abbrev names_of : List InputName
-  names_of = front ++ name ∷ rest
+  names_of = prefix ++ name ∷ rest
 
   abbrev src : Source
-  src = source_behind opts (ctx_from opts zero_context done)
+  src = source_after opts (ctx_from opts zero_context done)
 
   abbrev gives_now : Bool → List ℕ → List Event
   gives_now all b = gives_as opts.format src all b
@@ -75,15 +75,15 @@ module _ (opts : ReadOpts) (front rest : List InputName) (done : List Take) (rea
   events-are all b = events-append opts zero_context done (take_of name all b ∷ []) ∙ ap (λ e. before ++ e) (append-nil (gives_now all b))
 
   pub order-now : (all : Bool) (b : List ℕ) → InOrder names_of (given_to done name all b)
-  order-now all b = order-behind front (name ∷ rest) done (take_of name all b ∷ []) read refl
+  order-now all b = order-following prefix (name ∷ rest) done (take_of name all b ∷ []) read refl
 
   pub stops-open : (b : List ℕ) → stops_at names_of (given_to done name false b) ≡ Some name
-  stops-open b = stops-behind front (name ∷ rest) done (take_of name false b ∷ []) read
+  stops-open b = stops-following prefix (name ∷ rest) done (take_of name false b ∷ []) read
 
   pub stops-ended : (b : List ℕ) → stops_at names_of (given_to done name true b) ≡ stops_at rest []
-  stops-ended b = stops-behind front (name ∷ rest) done (take_of name true b ∷ []) read
+  stops-ended b = stops-following prefix (name ∷ rest) done (take_of name true b ∷ []) read
 
-  pub ctx-ended : (b : List ℕ) → ctx_from opts zero_context (given_to done name true b) ≡ ctx_behind src.ctx (gives_now true b)
+  pub ctx-ended : (b : List ℕ) → ctx_from opts zero_context (given_to done name true b) ≡ ctx_after_events src.ctx (gives_now true b)
   ctx-ended b = ctx-append opts zero_context done (take_of name true b ∷ [])
 
   pub filenum-ended : (b : List ℕ) → (ctx_from opts zero_context (given_to done name true b)).filenum ≡ (ctx_from opts zero_context done).filenum + 1
@@ -121,7 +121,7 @@ module _ (opts : ReadOpts) (front rest : List InputName) (done : List Take) (rea
     pub taken-more : events_taken opts (given_to done name all b) ≡ events_taken opts (given_to done name false bytes) ++ more
     taken-more =
         ap until_fault (events-are all b ∙ ap (λ e. before ++ e) now_is ∙ sym (append_assoc before (gives_now false bytes) more))
-        ∙ until-behind known more known-clear
+        ∙ until-following known more known-clear
         ∙ ap₂ (λ k m. k ++ m) (sym known-taken) (part-until more more-part)
 
     pub fault-now : list_any is_fault (events_taken opts (given_to done name all b)) ≡ list_any is_fault more

@@ -9,7 +9,7 @@ use Rattle.read_files.specs.declared.feeding.Fed.{Fed}
 use Rattle.read_files.specs.declared.feeding.Fed.TheVariants as fed
 use Rattle.read_files.specs.declared.feeding.AtEnd.{AtEnd}
 use Rattle.read_files.specs.declared.feeding.AtEnd.TheVariants as at_end
-use Rattle.read_files.specs.Sources.{ctx_behind}
+use Rattle.read_files.specs.Sources.{ctx_after_events}
 
 abbrev pub FedSays : Fed → List Event → List Event → List Event → List Event → Type 0
 FedSays fed.On out out' known now = (adds : Adds out out' known now) × (list_any is_fault adds.0 ≡ false)
@@ -22,6 +22,6 @@ FedOn fed.Faulty holds = Unit {0}
 FedOn fed.NoMemory holds = Unit {0}
 
 abbrev pub EndSays : AtEnd → Ctx → ℕ → List Event → List Event → List Event → List Event → Type 0
-EndSays (at_end.On at) start count out out' known now = (adds : Adds out out' known now) × (list_any is_fault adds.0 ≡ false) × (at ≡ ctx_behind start now) × (at.nr ≤ count + 1)
+EndSays (at_end.On at) start count out out' known now = (adds : Adds out out' known now) × (list_any is_fault adds.0 ≡ false) × (at ≡ ctx_after_events start now) × (at.nr ≤ count + 1)
 EndSays at_end.Faulty start count out out' known now = (adds : Adds out out' known now) × (list_any is_fault adds.0 ≡ true)
 EndSays at_end.NoMemory start count out out' known now = Unit {0}

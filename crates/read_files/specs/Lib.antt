@@ -1,6 +1,6 @@
 pub mod Sources
-pub mod Given
+pub mod Takes
 pub mod Readers
 pub mod Feeding
-pub mod Standing
+pub mod Represents
 pub mod Steps

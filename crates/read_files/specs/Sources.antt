@@ -16,7 +16,7 @@ use Rattle.read_csv.specs.Rows.{csv_fed, csv_read}
 use Rattle.read_dkvp_nidx.specs.Lines.{line_fed, line_read}
 use Rattle.read_xtab_pprint.specs.Blocks.{block_fed, block_read}
 use Rattle.read_json_lines.specs.Files.{json_fed, json_read}
-use Rattle.read_files.specs.Given.{stops_at}
+use Rattle.read_files.specs.Takes.{stops_at}
 
 -- a file that is read: how, as which input, and behind which record
 pub record Source : Type 0 where
@@ -82,17 +82,17 @@ abbrev pub take_gives : ReadOpts → Ctx → Take → List Event
 take_gives opts ctx take = gives_as opts.format (record { opts = opts; file = Main (ctx.filenum + 1); ctx = next_file ctx }) take.ended take.bytes
 
 -- the context of the last record, or the first context
-abbrev pub ctx_behind : Ctx → List Event → Ctx
-ctx_behind ctx [] = ctx
-ctx_behind ctx (Rec fields at ∷ events) = ctx_behind at events
-ctx_behind ctx (Text text ∷ events) = ctx_behind ctx events
-ctx_behind ctx (Out target piece ∷ events) = ctx_behind ctx events
-ctx_behind ctx (End at ∷ events) = ctx_behind ctx events
-ctx_behind ctx (Fault fault ∷ events) = ctx_behind ctx events
+abbrev pub ctx_after_events : Ctx → List Event → Ctx
+ctx_after_events ctx [] = ctx
+ctx_after_events ctx (Rec fields at ∷ events) = ctx_after_events at events
+ctx_after_events ctx (Text text ∷ events) = ctx_after_events ctx events
+ctx_after_events ctx (Out target piece ∷ events) = ctx_after_events ctx events
+ctx_after_events ctx (End at ∷ events) = ctx_after_events ctx events
+ctx_after_events ctx (Fault fault ∷ events) = ctx_after_events ctx events
 
 -- behind the next input: the number of the last record, how many records this input has, and how many inputs there were
 abbrev pub ctx_after_take : ReadOpts → Ctx → Take → Ctx
-ctx_after_take opts ctx take = ctx_behind (next_file ctx) (take_gives opts ctx take)
+ctx_after_take opts ctx take = ctx_after_events (next_file ctx) (take_gives opts ctx take)
 
 -- what inputs give one after another, and the context behind them
 abbrev pub events_from : ReadOpts → Ctx → List Take → List Event

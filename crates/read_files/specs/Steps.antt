@@ -10,32 +10,32 @@ use Rattle.mlr_world.specs.Taken.{Take}
 use Rattle.read_files.specs.declared.reader.FileReader.{FileReader}
 use Rattle.read_files.specs.declared.reader.ReadTurn.{ReadTurn}
 use Rattle.read_files.specs.declared.reader.ReadTurn.TheVariants.{Went, Ended, Failed, TooLong, NoMemory}
-use Rattle.read_files.specs.Given.{GoesOn, InOrder, total}
+use Rattle.read_files.specs.Takes.{GoesOn, InOrder, total}
 use Rattle.read_files.specs.Sources.{ctx_from, events_taken, source, zero_context}
-use Rattle.read_files.specs.Standing.{AllRead, StandsFor, TurnSays, can_read}
+use Rattle.read_files.specs.Represents.{AllRead, Represents, TurnSays, can_read}
 
 -- It reads these inputs, each of which this was taken of was read whole, and the next one has this name, which was taken
 -- out of the names.
-pub record StandsNext (opts : ReadOpts) (names : List InputName) (given : List Take) (name : InputName) (reader : FileReader) : Type 0 where
+pub record RepresentsNext (opts : ReadOpts) (names : List InputName) (given : List Take) (name : InputName) (reader : FileReader) : Type 0 where
   pub few : total given < 2 ^ 60
   pub clear : is_open (events_taken opts given) ≡ true
   pub usable : can_read opts ≡ true
   pub opts_are : reader.opts ≡ opts
   pub taken_is : reader.taken ≡ total given
-  pub front : List InputName
-  pub read : AllRead front given
+  pub prefix : List InputName
+  pub read : AllRead prefix given
   pub at_is : reader.at ≡ ctx_from opts zero_context given
   pub few_files : reader.at.filenum + 1 + length reader.names.items ≤ 2 ^ 60
   pub few_records : reader.at.nr ≤ total given + 2 * reader.at.filenum
-  pub names_are : names ≡ front ++ name ∷ reverse reader.names.items
+  pub names_are : names ≡ prefix ++ name ∷ reverse reader.names.items
 
 -- the end was put behind all
-abbrev pub PutsEnd : ReadTurn → Ctx → List Event → List Event → Type 0
-PutsEnd Went at out out' = ⊥
-PutsEnd Ended at out out' = out' ≡ out ++ End at ∷ []
-PutsEnd (Failed name) at out out' = ⊥
-PutsEnd TooLong at out out' = ⊥
-PutsEnd NoMemory at out out' = Unit {0}
+abbrev pub AppendsEnd : ReadTurn → Ctx → List Event → List Event → Type 0
+AppendsEnd Went at out out' = ⊥
+AppendsEnd Ended at out out' = out' ≡ out ++ End at ∷ []
+AppendsEnd (Failed name) at out out' = ⊥
+AppendsEnd TooLong at out out' = ⊥
+AppendsEnd NoMemory at out out' = Unit {0}
 
 -- What a read led to, by which what was taken became this: what that gives more was put out, but for want of memory.
 pub record Stepped (turn : ReadTurn) (opts : ReadOpts) (names : List InputName) (given given' : List Take) (reader' : FileReader) (out out' : List Event) : Type 0 where
@@ -44,8 +44,8 @@ pub record Stepped (turn : ReadTurn) (opts : ReadOpts) (names : List InputName) 
   pub says : TurnSays turn opts names given given'
   pub more : List Event
   pub events : source opts names given' ≡ events_taken opts given ++ more
-  pub puts : (turn ≡ NoMemory → ⊥) → out' ≡ out ++ more
-  pub stands : turn ≡ Went → StandsFor opts names given' reader'
+  pub appends : (turn ≡ NoMemory → ⊥) → out' ≡ out ++ more
+  pub represents : turn ≡ Went → Represents opts names given' reader'
 
 -- an input can't be opened or read
 abbrev pub failed : ReadTurn → Bool

@@ -5,9 +5,9 @@ ghost use Rattle.mlr_event.specs.Adding.{Adds};
 ghost use Rattle.read_csv.specs.Usable.{is_usable as csv_usable};
 ghost use Rattle.read_dkvp_nidx.specs.Usable.{is_usable as line_usable};
 ghost use Rattle.read_xtab_pprint.specs.Usable.{is_usable as block_usable};
-ghost use Rattle.read_json_lines.specs.Standing.{is_usable as json_usable};
-ghost use Rattle.read_files.specs.Readers.{counted, CsvStands, LineStands, BlockStands, JsonStands};
-ghost use Rattle.read_files.specs.Sources.{Source, ctx_behind, csv_fed_of, csv_read_of, line_fed_of, line_read_of, block_fed_of, block_read_of, json_fed_of, json_read_of};
+ghost use Rattle.read_json_lines.specs.Represents.{is_usable as json_usable};
+ghost use Rattle.read_files.specs.Readers.{counted, CsvRepresents, LineRepresents, BlockRepresents, JsonRepresents};
+ghost use Rattle.read_files.specs.Sources.{Source, ctx_after_events, csv_fed_of, csv_read_of, line_fed_of, line_read_of, block_fed_of, block_read_of, json_fed_of, json_read_of};
 
 use mlr_event::{Ctx, Events, FileRef, ReadOpts};
 use mlr_spec::NoMemory;
@@ -23,7 +23,7 @@ pub(crate) trait ByteReader {
     ghost usable: { ReadOpts → Type 0 };
 
     /// The reader was made for this source, and these bytes came so far.
-    ghost stands: { Self → Source → List ℕ → Type 0 };
+    ghost represents: { Self → Source → List ℕ → Type 0 };
 
     /// What bytes fix of a file, whatever follows them.
     ghost fed: { Source → List ℕ → List Event };
@@ -36,26 +36,35 @@ pub(crate) trait ByteReader {
         requires usable { usable opts.now }
         requires nr { start.nr ≤ 2 ^ 62 }
         requires fnr { start.fnr ≤ 2 ^ 62 }
-        ensures { IfOk result (λ reader. stands reader (record { opts = opts.now; file = file; ctx = start }) []) };
+        ensures { IfOk result (λ reader. represents reader
+            (record { opts = opts.now; file = file; ctx = start }) []) };
 
     /// Takes a piece of the file, and puts out what it fixes.
     fn feed(&mut self, piece: &[u8], out: &mut Events) -> Result<(), NoMemory>
-        requires { (source : Source) × (bytes : List ℕ) × stands self.old source bytes × (length bytes + length piece.now < 2 ^ 62) }
-        ensures stands { (source : Source) (bytes : List ℕ) → stands self.old source bytes → OnOk result (stands self.new source (bytes ++ piece.now)) }
-        ensures adds { (source : Source) (bytes : List ℕ) → stands self.old source bytes → OnOk result (Adds out.old out.new (fed source bytes) (fed source (bytes ++ piece.now))) };
+        requires { (source : Source) × (bytes : List ℕ) × represents self.old source bytes
+            × (length bytes + length piece.now < 2 ^ 62) }
+        ensures represents { (source : Source) (bytes : List ℕ) → represents self.old source bytes
+            → OnOk result (represents self.new source (bytes ++ piece.now)) }
+        ensures adds { (source : Source) (bytes : List ℕ) → represents self.old source bytes
+            → OnOk result (Adds out.old out.new (fed source bytes)
+            (fed source (bytes ++ piece.now))) };
 
     /// Takes the end of the file, and puts out the rest. It answers the context behind the file.
     fn end(&mut self, out: &mut Events) -> Result<Ctx, NoMemory>
-        requires { (source : Source) × (bytes : List ℕ) × stands self.old source bytes × (length bytes < 2 ^ 62) }
-        ensures adds { (source : Source) (bytes : List ℕ) → stands self.old source bytes → OnOk result (Adds out.old out.new (fed source bytes) (whole source bytes)) }
-        ensures ctx { (source : Source) (bytes : List ℕ) → stands self.old source bytes → IfOk result (λ ctx. ctx ≡ ctx_behind source.ctx (whole source bytes)) }
-        ensures few { (source : Source) (bytes : List ℕ) → stands self.old source bytes → IfOk result (λ ctx. ctx.nr ≤ counted source (length bytes) + 1) };
+        requires { (source : Source) × (bytes : List ℕ) × represents self.old source bytes
+            × (length bytes < 2 ^ 62) }
+        ensures adds { (source : Source) (bytes : List ℕ) → represents self.old source bytes
+            → OnOk result (Adds out.old out.new (fed source bytes) (whole source bytes)) }
+        ensures ctx { (source : Source) (bytes : List ℕ) → represents self.old source bytes
+            → IfOk result (λ ctx. ctx ≡ ctx_after_events source.ctx (whole source bytes)) }
+        ensures few { (source : Source) (bytes : List ℕ) → represents self.old source bytes
+            → IfOk result (λ ctx. ctx.nr ≤ counted source (length bytes) + 1) };
 }
 
 impl ByteReader for CsvReader {
     ghost usable = { λ opts. csv_usable opts ≡ true };
 
-    ghost stands = { λ reader source bytes. CsvStands reader source bytes };
+    ghost represents = { λ reader source bytes. CsvRepresents reader source bytes };
 
     ghost fed = { λ source bytes. csv_fed_of source bytes };
 
@@ -78,7 +87,7 @@ impl ByteReader for CsvReader {
 impl ByteReader for LineReader {
     ghost usable = { λ opts. line_usable opts ≡ true };
 
-    ghost stands = { λ reader source bytes. LineStands reader source bytes };
+    ghost represents = { λ reader source bytes. LineRepresents reader source bytes };
 
     ghost fed = { λ source bytes. line_fed_of source bytes };
 
@@ -101,7 +110,7 @@ impl ByteReader for LineReader {
 impl ByteReader for BlockReader {
     ghost usable = { λ opts. block_usable opts ≡ true };
 
-    ghost stands = { λ reader source bytes. BlockStands reader source bytes };
+    ghost represents = { λ reader source bytes. BlockRepresents reader source bytes };
 
     ghost fed = { λ source bytes. block_fed_of source bytes };
 
@@ -124,7 +133,7 @@ impl ByteReader for BlockReader {
 impl ByteReader for JsonReader {
     ghost usable = { λ opts. json_usable opts ≡ true };
 
-    ghost stands = { λ reader source bytes. JsonStands reader source bytes };
+    ghost represents = { λ reader source bytes. JsonRepresents reader source bytes };
 
     ghost fed = { λ source bytes. json_fed_of source bytes };
 

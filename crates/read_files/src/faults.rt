@@ -7,7 +7,8 @@ use mlr_event::{Event, Events};
 
 /// Whether a fault is among the events behind the first `before`, where it can only stand last.
 pub(crate) fn ends_in_fault(events: &Events, before: usize) -> bool
-    ensures { (known more : List SpecEvent) → events.now ≡ known ++ more → before ≡ length known → is_part more ≡ true → result ≡ list_any is_fault more }
+    ensures { (known more : List SpecEvent) → events.now ≡ known ++ more → before ≡ length known
+        → is_part more ≡ true → result ≡ list_any is_fault more }
 {
     let count = events.len();
     if count <= before {

@@ -32,9 +32,13 @@ pub(crate) enum AtEnd {
 
 /// Gives a piece to the reader.
 pub(crate) fn feed_piece<R: ByteReader>(reader: &mut R, piece: &[u8], out: &mut Events) -> Fed
-    requires { (source : Source) × (bytes : List ℕ) × R.stands reader.old source bytes × (length bytes + length piece.now < 2 ^ 62) }
-    ensures says { (source : Source) (bytes : List ℕ) → R.stands reader.old source bytes → is_part (R.fed source (bytes ++ piece.now)) ≡ true → FedSays result out.old out.new (R.fed source bytes) (R.fed source (bytes ++ piece.now)) }
-    ensures stands { (source : Source) (bytes : List ℕ) → R.stands reader.old source bytes → FedOn result (R.stands reader.new source (bytes ++ piece.now)) }
+    requires { (source : Source) × (bytes : List ℕ) × R.represents reader.old source bytes
+        × (length bytes + length piece.now < 2 ^ 62) }
+    ensures says { (source : Source) (bytes : List ℕ) → R.represents reader.old source bytes
+        → is_part (R.fed source (bytes ++ piece.now)) ≡ true
+        → FedSays result out.old out.new (R.fed source bytes) (R.fed source (bytes ++ piece.now)) }
+    ensures represents { (source : Source) (bytes : List ℕ) → R.represents reader.old source bytes
+        → FedOn result (R.represents reader.new source (bytes ++ piece.now)) }
 {
     let before = out.len();
     if reader.feed(piece, out).is_err() {
@@ -48,8 +52,12 @@ pub(crate) fn feed_piece<R: ByteReader>(reader: &mut R, piece: &[u8], out: &mut 
 
 /// Gives the end of the file to the reader.
 pub(crate) fn end_file<R: ByteReader>(reader: &mut R, out: &mut Events) -> AtEnd
-    requires { (source : Source) × (bytes : List ℕ) × R.stands reader.old source bytes × (length bytes < 2 ^ 62) }
-    ensures { (source : Source) (bytes : List ℕ) → R.stands reader.old source bytes → is_part (R.whole source bytes) ≡ true → EndSays result source.ctx (counted source (length bytes)) out.old out.new (R.fed source bytes) (R.whole source bytes) }
+    requires { (source : Source) × (bytes : List ℕ) × R.represents reader.old source bytes
+        × (length bytes < 2 ^ 62) }
+    ensures { (source : Source) (bytes : List ℕ) → R.represents reader.old source bytes
+        → is_part (R.whole source bytes) ≡ true
+        → EndSays result source.ctx (counted source (length bytes)) out.old out.new
+        (R.fed source bytes) (R.whole source bytes) }
 {
     let before = out.len();
     let Ok(at) = reader.end(out) else {

@@ -5,22 +5,34 @@ ghost use Rattle.mlr_event.specs.declared.options.ReadOpts.{ReadOpts};
 ghost use Rattle.mlr_event.specs.Verb.{is_list, is_open};
 ghost use Rattle.mlr_world.specs.Inputs.{Contents};
 ghost use Rattle.mlr_world.specs.Taken.{Take};
-ghost use Rattle.read_files.specs.Given.{AreFrontsTaken, AreWhole, GoesOn, InOrder, stops_at, taken_by, total};
+ghost use Rattle.read_files.specs.Takes.{ArePrefixesTaken, AreWhole, GoesOn, InOrder, stops_at, taken_by, total};
 ghost use Rattle.read_files.specs.Sources.{events_taken, source};
 
 /// What inputs give is a list of events (`list`); it goes on as more is taken of them (`grows`), and stays as it is behind
 /// an end or a fault (`fixed`). What was taken of inputs goes on as all that they hold (`whole`), and goes on what fewer
 /// bytes come to (`early`); behind the last input nothing more is taken (`all`). It does nothing.
 pub fn source_laws()
-    ensures list { (opts : ReadOpts) (names : List InputName) (given : List Take) → is_list (source opts names given) ≡ true }
-    ensures grows { (opts : ReadOpts) (names : List InputName) (given longer : List Take) → InOrder names given → GoesOn given longer → (more : List Event) × (source opts names longer ≡ events_taken opts given ++ more) }
-    ensures fixed { (opts : ReadOpts) (names : List InputName) (given longer : List Take) → InOrder names given → InOrder names longer → GoesOn given longer → is_open (source opts names given) ≡ false → source opts names longer ≡ source opts names given }
-    ensures whole { (told : Contents) (names : List InputName) (given whole : List Take) → InOrder names given → AreFrontsTaken told given → AreWhole told names whole → GoesOn given whole × InOrder names whole }
-    ensures early { (told : Contents) (names : List InputName) (given : List Take) (n : ℕ) → InOrder names given → AreFrontsTaken told given → n < total given → GoesOn (taken_by told names n) given × InOrder names (taken_by told names n) }
-    ensures all { (names : List InputName) (given longer : List Take) → InOrder names given → InOrder names longer → GoesOn given longer → stops_at names given ≡ None → longer ≡ given }
+    ensures list { (opts : ReadOpts) (names : List InputName) (given : List Take)
+        → is_list (source opts names given) ≡ true }
+    ensures grows { (opts : ReadOpts) (names : List InputName) (given longer : List Take)
+        → InOrder names given → GoesOn given longer → (more : List Event)
+        × (source opts names longer ≡ events_taken opts given ++ more) }
+    ensures fixed { (opts : ReadOpts) (names : List InputName) (given longer : List Take)
+        → InOrder names given → InOrder names longer → GoesOn given longer
+        → is_open (source opts names given) ≡ false
+        → source opts names longer ≡ source opts names given }
+    ensures whole { (told : Contents) (names : List InputName) (given whole : List Take)
+        → InOrder names given → ArePrefixesTaken told given → AreWhole told names whole
+        → GoesOn given whole × InOrder names whole }
+    ensures early { (told : Contents) (names : List InputName) (given : List Take) (n : ℕ)
+        → InOrder names given → ArePrefixesTaken told given → n < total given
+        → GoesOn (taken_by told names n) given × InOrder names (taken_by told names n) }
+    ensures all { (names : List InputName) (given longer : List Take) → InOrder names given
+        → InOrder names longer → GoesOn given longer → stops_at names given ≡ None
+        → longer ≡ given }
 {
-    read_csv::front_laws();
-    read_dkvp_nidx::front_laws();
-    read_xtab_pprint::front_laws();
-    read_json_lines::front_laws();
+    read_csv::prefix_laws();
+    read_dkvp_nidx::prefix_laws();
+    read_xtab_pprint::prefix_laws();
+    read_json_lines::prefix_laws();
 }

@@ -1,6 +1,6 @@
 ghost use Rattle.std.specs.Prelude.{◌≡◌, true, false};
-ghost use Rattle.read_files.specs.Readers.{FileStands};
-ghost use Rattle.read_files.specs.Standing.{can_read};
+ghost use Rattle.read_files.specs.Readers.{FileRepresents};
+ghost use Rattle.read_files.specs.Represents.{can_read};
 ghost use Rattle.read_files.specs.Sources.{gives_as};
 
 use crate::byte_reader::ByteReader;
@@ -31,7 +31,7 @@ pub(crate) struct OpenInput {
 impl ByteReader for OpenFile {
     ghost usable = { λ opts. can_read opts ≡ true };
 
-    ghost stands = { λ reader source bytes. FileStands reader source bytes };
+    ghost represents = { λ reader source bytes. FileRepresents reader source bytes };
 
     ghost fed = { λ source bytes. gives_as source.opts.format source false bytes };
 

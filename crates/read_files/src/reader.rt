@@ -2,9 +2,9 @@ ghost use Rattle.std.specs.Prelude.{◌≡◌, ◌+◌, ◌≤◌, ◌^◌, ◌+
 ghost use Rattle.mlr_event.specs.declared.names.InputName.{InputName as SpecName};
 ghost use Rattle.mlr_event.specs.declared.options.ReadOpts.{ReadOpts as Options};
 ghost use Rattle.mlr_world.specs.Taken.{Take, begun, ended, grown, with_last};
-ghost use Rattle.read_files.specs.Given.{Behind, total};
-ghost use Rattle.read_files.specs.Standing.{StandsFor, Turned, TurnCause, can_read};
-ghost use Rattle.read_files.specs.Steps.{Closes, PutsEnd, StandsNext, Stepped, WentTo, failed};
+ghost use Rattle.read_files.specs.Takes.{After, total};
+ghost use Rattle.read_files.specs.Represents.{Represents, Turned, TurnCause, can_read};
+ghost use Rattle.read_files.specs.Steps.{Closes, AppendsEnd, RepresentsNext, Stepped, WentTo, failed};
 
 use crate::byte_reader::ByteReader;
 use crate::feeding::{AtEnd, Fed, end_file, feed_piece};
@@ -93,7 +93,7 @@ impl FileReader {
     /// memory holds.
     pub fn new(alloc: Global, opts: ReadOpts, names: Vec<InputName>) -> Result<Self, NoMemory>
         requires { can_read opts ≡ true }
-        ensures { IfOk result (λ reader. StandsFor opts names.items [] reader) }
+        ensures { IfOk result (λ reader. Represents opts names.items [] reader) }
     {
         if names.len() >= MANY {
             return Err(NoMemory);
@@ -118,9 +118,17 @@ impl FileReader {
     /// Takes one piece of fewer than 65,536 bytes or the end of an input, and puts behind `out` what that fixes. The next
     /// input is opened where none is open.
     pub fn turn<I: Inputs>(&mut self, inputs: &mut I, out: &mut Events) -> ReadTurn
-        requires { (opts : Options) × (names : List SpecName) × (before : Option (List Take)) × (given : List Take) × StandsFor opts names given self.old × Behind before given (I.contents inputs.old) (I.taken inputs.old) (I.open_name inputs.old) }
-        ensures turned { (opts : Options) (names : List SpecName) (before : Option (List Take)) (given : List Take) → StandsFor opts names given self.old → Behind before given (I.contents inputs.old) (I.taken inputs.old) (I.open_name inputs.old)
-            → Turned result opts names before given self.new (I.contents inputs.old) (I.taken inputs.new) (I.open_name inputs.new) out.old out.new }
+        requires { (opts : Options) × (names : List SpecName) × (before : Option (List Take))
+            × (given : List Take) × Represents opts names given self.old
+            × After before given (I.contents inputs.old) (I.taken inputs.old)
+            (I.open_name inputs.old) }
+        ensures turned { (opts : Options) (names : List SpecName) (before : Option (List Take))
+            (given : List Take)
+            → Represents opts names given self.old
+            → After before given (I.contents inputs.old) (I.taken inputs.old)
+            (I.open_name inputs.old)
+            → Turned result opts names before given self.new (I.contents inputs.old)
+            (I.taken inputs.new) (I.open_name inputs.new) out.old out.new }
         ensures contents { I.contents inputs.new ≡ I.contents inputs.old }
         ensures cause { TurnCause result (I.faults inputs.old) (I.faults inputs.new) }
     {
@@ -134,9 +142,18 @@ impl FileReader {
     /// Opens the next input and reads of it, or puts the end where there is none.
     fn read_next<I: Inputs>(&mut self, inputs: &mut I, out: &mut Events) -> ReadTurn
         requires none { self.old.current ≡ None }
-        requires stands { (opts : Options) × (names : List SpecName) × (before : Option (List Take)) × (given : List Take) × StandsFor opts names given self.old × Behind before given (I.contents inputs.old) (I.taken inputs.old) (I.open_name inputs.old) }
-        ensures turned { (opts : Options) (names : List SpecName) (before : Option (List Take)) (given : List Take) → StandsFor opts names given self.old → Behind before given (I.contents inputs.old) (I.taken inputs.old) (I.open_name inputs.old)
-            → Turned result opts names before given self.new (I.contents inputs.old) (I.taken inputs.new) (I.open_name inputs.new) out.old out.new }
+        requires represents { (opts : Options) × (names : List SpecName)
+            × (before : Option (List Take)) × (given : List Take)
+            × Represents opts names given self.old
+            × After before given (I.contents inputs.old) (I.taken inputs.old)
+            (I.open_name inputs.old) }
+        ensures turned { (opts : Options) (names : List SpecName) (before : Option (List Take))
+            (given : List Take)
+            → Represents opts names given self.old
+            → After before given (I.contents inputs.old) (I.taken inputs.old)
+            (I.open_name inputs.old)
+            → Turned result opts names before given self.new (I.contents inputs.old)
+            (I.taken inputs.new) (I.open_name inputs.new) out.old out.new }
         ensures contents { I.contents inputs.new ≡ I.contents inputs.old }
         ensures cause { TurnCause result (I.faults inputs.old) (I.faults inputs.new) }
     {
@@ -155,8 +172,11 @@ impl FileReader {
 
     /// Has the next input, whose name was taken out of the names, as the open one, before its first byte.
     fn begin(&mut self, name: InputName) -> Result<(), NoMemory>
-        requires { (opts : Options) × (names : List SpecName) × (given : List Take) × StandsNext opts names given name self.old }
-        ensures stands { (opts : Options) (names : List SpecName) (given : List Take) → StandsNext opts names given name self.old → OnOk result (StandsFor opts names (given ++ begun name ∷ []) self.new) }
+        requires { (opts : Options) × (names : List SpecName) × (given : List Take)
+            × RepresentsNext opts names given name self.old }
+        ensures represents { (opts : Options) (names : List SpecName) (given : List Take)
+            → RepresentsNext opts names given name self.old
+            → OnOk result (Represents opts names (given ++ begun name ∷ []) self.new) }
         ensures some { OnOk result (IsSome self.new.current) }
     {
         let filenum = self.at.filenum + 1;
@@ -173,9 +193,18 @@ impl FileReader {
     /// Reads once of the input that is open.
     fn read<I: Inputs>(&mut self, inputs: &mut I, out: &mut Events) -> ReadTurn
         requires some { IsSome self.old.current }
-        requires stands { (opts : Options) × (names : List SpecName) × (before : Option (List Take)) × (given : List Take) × StandsFor opts names given self.old × Behind before given (I.contents inputs.old) (I.taken inputs.old) (I.open_name inputs.old) }
-        ensures turned { (opts : Options) (names : List SpecName) (before : Option (List Take)) (given : List Take) → StandsFor opts names given self.old → Behind before given (I.contents inputs.old) (I.taken inputs.old) (I.open_name inputs.old)
-            → Turned result opts names before given self.new (I.contents inputs.old) (I.taken inputs.new) (I.open_name inputs.new) out.old out.new }
+        requires represents { (opts : Options) × (names : List SpecName)
+            × (before : Option (List Take)) × (given : List Take)
+            × Represents opts names given self.old
+            × After before given (I.contents inputs.old) (I.taken inputs.old)
+            (I.open_name inputs.old) }
+        ensures turned { (opts : Options) (names : List SpecName) (before : Option (List Take))
+            (given : List Take)
+            → Represents opts names given self.old
+            → After before given (I.contents inputs.old) (I.taken inputs.old)
+            (I.open_name inputs.old)
+            → Turned result opts names before given self.new (I.contents inputs.old)
+            (I.taken inputs.new) (I.open_name inputs.new) out.old out.new }
         ensures contents { I.contents inputs.new ≡ I.contents inputs.old }
         ensures cause { TurnCause result (I.faults inputs.old) (I.faults inputs.new) }
     {
@@ -192,9 +221,14 @@ impl FileReader {
     /// Feeds the piece that was read, and puts out what it fixes.
     fn take_piece(&mut self, out: &mut Events) -> ReadTurn
         requires some { IsSome self.old.current }
-        requires stands { (opts : Options) × (names : List SpecName) × (given : List Take) × StandsFor opts names given self.old × (total given + length self.old.piece ≤ 2 ^ 60) }
-        ensures stepped { (opts : Options) (names : List SpecName) (given : List Take) → StandsFor opts names given self.old → 1 ≤ length self.old.piece → total given + length self.old.piece ≤ 2 ^ 60
-            → Stepped result opts names given (with_last (grown self.old.piece) given) self.new out.old out.new }
+        requires represents { (opts : Options) × (names : List SpecName) × (given : List Take)
+            × Represents opts names given self.old
+            × (total given + length self.old.piece ≤ 2 ^ 60) }
+        ensures stepped { (opts : Options) (names : List SpecName) (given : List Take)
+            → Represents opts names given self.old → 1 ≤ length self.old.piece
+            → total given + length self.old.piece ≤ 2 ^ 60
+            → Stepped result opts names given (with_last (grown self.old.piece) given) self.new
+            out.old out.new }
         ensures no_failure { failed result ≡ false }
     {
         source_laws();
@@ -214,8 +248,10 @@ impl FileReader {
     /// Tells the reader that its file has ended, and puts out the rest, and the end behind the last input.
     fn take_end(&mut self, out: &mut Events) -> ReadTurn
         requires some { IsSome self.old.current }
-        requires stands { (opts : Options) × (names : List SpecName) × (given : List Take) × StandsFor opts names given self.old }
-        ensures stepped { (opts : Options) (names : List SpecName) (given : List Take) → StandsFor opts names given self.old
+        requires represents { (opts : Options) × (names : List SpecName) × (given : List Take)
+            × Represents opts names given self.old }
+        ensures stepped { (opts : Options) (names : List SpecName) (given : List Take)
+            → Represents opts names given self.old
             → Stepped result opts names given (with_last ended given) self.new out.old out.new }
         ensures no_failure { failed result ≡ false }
     {
@@ -275,7 +311,7 @@ fn name_of(input: OpenInput) -> InputName
 
 /// Puts the end behind all inputs.
 fn put_end(at: Ctx, out: &mut Events) -> ReadTurn
-    ensures puts { PutsEnd result at out.old out.new }
+    ensures appends { AppendsEnd result at out.old out.new }
     ensures no_failure { failed result ≡ false }
 {
     match out.push(Event::End(at)) {

@@ -4,8 +4,8 @@ ghost use Rattle.std.specs.Prelude.{List, Option};
 ghost use Rattle.mlr_event.specs.declared.names.InputName.{InputName as SpecName};
 ghost use Rattle.mlr_event.specs.declared.options.ReadOpts.{ReadOpts as Options};
 ghost use Rattle.mlr_world.specs.Taken.{Take};
-ghost use Rattle.read_files.specs.Given.{Behind};
-ghost use Rattle.read_files.specs.Standing.{StandsFor};
+ghost use Rattle.read_files.specs.Takes.{After};
+ghost use Rattle.read_files.specs.Represents.{Represents};
 
 use crate::{FileReader, ReadTurn, can_read};
 use mlr_event::{Comments, Ctx, Event, Events, Fault, Format, InputName, ReadOpts};
@@ -93,7 +93,9 @@ fn shown(alloc: Global, events: &Events) -> Result<Bytes, NoMemory> {
 
 /// Turns until one doesn't go on, and that one's answer.
 fn turn_all<I: Inputs>(reader: &mut FileReader, inputs: &mut I, out: &mut Events) -> ReadTurn
-    requires { (opts : Options) × (names : List SpecName) × (before : Option (List Take)) × (given : List Take) × StandsFor opts names given reader.old × Behind before given (I.contents inputs.old) (I.taken inputs.old) (I.open_name inputs.old) }
+    requires { (opts : Options) × (names : List SpecName) × (before : Option (List Take))
+        × (given : List Take) × Represents opts names given reader.old
+        × After before given (I.contents inputs.old) (I.taken inputs.old) (I.open_name inputs.old) }
 {
     for _ in 0..TURNS {
         match reader.turn(inputs, out) {

@@ -3,7 +3,7 @@ use Rattle.std.proofs.Common.{◌≡◌, ℕ, List, [], ◌∷◌, ◌++◌, Opt
 use Rattle.mlr_spec.specs.JsonTokens.{Piece, raw, decoded}
 use Rattle.mlr_json.specs.declared.string.StringBuilder.{StringBuilder}
 use Rattle.mlr_json.specs.Decoding.{Holds, pending}
-use Rattle.read_json_lines.specs.Streams.{text_behind}
+use Rattle.read_json_lines.specs.Streams.{text_after}
 
 -- it holds the text so far, and the unit that waits
 pub pieces_so_far : StringBuilder → List Piece
@@ -17,12 +17,12 @@ pending-nil : (high : Option ℕ) → pending high ++ [] ≡ pending high
 pending-nil None = refl
 pending-nil (Some u) = refl
 
-pub so-far-decoded : (builder : StringBuilder) → decoded (pieces_so_far builder) ≡ text_behind builder []
+pub so-far-decoded : (builder : StringBuilder) → decoded (pieces_so_far builder) ≡ text_after builder []
 unfolding pieces_so_far
 so-far-decoded builder = ap (λ p. builder.text ++ decoded p) (sym (pending-nil builder.high))
 
 -- one piece more
-pub piece-pushed : (old new : StringBuilder) (p : Piece) → ((pieces : List Piece) → Holds old pieces → Holds new (pieces ++ p ∷ [])) → (more : List Piece) → text_behind old (p ∷ more) ≡ text_behind new more
+pub piece-pushed : (old new : StringBuilder) (p : Piece) → ((pieces : List Piece) → Holds old pieces → Holds new (pieces ++ p ∷ [])) → (more : List Piece) → text_after old (p ∷ more) ≡ text_after new more
 unfolding pieces_so_far
 piece-pushed old new p pushed more =
     ap (λ q. old.text ++ decoded q) (pending-push old.high) ∙ (pushed (pieces_so_far old) (holds-so-far old)).decodes more
@@ -32,5 +32,5 @@ piece-pushed old new p pushed more =
     pending-push (Some u) = refl
 
 -- a string without pieces
-pub nothing-held : (builder : StringBuilder) → Holds builder [] → (more : List Piece) → text_behind builder more ≡ decoded more
+pub nothing-held : (builder : StringBuilder) → Holds builder [] → (more : List Piece) → text_after builder more ≡ decoded more
 nothing-held builder holds more = sym (holds.decodes more)

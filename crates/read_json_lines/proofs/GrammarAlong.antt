@@ -15,11 +15,11 @@ use Rattle.mlr_event.specs.declared.names.FileRef.{FileRef}
 use Rattle.mlr_event.specs.Reading.{fields}
 use Rattle.read_json_lines.specs.declared.listing.Listing.{Listing}
 use Rattle.read_json_lines.specs.declared.listing.Trouble.TheVariants.{Deep}
-use Rattle.read_json_lines.specs.Records.{State, Turn, goes, gives, fails, turn, record_turn, value_turn, behind_record, Ending, items_of}
+use Rattle.read_json_lines.specs.Records.{State, Turn, goes, gives, fails, turn, record_turn, value_turn, after_record, Ending, items_of}
 use Rattle.read_json_lines.specs.Grammar.{record_of, records}
 use Rattle.read_json_lines.proofs.Pairs.{pairs-in-fields}
 use Rattle.read_json_lines.proofs.GrammarMaps.{IsMapAt, map-on, map-open, map-level}
-use Rattle.read_json_lines.proofs.GrammarStands.{between}
+use Rattle.read_json_lines.proofs.GrammarPositions.{between}
 use Rattle.read_json_lines.proofs.GrammarItems.{items_on, items-cons}
 
 -- ---- going along tokens
@@ -73,7 +73,7 @@ inner listing frames at = record { list = listing; frames = frames; phase = at }
 abbrev pub Along : Listing → List (ℕ × Token) → List Frame → Phase → List Token → Step → Type 0
 Along listing done frames at tokens (on more next) =
     (all : List (ℕ × Token)) × (bare all ≡ bare done ++ tokens) × IsMapAt all more next × Goes (inner listing frames at) tokens [] (inner listing more next)
-Along listing done frames at tokens (whole value) = (m : Members) → value ≡ map_of (record_of m) → Goes (inner listing frames at) tokens (m ∷ []) (between (behind_record listing))
+Along listing done frames at tokens (whole value) = (m : Members) → value ≡ map_of (record_of m) → Goes (inner listing frames at) tokens (m ∷ []) (between (after_record listing))
 Along listing done frames at tokens wrong = Unit {0}
 
 module _ (listing : Listing) where
@@ -93,8 +93,8 @@ module _ (listing : Listing) where
     where
       few : length (g ∷ more) ≤ 100
       few =
-          let front : take (length (bare done) + 1) (bare done ++ t ∷ tokens) ≡ bare done ++ t ∷ [] = take-append-add (bare done) (t ∷ tokens) 1 in
-          subst (λ n. n ≤ 100) (ap level_of front ∙ map-level done (f ∷ frames) at h t (g ∷ more) next is) (shallow (length (bare done) + 1))
+          let prefix : take (length (bare done) + 1) (bare done ++ t ∷ tokens) ≡ bare done ++ t ∷ [] = take-append-add (bare done) (t ∷ tokens) 1 in
+          subst (λ n. n ≤ 100) (ap level_of prefix ∙ map-level done (f ∷ frames) at h t (g ∷ more) next is) (shallow (length (bare done) + 1))
 
       one_on : Goes (inner listing (f ∷ frames) at) (t ∷ []) [] (inner listing (g ∷ more) next)
       one_on = goes-one (inner listing (f ∷ frames) at) (inner listing (g ∷ more) next) t (inner-on f g frames more at next t is few)
@@ -107,13 +107,13 @@ module _ (listing : Listing) where
         goes-append (t ∷ []) tokens (inner listing (f ∷ frames) at) (inner listing (g ∷ more) next) (inner listing last end) [] [] one_on a.3,
       )
       by (whole value) a = λ m e.
-          goes-append (t ∷ []) tokens (inner listing (f ∷ frames) at) (inner listing (g ∷ more) next) (between (behind_record listing)) [] (m ∷ []) one_on (a m e)
+          goes-append (t ∷ []) tokens (inner listing (f ∷ frames) at) (inner listing (g ∷ more) next) (between (after_record listing)) [] (m ∷ []) one_on (a m e)
       by wrong a = tt
   along-step done f frames at t [] h shallow later (whole value) is = λ m e. (
     m ∷ [],
-    between (behind_record listing),
+    between (after_record listing),
     [],
-    subst (λ r. Gives r (m ∷ []) (between (behind_record listing))) (sym (ap (value_turn listing) is ∙ ap (record_turn listing) e)) (m, refl, pairs-in-fields (record_of m), refl),
+    subst (λ r. Gives r (m ∷ []) (between (after_record listing))) (sym (ap (value_turn listing) is ∙ ap (record_turn listing) e)) (m, refl, pairs-in-fields (record_of m), refl),
     (refl, refl),
     refl,
   )

@@ -12,11 +12,11 @@ use Rattle.mlr_json.proofs.GrammarOutcome.{reads-nothing, reads-push}
 use Rattle.read_json_lines.specs.declared.listing.Listing.TheVariants.{First, Next}
 use Rattle.read_json_lines.specs.declared.listing.Trouble.TheVariants.{Kind}
 use Rattle.read_json_lines.specs.Records.{turn}
-use Rattle.read_json_lines.specs.Grammar.{Part, one, list, objects, stream_tokens, comma_behind, open_tokens, open_maps, BeginsRecords, IsTrouble}
-use Rattle.read_json_lines.proofs.GrammarOver.{value-stands}
-use Rattle.read_json_lines.proofs.GrammarParts.{join-right, each_map, each-comma, comma-push, parts-behind, list-behind, MayCome}
+use Rattle.read_json_lines.specs.Grammar.{Part, one, list, objects, stream_tokens, comma_after, open_tokens, open_maps, BeginsRecords, IsTrouble}
+use Rattle.read_json_lines.proofs.GrammarOver.{value-represents}
+use Rattle.read_json_lines.proofs.GrammarParts.{join-right, each_map, each-comma, comma-push, parts-following, list-following, MayCome}
 use Rattle.read_json_lines.proofs.GrammarMaps.{IsMapAt}
-use Rattle.read_json_lines.proofs.GrammarStands.{Standing, outside, map_open, list_open, behind_map, behind_comma, listed_map, state_at, open_at, list_frame, frames_at, phase_at, Stood, stood-on, stood-part}
+use Rattle.read_json_lines.proofs.GrammarPositions.{Position, outside, map_open, list_open, after_map, after_comma, listed_map, state_at, open_at, list_frame, frames_at, phase_at, Stood, stood-on, stood-part}
 use Rattle.read_json_lines.proofs.GrammarTurns.{Says, wrong-values, right-values, map-says, listed-says}
 
 -- ---- what can't begin a record
@@ -27,21 +27,21 @@ first-token (one m ∷ parts) t rest e = inl cc
 first-token (list maps ∷ parts) t rest e = inr cc
 
 -- records that begin with these tokens, from what is open on
-records-open : (before : List Token) (maps : List Members) (standing : Standing) (t : Token) → Stood before maps standing → (b : BeginsRecords (before ++ t ∷ []))
-    → (parts : List Part) × (open_tokens (open_at standing) ++ t ∷ b.more ≡ stream_tokens parts)
-records-open before maps standing t h b =
-    parts-behind h.parts b.parts (open_tokens (open_at standing) ++ t ∷ b.more)
-    (sym (ap (λ x. (x ++ t ∷ []) ++ b.more) h.tokens_are ∙ join-right (stream_tokens h.parts) (open_tokens (open_at standing)) (t ∷ []) b.more) ∙ b.whole)
+records-open : (before : List Token) (maps : List Members) (position : Position) (t : Token) → Stood before maps position → (b : BeginsRecords (before ++ t ∷ []))
+    → (parts : List Part) × (open_tokens (open_at position) ++ t ∷ b.more ≡ stream_tokens parts)
+records-open before maps position t h b =
+    parts-following h.parts b.parts (open_tokens (open_at position) ++ t ∷ b.more)
+    (sym (ap (λ x. (x ++ t ∷ []) ++ b.more) h.tokens_are ∙ join-right (stream_tokens h.parts) (open_tokens (open_at position)) (t ∷ []) b.more) ∙ b.whole)
 
 no-records : (before : List Token) (maps : List Members) (t : Token) → Stood before maps outside → ((t ≡ sign BeginMap) ⊎ (t ≡ sign BeginArray) → ⊥) → BeginsRecords (before ++ t ∷ []) → ⊥
 no-records before maps t h not b =
     let r = records-open before maps outside t h b in
     not (first-token r.0 t b.more r.1)
 
-no-map : (before : List Token) (maps listed : List Members) (standing : Standing) (t : Token) → Stood before maps standing → open_tokens (open_at standing) ≡ sign BeginArray ∷ each_map listed
+no-map : (before : List Token) (maps listed : List Members) (position : Position) (t : Token) → Stood before maps position → open_tokens (open_at position) ≡ sign BeginArray ∷ each_map listed
     → (MayCome t → ⊥) → BeginsRecords (before ++ t ∷ []) → ⊥
-no-map before maps listed standing t h is not b =
-    let r = records-open before maps standing t h b in
+no-map before maps listed position t h is not b =
+    let r = records-open before maps position t h b in
     by r.0 (sym (ap (λ x. x ++ t ∷ b.more) is) ∙ r.1)
   where
     by : (parts : List Part) → sign BeginArray ∷ (each_map listed ++ t ∷ b.more) ≡ stream_tokens parts → ⊥
@@ -49,12 +49,12 @@ no-map before maps listed standing t h is not b =
     by (one m ∷ parts) e = cc
     by (list all ∷ parts) e =
         let left : each_map listed ++ t ∷ b.more ≡ (element_tokens (objects all) ++ sign EndArray ∷ []) ++ stream_tokens parts = cc in
-        not (list-behind listed all t b.more (stream_tokens parts) (left ∙ append_assoc (element_tokens (objects all)) (sign EndArray ∷ []) (stream_tokens parts)))
+        not (list-following listed all t b.more (stream_tokens parts) (left ∙ append_assoc (element_tokens (objects all)) (sign EndArray ∷ []) (stream_tokens parts)))
 
 -- a list that is open behind a comma, with a comma behind each map
-open-comma : (maps : List Members) (m : Members) → open_tokens (open_at (behind_comma maps m)) ≡ sign BeginArray ∷ each_map (maps ++ m ∷ [])
+open-comma : (maps : List Members) (m : Members) → open_tokens (open_at (after_comma maps m)) ≡ sign BeginArray ∷ each_map (maps ++ m ∷ [])
 open-comma maps m =
-    append-nil (sign BeginArray ∷ element_tokens (objects (maps ++ m ∷ [])) ++ comma_behind (maps ++ m ∷ [])) ∙ ap (λ x. sign BeginArray ∷ x) (each-comma (maps ++ m ∷ []))
+    append-nil (sign BeginArray ∷ element_tokens (objects (maps ++ m ∷ [])) ++ comma_after (maps ++ m ∷ [])) ∙ ap (λ x. sign BeginArray ∷ x) (each-comma (maps ++ m ∷ []))
 
 no-start : (t : Token) → (t ≡ sign BeginMap → ⊥) → (t ≡ sign BeginArray → ⊥) → (t ≡ sign BeginMap) ⊎ (t ≡ sign BeginArray) → ⊥
 no-start t a b (inl e) = a e
@@ -103,17 +103,17 @@ module _ (before : List Token) (maps : List Members) (h : Stood before maps outs
 -- ---- in a list
 
 -- a value that is no map
-module _ (before : List Token) (maps listed : List Members) (standing : Standing) (t : Token) (h : Stood before maps standing) where
-  kind-says : open_tokens (open_at standing) ≡ sign BeginArray ∷ each_map listed → (MayCome t → ⊥) → (step (frames_at standing) (phase_at standing) t ≡ wrong → ⊥)
-      → IsTrouble Kind before (open_at standing) t
-  kind-says is not right = (right-values before maps standing t h right, no-map before maps listed standing t h is not)
+module _ (before : List Token) (maps listed : List Members) (position : Position) (t : Token) (h : Stood before maps position) where
+  kind-says : open_tokens (open_at position) ≡ sign BeginArray ∷ each_map listed → (MayCome t → ⊥) → (step (frames_at position) (phase_at position) t ≡ wrong → ⊥)
+      → IsTrouble Kind before (open_at position) t
+  kind-says is not right = (right-values before maps position t h right, no-map before maps listed position t h is not)
 
   -- the list ends
-  list-says : (all : List Members) → open_tokens (open_at standing) ++ t ∷ [] ≡ sign BeginArray ∷ element_tokens (objects all) ++ sign EndArray ∷ [] → open_maps (open_at standing) ≡ all
+  list-says : (all : List Members) → open_tokens (open_at position) ++ t ∷ [] ≡ sign BeginArray ∷ element_tokens (objects all) ++ sign EndArray ∷ [] → open_maps (open_at position) ≡ all
       → Stood (before ++ t ∷ []) maps outside
   list-says all tokens same =
       subst (λ x. Stood (before ++ t ∷ []) x outside) (append-nil maps)
-      (stood-part before maps standing t h (list all) [] tokens (append-nil (open_maps (open_at standing)) ∙ same) (All-nil (λ m. IsShallow (tokens_in (object m)))))
+      (stood-part before maps position t h (list all) [] tokens (append-nil (open_maps (open_at position)) ∙ same) (All-nil (λ m. IsShallow (tokens_in (object m)))))
 
 module _ (before : List Token) (maps : List Members) (h : Stood before maps list_open) where
   first-says : (t : Token) → Says (turn (state_at list_open) t) before maps list_open t
@@ -133,61 +133,61 @@ module _ (before : List Token) (maps : List Members) (h : Stood before maps list
   first-says (sign Comma) = wrong-values before maps list_open (sign Comma) h refl
   first-says (text_token t) =
       kind-says before maps [] list_open (text_token t) h refl (no-item (text_token t) (λ e. cc) (λ e. cc))
-      (value-stands (text_value t) (list_frame []) [])
+      (value-represents (text_value t) (list_frame []) [])
   first-says (word_token value) =
       kind-says before maps [] list_open (word_token value) h refl (no-item (word_token value) (λ e. cc) (λ e. cc))
-      (value-stands value (list_frame []) [])
+      (value-represents value (list_frame []) [])
 
 module _ (before : List Token) (maps listed : List Members) (m : Members) where
-  behind-says : Stood before maps (behind_map listed m) → (t : Token) → Says (turn (state_at (behind_map listed m)) t) before maps (behind_map listed m) t
+  following-says : Stood before maps (after_map listed m) → (t : Token) → Says (turn (state_at (after_map listed m)) t) before maps (after_map listed m) t
   unfolding step
-  behind-says h (sign BeginMap) = wrong-values before maps (behind_map listed m) (sign BeginMap) h refl
-  behind-says h (sign BeginArray) = wrong-values before maps (behind_map listed m) (sign BeginArray) h refl
-  behind-says h (sign EndMap) = wrong-values before maps (behind_map listed m) (sign EndMap) h refl
-  behind-says h (sign EndArray) = (outside, refl, list-says before maps [] (behind_map listed m) (sign EndArray) h (listed ++ m ∷ []) refl refl, omega arith)
-  behind-says h (sign Colon) = wrong-values before maps (behind_map listed m) (sign Colon) h refl
-  behind-says h (sign Comma) = (
-    behind_comma listed m,
+  following-says h (sign BeginMap) = wrong-values before maps (after_map listed m) (sign BeginMap) h refl
+  following-says h (sign BeginArray) = wrong-values before maps (after_map listed m) (sign BeginArray) h refl
+  following-says h (sign EndMap) = wrong-values before maps (after_map listed m) (sign EndMap) h refl
+  following-says h (sign EndArray) = (outside, refl, list-says before maps [] (after_map listed m) (sign EndArray) h (listed ++ m ∷ []) refl refl, omega arith)
+  following-says h (sign Colon) = wrong-values before maps (after_map listed m) (sign Colon) h refl
+  following-says h (sign Comma) = (
+    after_comma listed m,
     refl,
-    stood-on before maps (behind_map listed m) (sign Comma) h (behind_comma listed m)
-        (sym (append-nil (sign BeginArray ∷ element_tokens (objects (listed ++ m ∷ [])) ++ comma_behind (listed ++ m ∷ []))
+    stood-on before maps (after_map listed m) (sign Comma) h (after_comma listed m)
+        (sym (append-nil (sign BeginArray ∷ element_tokens (objects (listed ++ m ∷ [])) ++ comma_after (listed ++ m ∷ []))
         ∙ ap (λ x. sign BeginArray ∷ element_tokens (objects (listed ++ m ∷ [])) ++ x) (comma-push listed m)))
         refl refl tt,
     omega arith,
   )
-  behind-says h (text_token t) = wrong-values before maps (behind_map listed m) (text_token t) h refl
-  behind-says h (word_token value) = wrong-values before maps (behind_map listed m) (word_token value) h refl
+  following-says h (text_token t) = wrong-values before maps (after_map listed m) (text_token t) h refl
+  following-says h (word_token value) = wrong-values before maps (after_map listed m) (word_token value) h refl
 
-  comma-says : Stood before maps (behind_comma listed m) → (t : Token) → Says (turn (state_at (behind_comma listed m)) t) before maps (behind_comma listed m) t
+  comma-says : Stood before maps (after_comma listed m) → (t : Token) → Says (turn (state_at (after_comma listed m)) t) before maps (after_comma listed m) t
   unfolding step
   comma-says h (sign BeginMap) = (
     listed_map Next (listed ++ m ∷ []) ((0, sign BeginMap) ∷ []) (Map [] []) [] phase.FirstKey,
     refl,
-    stood-on before maps (behind_comma listed m) (sign BeginMap) h (listed_map Next (listed ++ m ∷ []) ((0, sign BeginMap) ∷ []) (Map [] []) [] phase.FirstKey)
-        (ap (λ x. x ++ sign BeginMap ∷ []) (append-nil (sign BeginArray ∷ element_tokens (objects (listed ++ m ∷ [])) ++ comma_behind (listed ++ m ∷ []))))
+    stood-on before maps (after_comma listed m) (sign BeginMap) h (listed_map Next (listed ++ m ∷ []) ((0, sign BeginMap) ∷ []) (Map [] []) [] phase.FirstKey)
+        (ap (λ x. x ++ sign BeginMap ∷ []) (append-nil (sign BeginArray ∷ element_tokens (objects (listed ++ m ∷ [])) ++ comma_after (listed ++ m ∷ []))))
         refl refl (map-first, refl),
     omega arith,
   )
   comma-says h (sign BeginArray) =
-      kind-says before maps (listed ++ m ∷ []) (behind_comma listed m) (sign BeginArray) h (open-comma listed m) (no-item (sign BeginArray) (λ e. cc) (λ e. cc))
+      kind-says before maps (listed ++ m ∷ []) (after_comma listed m) (sign BeginArray) h (open-comma listed m) (no-item (sign BeginArray) (λ e. cc) (λ e. cc))
       (λ e. let x : on (Array [] ∷ list_frame (listed ++ m ∷ []) ∷ []) phase.FirstItem ≡ wrong = e in cc)
-  comma-says h (sign EndMap) = wrong-values before maps (behind_comma listed m) (sign EndMap) h refl
-  comma-says h (sign EndArray) = wrong-values before maps (behind_comma listed m) (sign EndArray) h refl
-  comma-says h (sign Colon) = wrong-values before maps (behind_comma listed m) (sign Colon) h refl
-  comma-says h (sign Comma) = wrong-values before maps (behind_comma listed m) (sign Comma) h refl
+  comma-says h (sign EndMap) = wrong-values before maps (after_comma listed m) (sign EndMap) h refl
+  comma-says h (sign EndArray) = wrong-values before maps (after_comma listed m) (sign EndArray) h refl
+  comma-says h (sign Colon) = wrong-values before maps (after_comma listed m) (sign Colon) h refl
+  comma-says h (sign Comma) = wrong-values before maps (after_comma listed m) (sign Comma) h refl
   comma-says h (text_token t) =
-      kind-says before maps (listed ++ m ∷ []) (behind_comma listed m) (text_token t) h (open-comma listed m) (no-item (text_token t) (λ e. cc) (λ e. cc))
-      (value-stands (text_value t) (list_frame (listed ++ m ∷ [])) [])
+      kind-says before maps (listed ++ m ∷ []) (after_comma listed m) (text_token t) h (open-comma listed m) (no-item (text_token t) (λ e. cc) (λ e. cc))
+      (value-represents (text_value t) (list_frame (listed ++ m ∷ [])) [])
   comma-says h (word_token value) =
-      kind-says before maps (listed ++ m ∷ []) (behind_comma listed m) (word_token value) h (open-comma listed m) (no-item (word_token value) (λ e. cc) (λ e. cc))
-      (value-stands value (list_frame (listed ++ m ∷ [])) [])
+      kind-says before maps (listed ++ m ∷ []) (after_comma listed m) (word_token value) h (open-comma listed m) (no-item (word_token value) (λ e. cc) (λ e. cc))
+      (value-represents value (list_frame (listed ++ m ∷ [])) [])
 
 -- ---- anywhere
 
-pub turn-says : (before : List Token) (maps : List Members) (standing : Standing) (t : Token) → Stood before maps standing → Says (turn (state_at standing) t) before maps standing t
+pub turn-says : (before : List Token) (maps : List Members) (position : Position) (t : Token) → Stood before maps position → Says (turn (state_at position) t) before maps position t
 turn-says before maps outside t h = outside-says before maps h t
 turn-says before maps (map_open done f frames at) t h = map-says before maps done f frames at t h (step (f ∷ frames) at t) refl
 turn-says before maps list_open t h = first-says before maps h t
-turn-says before maps (behind_map listed m) t h = behind-says before maps listed m h t
-turn-says before maps (behind_comma listed m) t h = comma-says before maps listed m h t
+turn-says before maps (after_map listed m) t h = following-says before maps listed m h t
+turn-says before maps (after_comma listed m) t h = comma-says before maps listed m h t
 turn-says before maps (listed_map listing listed done f frames at) t h = listed-says before maps listing listed done f frames at t h (step (f ∷ frames) at t) refl

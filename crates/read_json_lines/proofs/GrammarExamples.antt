@@ -59,12 +59,12 @@ module _ (file : FileRef) where
     before = (1, sign BeginArray) ∷ [];
     place = 2;
     token = word_token value;
-    behind = [];
+    following = [];
     maps = [];
     opened = in_list [];
     why = Kind;
     parts = refl;
-    front = record { parts = []; tokens_are = refl; maps_are = refl; begun = tt; shallow = All-nil (λ m. IsShallow (tokens_in (object m))) };
+    prefix = record { parts = []; tokens_are = refl; maps_are = refl; begun = tt; shallow = All-nil (λ m. IsShallow (tokens_in (object m))) };
     why_is = (record { values = elements (element_and (word value) no_elements) ∷ []; more = sign EndArray ∷ []; whole = refl }, λ b. none b.parts b.more b.whole);
     items_are = refl;
   })
@@ -81,12 +81,12 @@ module _ (file : FileRef) where
     before = (1, sign BeginMap) ∷ [];
     place = 2;
     token = sign Comma;
-    behind = (3, sign BeginMap) ∷ [];
+    following = (3, sign BeginMap) ∷ [];
     maps = [];
     opened = in_map (sign BeginMap ∷ []);
     why = syntax;
     parts = refl;
-    front = record {
+    prefix = record {
       parts = [];
       tokens_are = refl;
       maps_are = refl;

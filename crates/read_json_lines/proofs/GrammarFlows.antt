@@ -9,8 +9,8 @@ use Rattle.mlr_json.specs.declared.frame.Frame.{Frame}
 use Rattle.mlr_json.specs.declared.frame.Phase.{Phase}
 use Rattle.mlr_json.specs.declared.frame.Phase.TheVariants as phase
 use Rattle.mlr_json.specs.Machine.{Step, on, whole, wrong, step}
-use Rattle.mlr_json.proofs.Grammar.{Stands, Leads, leads}
-use Rattle.mlr_json.proofs.GrammarRuns.{run, run_on, run-cons, run-whole, stands-begins}
+use Rattle.mlr_json.proofs.Grammar.{Represents, Leads, leads}
+use Rattle.mlr_json.proofs.GrammarRuns.{run, run_on, run-cons, run-whole, represents-begins}
 use Rattle.mlr_json.proofs.GrammarOutcome.{run-push, run_on-nil}
 use Rattle.read_json_lines.specs.Grammar.{Part, one, list, objects, part_tokens, stream_tokens, BeginsValues, BeginsRecords}
 
@@ -105,19 +105,19 @@ join-middle a b c d = simp append_assoc
 
 -- the machine of values stands here behind these tokens
 pub record Reaches (tokens : List Token) (frames : List Frame) (at : Phase) : Type 0 where
-  pub stands : Stands frames at tokens
+  pub represents : Represents frames at tokens
   pub runs : run [] phase.Value tokens ≡ on frames at
 
 pub reaches-push : (tokens : List Token) (frames : List Frame) (at : Phase) (t : Token) (more : List Frame) (next : Phase)
     → Reaches tokens frames at → step frames at t ≡ on more next → Reaches (tokens ++ t ∷ []) more next
 reaches-push tokens frames at t more next h is = record {
-  stands = subst (λ s. Leads s (tokens ++ t ∷ [])) is (leads frames at t tokens h.stands);
+  represents = subst (λ s. Leads s (tokens ++ t ∷ [])) is (leads frames at t tokens h.represents);
   runs = run-push [] phase.Value tokens t frames at h.runs ∙ run_on-nil (step frames at t) ∙ is;
 }
 
 module _ (parts : List Part) (tokens : List Token) (frames : List Frame) (at : Phase) (h : Reaches tokens frames at) where
-  pub flow-behind : flow [] phase.Value (stream_tokens parts ++ tokens) ≡ on frames at
-  flow-behind =
+  pub flow-following : flow [] phase.Value (stream_tokens parts ++ tokens) ≡ on frames at
+  flow-following =
       ap (λ t. flow [] phase.Value (t ++ tokens)) (stream-values parts) ∙ flow-values (map part_value parts) tokens
       ∙ subst (λ r. Goes r (flow [] phase.Value tokens)) h.runs (flow-run [] phase.Value tokens)
 
@@ -125,7 +125,7 @@ module _ (parts : List Part) (tokens : List Token) (frames : List Frame) (at : P
   pub no-values : (t : Token) → step frames at t ≡ wrong → BeginsValues ((stream_tokens parts ++ tokens) ++ t ∷ []) → ⊥
   no-values t is begins =
       let stuck : flow [] phase.Value ((stream_tokens parts ++ tokens) ++ t ∷ []) ≡ wrong =
-      flow-append [] phase.Value (stream_tokens parts ++ tokens) (t ∷ []) ∙ ap (λ s. flow_on s (t ∷ [])) flow-behind ∙ flow-cons frames at t [] ∙ ap (λ s. flow_on s []) is in
+      flow-append [] phase.Value (stream_tokens parts ++ tokens) (t ∷ []) ∙ ap (λ s. flow_on s (t ∷ [])) flow-following ∙ flow-cons frames at t [] ∙ ap (λ s. flow_on s []) is in
       let all : flow [] phase.Value (flat_map tokens_in begins.values) ≡ wrong =
       ap (flow [] phase.Value) (sym begins.whole) ∙ flow-append [] phase.Value ((stream_tokens parts ++ tokens) ++ t ∷ []) begins.more ∙ ap (λ s. flow_on s begins.more) stuck in
       let ends : flow [] phase.Value (flat_map tokens_in begins.values) ≡ on [] phase.Value =
@@ -135,17 +135,17 @@ module _ (parts : List Part) (tokens : List Token) (frames : List Frame) (at : P
 
   -- one that may
   pub some-values : (t : Token) → (step frames at t ≡ wrong → ⊥) → BeginsValues ((stream_tokens parts ++ tokens) ++ t ∷ [])
-  some-values t right = behind (by (step frames at t) refl)
+  some-values t right = following (by (step frames at t) refl)
     where
       by : (s : Step) → step frames at t ≡ s → Begins (tokens ++ t ∷ [])
-      by (on more next) is = stands-begins more next (tokens ++ t ∷ []) (reaches-push tokens frames at t more next h is).stands
+      by (on more next) is = represents-begins more next (tokens ++ t ∷ []) (reaches-push tokens frames at t more next h is).represents
       by (whole value) is =
-          let came = subst (λ s. Leads s (tokens ++ t ∷ [])) is (leads frames at t tokens h.stands) in
+          let came = subst (λ s. Leads s (tokens ++ t ∷ [])) is (leads frames at t tokens h.represents) in
           record { syntax = came.0; more = []; whole = append-nil (tokens ++ t ∷ []) ∙ came.1 }
       by wrong is = absurd (right is)
 
-      behind : Begins (tokens ++ t ∷ []) → BeginsValues ((stream_tokens parts ++ tokens) ++ t ∷ [])
-      behind b = record {
+      following : Begins (tokens ++ t ∷ []) → BeginsValues ((stream_tokens parts ++ tokens) ++ t ∷ [])
+      following b = record {
         values = map part_value parts ++ b.syntax ∷ [];
         more = b.more;
         whole =
@@ -159,5 +159,5 @@ module _ (parts : List Part) (tokens : List Token) (frames : List Frame) (at : P
   no-stream is_open other is =
       let ends : flow [] phase.Value (stream_tokens other) ≡ on [] phase.Value =
       ap (flow [] phase.Value) (stream-values other ∙ sym (append-nil (flat_map tokens_in (map part_value other)))) ∙ flow-values (map part_value other) [] in
-      let e : on frames at ≡ on [] phase.Value = sym flow-behind ∙ ap (flow [] phase.Value) is ∙ ends in
+      let e : on frames at ≡ on [] phase.Value = sym flow-following ∙ ap (flow [] phase.Value) is ∙ ends in
       is_open cc

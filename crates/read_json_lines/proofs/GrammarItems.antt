@@ -19,8 +19,8 @@ use Rattle.read_json_lines.specs.Records.{State, Turn, goes, gives, fails, turn,
 use Rattle.read_json_lines.specs.Grammar.{stream_tokens, open_tokens, record_of, records, IsLast, HasItems}
 use Rattle.mlr_json.proofs.GrammarRuns.{step-word}
 use Rattle.read_json_lines.proofs.GrammarFlows.{no-stream}
-use Rattle.read_json_lines.proofs.GrammarOver.{value-stands}
-use Rattle.read_json_lines.proofs.GrammarStands.{Standing, outside, map_open, list_open, behind_map, behind_comma, listed_map, state_at, open_at, list_frame, frames_at, phase_at, Stood, stood-nothing, stood-front}
+use Rattle.read_json_lines.proofs.GrammarOver.{value-represents}
+use Rattle.read_json_lines.proofs.GrammarPositions.{Position, outside, map_open, list_open, after_map, after_comma, listed_map, state_at, open_at, list_frame, frames_at, phase_at, Stood, stood-nothing, stood-prefix}
 use Rattle.read_json_lines.proofs.GrammarTurns.{Says, wrong-values, right-values}
 use Rattle.read_json_lines.proofs.GrammarBetween.{turn-says}
 
@@ -28,55 +28,55 @@ use Rattle.read_json_lines.proofs.GrammarBetween.{turn-says}
 
 module _ (file : FileRef) (before : List Token) (maps : List Members) (place : ℕ) where
   -- a word that begins within a map
-  within-last : (standing : Standing) (f : Frame) (frames : List Frame) (at : Phase) → frames_at standing ≡ f ∷ frames → phase_at standing ≡ at → Stood before maps standing
+  within-last : (position : Position) (f : Frame) (frames : List Frame) (at : Phase) → frames_at position ≡ f ∷ frames → phase_at position ≡ at → Stood before maps position
       → IsLast file before (begins place) (cond (takes_value at) [] (reading.fault (fault_of file Syntax place) ∷ []))
-  within-last standing f frames at frames_are at_is h =
+  within-last position f frames at frames_are at_is h =
       elim (cases_Bool (takes_value at)) as (λ _. IsLast file before (begins place) (cond (takes_value at) [] (reading.fault (fault_of file Syntax place) ∷ []))) [
-        | inl takes ↦ rw takes (inl (λ value. right-values before maps standing (word_token value) h (λ e. value-stands value f frames (sym (stepped value true takes) ∙ e)), refl))
-        | inr refuses ↦ rw refuses (inr (λ value. wrong-values before maps standing (word_token value) h (stepped value false refuses), refl))
+        | inl takes ↦ rw takes (inl (λ value. right-values before maps position (word_token value) h (λ e. value-represents value f frames (sym (stepped value true takes) ∙ e)), refl))
+        | inr refuses ↦ rw refuses (inr (λ value. wrong-values before maps position (word_token value) h (stepped value false refuses), refl))
       ]
     where
-      stepped : (value : Tree) (takes : Bool) → takes_value at ≡ takes → step (frames_at standing) (phase_at standing) (word_token value) ≡ cond takes (with_value value (f ∷ frames)) wrong
+      stepped : (value : Tree) (takes : Bool) → takes_value at ≡ takes → step (frames_at position) (phase_at position) (word_token value) ≡ cond takes (with_value value (f ∷ frames)) wrong
       stepped value takes is =
-          ap (λ x. step x (phase_at standing) (word_token value)) frames_are ∙ ap (λ x. step (f ∷ frames) x (word_token value)) at_is ∙ step-word value (f ∷ frames) at takes is
+          ap (λ x. step x (phase_at position) (word_token value)) frames_are ∙ ap (λ x. step (f ∷ frames) x (word_token value)) at_is ∙ step-word value (f ∷ frames) at takes is
 
-  word-last : (standing : Standing) → Stood before maps standing → IsLast file before (begins place) (end_items file (state_at standing) (begins place))
+  word-last : (position : Position) → Stood before maps position → IsLast file before (begins place) (end_items file (state_at position) (begins place))
   word-last outside h = inl (λ value. right-values before maps outside (word_token value) h (λ e. let x : whole value ≡ wrong = sym (step-word value [] phase.Value true refl) ∙ e in cc), refl)
   word-last (map_open done f frames at) h = within-last (map_open done f frames at) f frames at refl refl h
   word-last list_open h =
-      inl (λ value. right-values before maps list_open (word_token value) h (λ e. value-stands value (list_frame []) [] (sym (step-word value (list_frame [] ∷ []) phase.FirstItem true refl) ∙ e)), refl)
-  word-last (behind_map listed m) h =
-      inr (λ value. wrong-values before maps (behind_map listed m) (word_token value) h (step-word value (list_frame (listed ++ m ∷ []) ∷ []) phase.Later false refl), refl)
-  word-last (behind_comma listed m) h =
+      inl (λ value. right-values before maps list_open (word_token value) h (λ e. value-represents value (list_frame []) [] (sym (step-word value (list_frame [] ∷ []) phase.FirstItem true refl) ∙ e)), refl)
+  word-last (after_map listed m) h =
+      inr (λ value. wrong-values before maps (after_map listed m) (word_token value) h (step-word value (list_frame (listed ++ m ∷ []) ∷ []) phase.Later false refl), refl)
+  word-last (after_comma listed m) h =
       inl (
-        λ value. right-values before maps (behind_comma listed m) (word_token value) h
-            (λ e. value-stands value (list_frame (listed ++ m ∷ [])) [] (sym (step-word value (list_frame (listed ++ m ∷ []) ∷ []) phase.Value true refl) ∙ e)),
+        λ value. right-values before maps (after_comma listed m) (word_token value) h
+            (λ e. value-represents value (list_frame (listed ++ m ∷ [])) [] (sym (step-word value (list_frame (listed ++ m ∷ []) ∷ []) phase.Value true refl) ∙ e)),
         refl,
       )
   word-last (listed_map listing listed done f frames at) h =
       within-last (listed_map listing listed done f frames at) f (frames ++ list_frame listed ∷ []) at refl refl h
 
-  open-last : (standing : Standing) → Stood before maps standing → (frames_at standing ≡ [] → ⊥)
+  open-last : (position : Position) → Stood before maps position → (frames_at position ≡ [] → ⊥)
       → IsLast file before (ends place) (reading.fault (fault_of file Syntax place) ∷ [])
-  open-last standing h some =
-      inr (λ parts is. no-stream h.parts (open_tokens (open_at standing)) (frames_at standing) (phase_at standing) h.reaches some parts (sym h.tokens_are ∙ is), refl)
+  open-last position h some =
+      inr (λ parts is. no-stream h.parts (open_tokens (open_at position)) (frames_at position) (phase_at position) h.reaches some parts (sym h.tokens_are ∙ is), refl)
 
-  whole-last : (standing : Standing) → Stood before maps standing → IsLast file before (ends place) (end_items file (state_at standing) (ends place))
+  whole-last : (position : Position) → Stood before maps position → IsLast file before (ends place) (end_items file (state_at position) (ends place))
   whole-last outside h = inl (h.parts, h.tokens_are ∙ append-nil (stream_tokens h.parts), refl)
   whole-last (map_open done f frames at) h = open-last (map_open done f frames at) h (λ e. let x : f ∷ frames ≡ [] = e in cc)
   whole-last list_open h = open-last list_open h (λ e. let x : list_frame [] ∷ [] ≡ [] = e in cc)
-  whole-last (behind_map listed m) h = open-last (behind_map listed m) h (λ e. let x : list_frame (listed ++ m ∷ []) ∷ [] ≡ [] = e in cc)
-  whole-last (behind_comma listed m) h = open-last (behind_comma listed m) h (λ e. let x : list_frame (listed ++ m ∷ []) ∷ [] ≡ [] = e in cc)
+  whole-last (after_map listed m) h = open-last (after_map listed m) h (λ e. let x : list_frame (listed ++ m ∷ []) ∷ [] ≡ [] = e in cc)
+  whole-last (after_comma listed m) h = open-last (after_comma listed m) h (λ e. let x : list_frame (listed ++ m ∷ []) ∷ [] ≡ [] = e in cc)
   whole-last (listed_map listing listed done f frames at) h =
       subst (λ b. IsLast file before (ends place) (cond b [] (reading.fault (fault_of file Syntax place) ∷ []))) (sym (and-false (is_outside listing)))
       (open-last (listed_map listing listed done f frames at) h (λ e. let x : f ∷ frames ++ list_frame listed ∷ [] ≡ [] = e in cc))
 
-pub last-says : (file : FileRef) (before : List Token) (maps : List Members) (standing : Standing) (ending : Ending) → Stood before maps standing
-    → IsLast file before ending (end_items file (state_at standing) ending)
-last-says file before maps standing goes_on h = refl
-last-says file before maps standing (begins place) h = word-last file before maps place standing h
-last-says file before maps standing (stops place) h = refl
-last-says file before maps standing (ends place) h = whole-last file before maps place standing h
+pub last-says : (file : FileRef) (before : List Token) (maps : List Members) (position : Position) (ending : Ending) → Stood before maps position
+    → IsLast file before ending (end_items file (state_at position) ending)
+last-says file before maps position goes_on h = refl
+last-says file before maps position (begins place) h = word-last file before maps place position h
+last-says file before maps position (stops place) h = refl
+last-says file before maps position (ends place) h = whole-last file before maps place position h
 
 -- ---- all tokens
 
@@ -103,51 +103,51 @@ records-push maps m rest =
     ap (λ x. x ++ rest) (map-append (λ k. fields (record_of k)) maps (m ∷ [])) ∙ append_assoc (records maps) (fields (record_of m) ∷ []) rest
 
 module _ (file : FileRef) (ending : Ending) where
-  items-step : (all before tokens : List (ℕ × Token)) (place : ℕ) (t : Token) (maps : List Members) (standing : Standing) → all ≡ before ++ (place, t) ∷ tokens → Stood (bare before) maps standing
-      → ((more : List Members) (next : Standing) → Stood (bare (before ++ (place, t) ∷ [])) more next → HasItems file all ending (records more ++ items_of file (state_at next) tokens ending))
-      → (r : Turn) → Says r (bare before) maps standing t → HasItems file all ending (records maps ++ items_on file place tokens ending r)
-  items-step all before tokens place t maps standing parts h later (goes s) says =
+  items-step : (all before tokens : List (ℕ × Token)) (place : ℕ) (t : Token) (maps : List Members) (position : Position) → all ≡ before ++ (place, t) ∷ tokens → Stood (bare before) maps position
+      → ((more : List Members) (next : Position) → Stood (bare (before ++ (place, t) ∷ [])) more next → HasItems file all ending (records more ++ items_of file (state_at next) tokens ending))
+      → (r : Turn) → Says r (bare before) maps position t → HasItems file all ending (records maps ++ items_on file place tokens ending r)
+  items-step all before tokens place t maps position parts h later (goes s) says =
       subst (λ x. HasItems file all ending (records maps ++ items_of file x tokens ending)) (sym says.1)
       (later maps says.0 (subst (λ x. Stood x maps says.0) (sym (bare-push before place t)) says.2))
-  items-step all before tokens place t maps standing parts h later (gives pairs s) says =
+  items-step all before tokens place t maps position parts h later (gives pairs s) says =
       subst (HasItems file all ending)
       (records-push maps says.2 (items_of file (state_at says.0) tokens ending)
       ∙ ap (λ x. records maps ++ (fields x ∷ items_of file (state_at says.0) tokens ending)) (sym says.3)
       ∙ ap (λ x. records maps ++ (fields pairs ∷ items_of file x tokens ending)) (sym says.1))
       (later (maps ++ says.2 ∷ []) says.0 (subst (λ x. Stood x (maps ++ says.2 ∷ []) says.0) (sym (bare-push before place t)) says.4))
-  items-step all before tokens place t maps standing parts h later (fails trouble) says =
+  items-step all before tokens place t maps position parts h later (fails trouble) says =
       inl (record {
         before = before;
         place = place;
         token = t;
-        behind = tokens;
+        following = tokens;
         maps = maps;
-        opened = open_at standing;
+        opened = open_at position;
         why = trouble;
         parts = parts;
-        front = stood-front (bare before) maps standing h;
+        prefix = stood-prefix (bare before) maps position h;
         why_is = says;
         items_are = refl;
       })
 
-  items-from : (all before tokens : List (ℕ × Token)) (maps : List Members) (standing : Standing) → all ≡ before ++ tokens → Stood (bare before) maps standing
-      → HasItems file all ending (records maps ++ items_of file (state_at standing) tokens ending)
-  items-from all before [] maps standing parts h =
+  items-from : (all before tokens : List (ℕ × Token)) (maps : List Members) (position : Position) → all ≡ before ++ tokens → Stood (bare before) maps position
+      → HasItems file all ending (records maps ++ items_of file (state_at position) tokens ending)
+  items-from all before [] maps position parts h =
       let e : all ≡ before = parts ∙ append-nil before in
-      subst (λ x. HasItems file x ending (records maps ++ end_items file (state_at standing) ending)) (sym e)
+      subst (λ x. HasItems file x ending (records maps ++ end_items file (state_at position) ending)) (sym e)
       (inr (record {
         maps = maps;
-        opened = open_at standing;
-        last = end_items file (state_at standing) ending;
-        front = stood-front (bare before) maps standing h;
-        last_is = last-says file (bare before) maps standing ending h;
+        opened = open_at position;
+        last = end_items file (state_at position) ending;
+        prefix = stood-prefix (bare before) maps position h;
+        last_is = last-says file (bare before) maps position ending h;
         items_are = refl;
       }))
-  items-from all before ((place, t) ∷ tokens) maps standing parts h =
-      subst (λ x. HasItems file all ending (records maps ++ x)) (sym (items-cons file place tokens ending (state_at standing) t))
-      (items-step all before tokens place t maps standing parts h
+  items-from all before ((place, t) ∷ tokens) maps position parts h =
+      subst (λ x. HasItems file all ending (records maps ++ x)) (sym (items-cons file place tokens ending (state_at position) t))
+      (items-step all before tokens place t maps position parts h
       (λ more next stood. items-from all (before ++ (place, t) ∷ []) tokens more next (parts ∙ sym (append_assoc before ((place, t) ∷ []) tokens)) stood)
-      (turn (state_at standing) t) (turn-says (bare before) maps standing t h))
+      (turn (state_at position) t) (turn-says (bare before) maps position t h))
 
 pub has-items : (file : FileRef) (tokens : List (ℕ × Token)) (ending : Ending) → HasItems file tokens ending (items_of file (state_at outside) tokens ending)
 has-items file tokens ending = items-from file ending tokens [] tokens [] outside refl stood-nothing

@@ -10,8 +10,8 @@ use Rattle.mlr_json.specs.declared.frame.Frame.{Frame}
 use Rattle.mlr_json.specs.declared.frame.Phase.{Phase}
 use Rattle.mlr_json.specs.declared.frame.Phase.TheVariants as phase
 use Rattle.mlr_json.specs.Machine.{Step, on, whole, step}
-use Rattle.mlr_json.proofs.Grammar.{Stands, Leads, leads}
-use Rattle.mlr_json.proofs.GrammarRuns.{run, run-whole, stands-begins}
+use Rattle.mlr_json.proofs.Grammar.{Represents, Leads, leads}
+use Rattle.mlr_json.proofs.GrammarRuns.{run, run-whole, represents-begins}
 use Rattle.mlr_json.proofs.GrammarOutcome.{one_if, at_most_one, Balanced, balanced, shallow-push, bare-push, level-push, Reads, reads-push}
 use Rattle.read_json_lines.specs.Grammar.{record_of, IsBegun}
 
@@ -23,7 +23,7 @@ object-begun (object m) rest e = (m, refl)
 object-begun (elements items) rest e = absurd cc
 
 -- no bracket is open before the first token alone
-pub nothing-open : (at : Phase) (tokens : List Token) → Stands [] at tokens → tokens ≡ []
+pub nothing-open : (at : Phase) (tokens : List Token) → Represents [] at tokens → tokens ≡ []
 nothing-open phase.Value tokens h = h
 nothing-open phase.FirstItem tokens h = absurd h
 nothing-open phase.FirstKey tokens h = absurd h
@@ -42,7 +42,7 @@ module _ (done : List (ℕ × Token)) (frames : List Frame) (at : Phase) (h : Is
   -- its tokens begin a map, and aren't all of it
   pub map-begun : IsBegun (bare done)
   map-begun =
-      let b : Begins (bare done) = stands-begins frames at (bare done) h.reads.stands in
+      let b : Begins (bare done) = represents-begins frames at (bare done) h.reads.represents in
       by b.syntax b.more b.whole
     where
       by : (s : Syntax) (more : List Token) → bare done ++ more ≡ tokens_in s → IsBegun (bare done)
@@ -55,20 +55,20 @@ module _ (done : List (ℕ × Token)) (frames : List Frame) (at : Phase) (h : Is
 
   module _ (t : Token) where
     came : (s : Step) → step frames at t ≡ s → Leads s (bare done ++ t ∷ [])
-    came s is = subst (λ x. Leads x (bare done ++ t ∷ [])) is (leads frames at t (bare done) h.reads.stands)
+    came s is = subst (λ x. Leads x (bare done ++ t ∷ [])) is (leads frames at t (bare done) h.reads.represents)
 
     begins-push : bare done ++ t ∷ [] ≡ sign BeginMap ∷ (h.rest ++ t ∷ [])
     begins-push = ap (λ x. x ++ t ∷ []) h.begins
 
-    level-behind : (n : ℕ) → n + one_if (is_closing t) ≡ length frames + one_if (is_opening t)
+    level-following : (n : ℕ) → n + one_if (is_closing t) ≡ length frames + one_if (is_opening t)
         → count_by is_opening (bare done ++ t ∷ []) ≡ count_by is_closing (bare done ++ t ∷ []) + n
-    level-behind n e = level-push done frames at t n h.reads e
+    level-following n e = level-push done frames at t n h.reads e
 
     -- where the stack goes on, with the level that it has then
     pub map-level : (more : List Frame) (next : Phase) → step frames at t ≡ on more next → level_of (bare done ++ t ∷ []) ≡ length more
     map-level more next is =
         let l : count_by is_opening (bare done ++ t ∷ []) ≡ count_by is_closing (bare done ++ t ∷ []) + length more =
-        level-behind (length more) (subst (λ s. Balanced s (length frames) t) is (balanced frames at t)) in
+        level-following (length more) (subst (λ s. Balanced s (length frames) t) is (balanced frames at t)) in
         omega arith
 
     pub map-deep : (more : List Frame) (next : Phase) → step frames at t ≡ on more next → 100 < length more → level_of (bare done ++ t ∷ []) ≡ 101
@@ -97,7 +97,7 @@ module _ (done : List (ℕ × Token)) (frames : List Frame) (at : Phase) (h : Is
     -- it goes on to a map
     pub map-goes : (more : List Frame) (next : Phase) → step frames at t ≡ on more next → (m : Members) × (rest : List Token) × ((bare done ++ t ∷ []) ++ rest ≡ tokens_in (object m))
     map-goes more next is =
-        let b : Begins (bare done ++ t ∷ []) = stands-begins more next (bare done ++ t ∷ []) (came (on more next) is) in
+        let b : Begins (bare done ++ t ∷ []) = represents-begins more next (bare done ++ t ∷ []) (came (on more next) is) in
         let m = object-begun b.syntax ((h.rest ++ t ∷ []) ++ b.more) (sym (ap (λ x. x ++ b.more) begins-push) ∙ b.whole) in
         (m.0, b.more, b.whole ∙ ap tokens_in m.1)
 
@@ -115,7 +115,7 @@ module _ (done : List (ℕ × Token)) (frames : List Frame) (at : Phase) (h : Is
         let m = object-begun c.0 (h.rest ++ t ∷ []) (sym begins-push ∙ c.1) in
         let tokens : bare done ++ t ∷ [] ≡ tokens_in (object m.0) = c.1 ∙ ap tokens_in m.1 in
         let l : count_by is_opening (bare done ++ t ∷ []) ≡ count_by is_closing (bare done ++ t ∷ []) + 0 =
-        level-behind 0 (zero-add (one_if (is_closing t)) ∙ subst (λ s. Balanced s (length frames) t) is (balanced frames at t)) in
+        level-following 0 (zero-add (one_if (is_closing t)) ∙ subst (λ s. Balanced s (length frames) t) is (balanced frames at t)) in
         let low : level_of (bare done ++ t ∷ []) ≤ 100 = omega arith in
         record {
           members = m.0;

@@ -12,9 +12,9 @@ use Rattle.mlr_json.specs.declared.frame.Phase.TheVariants as phase
 use Rattle.mlr_json.specs.Machine.{Step, on, whole, wrong, with_value, with_key, map_ended, array_ended, colon_read, comma_read, step_mark, step}
 
 -- within a bracket a value goes on
-pub value-stands : (value : Tree) (f : Frame) (frames : List Frame) → with_value value (f ∷ frames) ≡ wrong → ⊥
-value-stands value (Array items) frames e = let x : on (Array (items ++ value ∷ []) ∷ frames) phase.Later ≡ wrong = e in cc
-value-stands value (Map pairs key) frames e = let x : on (Map (put_at key value pairs) key ∷ frames) phase.Later ≡ wrong = e in cc
+pub value-represents : (value : Tree) (f : Frame) (frames : List Frame) → with_value value (f ∷ frames) ≡ wrong → ⊥
+value-represents value (Array items) frames e = let x : on (Array (items ++ value ∷ []) ∷ frames) phase.Later ≡ wrong = e in cc
+value-represents value (Map pairs key) frames e = let x : on (Map (put_at key value pairs) key ∷ frames) phase.Later ≡ wrong = e in cc
 
 -- a step, with these frames round it
 abbrev pub over : List Frame → Step → Step

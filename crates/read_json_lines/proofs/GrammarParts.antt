@@ -9,7 +9,7 @@ use Rattle.mlr_spec.specs.JsonGrammar.{Syntax, object, Members, tokens_in, eleme
 use Rattle.mlr_json.specs.declared.frame.Phase.TheVariants as phase
 use Rattle.mlr_json.proofs.GrammarRuns.{run, run_on, run-whole}
 use Rattle.mlr_json.proofs.GrammarOutcome.{run-append, begins-run}
-use Rattle.read_json_lines.specs.Grammar.{Part, one, list, objects, part_tokens, part_maps, stream_tokens, stream_maps, comma_behind}
+use Rattle.read_json_lines.specs.Grammar.{Part, one, list, objects, part_tokens, part_maps, stream_tokens, stream_maps, comma_after}
 use Rattle.read_json_lines.proofs.GrammarFlows.{part_value, part-value}
 
 pub join-right : (a b c d : List Token) → ((a ++ b) ++ c) ++ d ≡ a ++ (b ++ (c ++ d))
@@ -29,7 +29,7 @@ maps-push parts p = flat_map-append part_maps parts (p ∷ []) ∙ ap (λ t. str
 abbrev pub each_map : List Members → List Token
 each_map maps = flat_map (λ m. tokens_in (object m) ++ sign Comma ∷ []) maps
 
-pub each-comma : (maps : List Members) → element_tokens (objects maps) ++ comma_behind maps ≡ each_map maps
+pub each-comma : (maps : List Members) → element_tokens (objects maps) ++ comma_after maps ≡ each_map maps
 each-comma [] = refl
 each-comma (m ∷ []) = swap (tokens_in (object m)) (sign Comma ∷ [])
   where
@@ -42,11 +42,11 @@ each-comma (m ∷ k ∷ maps) =
     regroup : (a b c d : List Token) → (a ++ (b ++ c)) ++ d ≡ (a ++ b) ++ (c ++ d)
     regroup a b c d = simp append_assoc
 
-pub comma-push : (maps : List Members) (m : Members) → comma_behind (maps ++ m ∷ []) ≡ sign Comma ∷ []
+pub comma-push : (maps : List Members) (m : Members) → comma_after (maps ++ m ∷ []) ≡ sign Comma ∷ []
 comma-push [] m = refl
 comma-push (k ∷ maps) m = refl
 
-pub list-push : (maps : List Members) (m : Members) → element_tokens (objects (maps ++ m ∷ [])) ≡ (element_tokens (objects maps) ++ comma_behind maps) ++ tokens_in (object m)
+pub list-push : (maps : List Members) (m : Members) → element_tokens (objects (maps ++ m ∷ [])) ≡ (element_tokens (objects maps) ++ comma_after maps) ++ tokens_in (object m)
 list-push [] m = append-nil (tokens_in (object m))
 list-push (k ∷ []) m = swap (tokens_in (object k)) (sign Comma ∷ []) (tokens_in (object m))
   where
@@ -62,13 +62,13 @@ list-push (k ∷ l ∷ maps) m =
 -- ---- a whole value at the front of tokens is the only one there
 
 -- of two fronts one is a front of the other
-fronts : {A : Type 0} (a b x y : List A) → a ++ x ≡ b ++ y → ((z : List A) × (b ≡ a ++ z) × (x ≡ z ++ y)) ⊎ ((z : List A) × (a ≡ b ++ z) × (y ≡ z ++ x))
-fronts [] b x y e = inl (b, refl, e)
-fronts (u ∷ a) [] x y e = inr (u ∷ a, refl, sym e)
-fronts (u ∷ a) (v ∷ b) x y e =
+prefixes : {A : Type 0} (a b x y : List A) → a ++ x ≡ b ++ y → ((z : List A) × (b ≡ a ++ z) × (x ≡ z ++ y)) ⊎ ((z : List A) × (a ≡ b ++ z) × (y ≡ z ++ x))
+prefixes [] b x y e = inl (b, refl, e)
+prefixes (u ∷ a) [] x y e = inr (u ∷ a, refl, sym e)
+prefixes (u ∷ a) (v ∷ b) x y e =
     let same : u ≡ v = cc in
     let tails : a ++ x ≡ b ++ y = cc in
-    elim (fronts a b x y tails) [
+    elim (prefixes a b x y tails) [
       | inl h ↦ inl (h.0, ap₂ (λ p q. p ∷ q) (sym same) h.1, h.2)
       | inr h ↦ inr (h.0, ap₂ (λ p q. p ∷ q) same h.1, h.2)
     ]
@@ -80,18 +80,18 @@ nothing-more a b (u ∷ z) e =
     (ap (run [] phase.Value) e ∙ run-append [] phase.Value (tokens_in a) (u ∷ z) ∙ ap (λ s. run_on s (u ∷ z)) (run-whole a)))
 
 pub one-value : (a b : Syntax) (x y : List Token) → tokens_in a ++ x ≡ tokens_in b ++ y → x ≡ y
-one-value a b x y e = elim (fronts (tokens_in a) (tokens_in b) x y e) [
+one-value a b x y e = elim (prefixes (tokens_in a) (tokens_in b) x y e) [
   | inl h ↦ h.2 ∙ ap (λ z. z ++ y) (nothing-more a b h.0 h.1)
   | inr h ↦ sym (h.2 ∙ ap (λ z. z ++ x) (nothing-more b a h.0 h.1))
 ]
 
 -- what is behind whole parts, in a stream of parts, is parts
-pub parts-behind : (parts all : List Part) (rest : List Token) → stream_tokens parts ++ rest ≡ stream_tokens all → (more : List Part) × (rest ≡ stream_tokens more)
-parts-behind [] all rest e = (all, e)
-parts-behind (one m ∷ parts) [] rest e = absurd cc
-parts-behind (list maps ∷ parts) [] rest e = absurd cc
-parts-behind (p ∷ parts) (q ∷ all) rest e =
-    parts-behind parts all rest
+pub parts-following : (parts all : List Part) (rest : List Token) → stream_tokens parts ++ rest ≡ stream_tokens all → (more : List Part) × (rest ≡ stream_tokens more)
+parts-following [] all rest e = (all, e)
+parts-following (one m ∷ parts) [] rest e = absurd cc
+parts-following (list maps ∷ parts) [] rest e = absurd cc
+parts-following (p ∷ parts) (q ∷ all) rest e =
+    parts-following parts all rest
     (one-value (part_value p) (part_value q) (stream_tokens parts ++ rest) (stream_tokens all)
     (ap (λ t. t ++ (stream_tokens parts ++ rest)) (sym (part-value p)) ∙ sym (append_assoc (part_tokens p) (stream_tokens parts) rest) ∙ e
     ∙ ap (λ t. t ++ stream_tokens all) (part-value q)))
@@ -100,18 +100,18 @@ parts-behind (p ∷ parts) (q ∷ all) rest e =
 abbrev pub MayCome : Token → Type 0
 MayCome t = (t ≡ sign BeginMap) ⊎ (t ≡ sign EndArray)
 
-pub list-behind : (maps all : List Members) (t : Token) (more rest : List Token) → each_map maps ++ t ∷ more ≡ element_tokens (objects all) ++ sign EndArray ∷ rest → MayCome t
-list-behind [] [] t more rest e = inr cc
-list-behind [] (n ∷ all) t more rest e = inl cc
-list-behind (m ∷ maps) [] t more rest e = absurd cc
-list-behind (m ∷ maps) (n ∷ []) t more rest e =
+pub list-following : (maps all : List Members) (t : Token) (more rest : List Token) → each_map maps ++ t ∷ more ≡ element_tokens (objects all) ++ sign EndArray ∷ rest → MayCome t
+list-following [] [] t more rest e = inr cc
+list-following [] (n ∷ all) t more rest e = inl cc
+list-following (m ∷ maps) [] t more rest e = absurd cc
+list-following (m ∷ maps) (n ∷ []) t more rest e =
     let left : sign Comma ∷ (each_map maps ++ t ∷ more) ≡ sign EndArray ∷ rest =
     one-value (object m) (object n) (sign Comma ∷ (each_map maps ++ t ∷ more)) (sign EndArray ∷ rest)
     (sym (join-right (tokens_in (object m)) (sign Comma ∷ []) (each_map maps) (t ∷ more)) ∙ e ∙ ap (λ x. x ++ sign EndArray ∷ rest) (append-nil (tokens_in (object n)))) in
     absurd cc
-list-behind (m ∷ maps) (n ∷ k ∷ all) t more rest e =
+list-following (m ∷ maps) (n ∷ k ∷ all) t more rest e =
     let left : sign Comma ∷ (each_map maps ++ t ∷ more) ≡ sign Comma ∷ (element_tokens (objects (k ∷ all)) ++ sign EndArray ∷ rest) =
     one-value (object m) (object n) (sign Comma ∷ (each_map maps ++ t ∷ more)) (sign Comma ∷ (element_tokens (objects (k ∷ all)) ++ sign EndArray ∷ rest))
     (sym (join-right (tokens_in (object m)) (sign Comma ∷ []) (each_map maps) (t ∷ more)) ∙ e
     ∙ append_assoc (tokens_in (object n)) (sign Comma ∷ element_tokens (objects (k ∷ all))) (sign EndArray ∷ rest)) in
-    list-behind maps (k ∷ all) t more rest cc
+    list-following maps (k ∷ all) t more rest cc

@@ -13,20 +13,20 @@ use Rattle.mlr_json.specs.Machine.{Step, on, whole, wrong, step}
 use Rattle.mlr_json.proofs.GrammarRuns.{run, run_on, run-cons, run-whole}
 use Rattle.mlr_json.proofs.GrammarOutcome.{run-append}
 use Rattle.read_json_lines.specs.declared.listing.Listing.{Listing}
-use Rattle.read_json_lines.specs.declared.listing.Listing.TheVariants.{Outside, First, Behind, Next}
-use Rattle.read_json_lines.specs.Records.{State, goes, turn, is_behind, behind_record}
-use Rattle.read_json_lines.specs.Grammar.{Part, one, list, objects, part_tokens, part_maps, stream_tokens, stream_maps, AreShallow, Open, nothing, in_map, in_list, map_in_list, comma_behind, open_tokens, open_maps, begun_tokens, IsBegun, HasBegun, IsFront}
-use Rattle.read_json_lines.proofs.GrammarStands.{between}
+use Rattle.read_json_lines.specs.declared.listing.Listing.TheVariants.{Outside, First, After, Next}
+use Rattle.read_json_lines.specs.Records.{State, goes, turn, is_after, after_record}
+use Rattle.read_json_lines.specs.Grammar.{Part, one, list, objects, part_tokens, part_maps, stream_tokens, stream_maps, AreShallow, Open, nothing, in_map, in_list, map_in_list, comma_after, open_tokens, open_maps, begun_tokens, IsBegun, HasBegun, IsPrefix}
+use Rattle.read_json_lines.proofs.GrammarPositions.{between}
 use Rattle.read_json_lines.proofs.GrammarBetween.{map-first}
 use Rattle.read_json_lines.proofs.GrammarAlong.{Goes, goes-one, goes-append, inner, Along, along}
 
-all-front : {X : Type 0} (P : X → Type 0) (xs ys : List X) → All P (xs ++ ys) → All P xs
-all-front P [] ys h = All-nil P
-all-front P (x ∷ xs) ys h = All-cons P x xs (All-head P x (xs ++ ys) h) (all-front P xs ys (All-tail P x (xs ++ ys) h))
+all-prefix : {X : Type 0} (P : X → Type 0) (xs ys : List X) → All P (xs ++ ys) → All P xs
+all-prefix P [] ys h = All-nil P
+all-prefix P (x ∷ xs) ys h = All-cons P x xs (All-head P x (xs ++ ys) h) (all-prefix P xs ys (All-tail P x (xs ++ ys) h))
 
-all-behind : {X : Type 0} (P : X → Type 0) (xs ys : List X) → All P (xs ++ ys) → All P ys
-all-behind P [] ys h = h
-all-behind P (x ∷ xs) ys h = all-behind P xs ys (All-tail P x (xs ++ ys) h)
+all-following : {X : Type 0} (P : X → Type 0) (xs ys : List X) → All P (xs ++ ys) → All P ys
+all-following P [] ys h = h
+all-following P (x ∷ xs) ys h = all-following P xs ys (All-tail P x (xs ++ ys) h)
 
 abbrev Low : Members → Type 0
 Low m = IsShallow (tokens_in (object m))
@@ -41,7 +41,7 @@ run-first tokens = run-cons [] phase.Value (sign BeginMap) tokens
 
 -- ---- a map
 
-module _ (listing : Listing) (may : is_behind listing ≡ false) where
+module _ (listing : Listing) (may : is_after listing ≡ false) where
   turn-first : turn (between listing) (sign BeginMap) ≡ goes (inner listing first_frames phase.FirstKey)
   unfolding step
   turn-first = rw may refl
@@ -49,9 +49,9 @@ module _ (listing : Listing) (may : is_behind listing ≡ false) where
   goes-first : Goes (between listing) (sign BeginMap ∷ []) [] (inner listing first_frames phase.FirstKey)
   goes-first = goes-one (between listing) (inner listing first_frames phase.FirstKey) (sign BeginMap) turn-first
 
-  goes-map : (m : Members) → Low m → Goes (between listing) (tokens_in (object m)) (m ∷ []) (between (behind_record listing))
+  goes-map : (m : Members) → Low m → Goes (between listing) (tokens_in (object m)) (m ∷ []) (between (after_record listing))
   goes-map m low =
-      goes-append (sign BeginMap ∷ []) (member_tokens m ++ sign EndMap ∷ []) (between listing) (inner listing first_frames phase.FirstKey) (between (behind_record listing)) [] (m ∷ []) goes-first
+      goes-append (sign BeginMap ∷ []) (member_tokens m ++ sign EndMap ∷ []) (between listing) (inner listing first_frames phase.FirstKey) (between (after_record listing)) [] (m ∷ []) goes-first
       (subst (Along listing ((0, sign BeginMap) ∷ []) first_frames phase.FirstKey (member_tokens m ++ sign EndMap ∷ []))
       (sym (run-first (member_tokens m ++ sign EndMap ∷ [])) ∙ run-whole (object m))
       (along listing (member_tokens m ++ sign EndMap ∷ []) ((0, sign BeginMap) ∷ []) (Map [] []) [] phase.FirstKey map-first low) m refl)
@@ -88,20 +88,20 @@ module _ (listing : Listing) (may : is_behind listing ≡ false) where
 
 abbrev list_at : List Members → Listing
 list_at [] = First
-list_at (m ∷ maps) = Behind
+list_at (m ∷ maps) = After
 
-goes-later : (maps : List Members) → AreShallow maps → Goes (between Behind) (later_elements (objects maps)) maps (between Behind)
+goes-later : (maps : List Members) → AreShallow maps → Goes (between After) (later_elements (objects maps)) maps (between After)
 goes-later [] low = (refl, refl)
 goes-later (m ∷ maps) low =
-    goes-append (sign Comma ∷ []) (tokens_in (object m) ++ later_elements (objects maps)) (between Behind) (between Next) (between Behind) [] (m ∷ maps)
-    (goes-one (between Behind) (between Next) (sign Comma) refl)
-    (goes-append (tokens_in (object m)) (later_elements (objects maps)) (between Next) (between Behind) (between Behind) (m ∷ []) maps
+    goes-append (sign Comma ∷ []) (tokens_in (object m) ++ later_elements (objects maps)) (between After) (between Next) (between After) [] (m ∷ maps)
+    (goes-one (between After) (between Next) (sign Comma) refl)
+    (goes-append (tokens_in (object m)) (later_elements (objects maps)) (between Next) (between After) (between After) (m ∷ []) maps
     (goes-map Next refl m (All-head Low m maps low)) (goes-later maps (All-tail Low m maps low)))
 
 goes-elements : (maps : List Members) → AreShallow maps → Goes (between First) (element_tokens (objects maps)) maps (between (list_at maps))
 goes-elements [] low = (refl, refl)
 goes-elements (m ∷ maps) low =
-    goes-append (tokens_in (object m)) (later_elements (objects maps)) (between First) (between Behind) (between Behind) (m ∷ []) maps
+    goes-append (tokens_in (object m)) (later_elements (objects maps)) (between First) (between After) (between After) (m ∷ []) maps
     (goes-map First refl m (All-head Low m maps low)) (goes-later maps (All-tail Low m maps low))
 
 goes-list : (maps : List Members) → AreShallow maps → Goes (between Outside) (sign BeginArray ∷ element_tokens (objects maps)) maps (between (list_at maps))
@@ -126,49 +126,49 @@ goes-stream : (parts : List Part) → AreShallow (stream_maps parts) → Goes (b
 goes-stream [] low = (refl, refl)
 goes-stream (p ∷ parts) low =
     goes-append (part_tokens p) (stream_tokens parts) (between Outside) (between Outside) (between Outside) (part_maps p) (stream_maps parts)
-    (goes-part p (all-front Low (part_maps p) (stream_maps parts) low)) (goes-stream parts (all-behind Low (part_maps p) (stream_maps parts) low))
+    (goes-part p (all-prefix Low (part_maps p) (stream_maps parts) low)) (goes-stream parts (all-following Low (part_maps p) (stream_maps parts) low))
 
 -- ---- what is open behind it
 
 -- it goes along them, and so many brackets of a map are open then
 abbrev pub GoesOpen : List Token → List Members → Open → Type 0
-GoesOpen tokens maps behind =
-    (s : State) × Goes (between Outside) tokens maps s × (count_by is_opening (begun_tokens behind) ≡ count_by is_closing (begun_tokens behind) + length s.frames)
+GoesOpen tokens maps following =
+    (s : State) × Goes (between Outside) tokens maps s × (count_by is_opening (begun_tokens following) ≡ count_by is_closing (begun_tokens following) + length s.frames)
 
 abbrev comma_at : List Members → Listing
 comma_at [] = First
 comma_at (m ∷ maps) = Next
 
-goes-comma : (maps : List Members) → Goes (between (list_at maps)) (comma_behind maps) [] (between (comma_at maps))
+goes-comma : (maps : List Members) → Goes (between (list_at maps)) (comma_after maps) [] (between (comma_at maps))
 goes-comma [] = (refl, refl)
-goes-comma (m ∷ maps) = goes-one (between Behind) (between Next) (sign Comma) refl
+goes-comma (m ∷ maps) = goes-one (between After) (between Next) (sign Comma) refl
 
-may-come : (maps : List Members) → is_behind (comma_at maps) ≡ false
+may-come : (maps : List Members) → is_after (comma_at maps) ≡ false
 may-come [] = refl
 may-come (m ∷ maps) = refl
 
-goes-open : (behind : Open) → HasBegun behind → AreShallow (open_maps behind) → GoesOpen (open_tokens behind) (open_maps behind) behind
+goes-open : (following : Open) → HasBegun following → AreShallow (open_maps following) → GoesOpen (open_tokens following) (open_maps following) following
 goes-open nothing h low = (between Outside, (refl, refl), refl)
 goes-open (in_map begun) h low = goes-begun Outside refl begun h
 goes-open (in_list maps) h low = (between (list_at maps), goes-list maps low, refl)
 goes-open (map_in_list maps begun) h low =
     let b = goes-begun (comma_at maps) (may-come maps) begun h in
-    let comma : Goes (between Outside) (sign BeginArray ∷ element_tokens (objects maps) ++ comma_behind maps) (maps ++ []) (between (comma_at maps)) =
-    goes-append (sign BeginArray ∷ element_tokens (objects maps)) (comma_behind maps) (between Outside) (between (list_at maps)) (between (comma_at maps)) maps [] (goes-list maps low) (goes-comma maps) in (
+    let comma : Goes (between Outside) (sign BeginArray ∷ element_tokens (objects maps) ++ comma_after maps) (maps ++ []) (between (comma_at maps)) =
+    goes-append (sign BeginArray ∷ element_tokens (objects maps)) (comma_after maps) (between Outside) (between (list_at maps)) (between (comma_at maps)) maps [] (goes-list maps low) (goes-comma maps) in (
       b.0,
       subst (λ k. Goes (between Outside) (open_tokens (map_in_list maps begun)) k b.0) (append-nil (maps ++ []) ∙ append-nil maps)
-          (goes-append (sign BeginArray ∷ element_tokens (objects maps) ++ comma_behind maps) begun (between Outside) (between (comma_at maps)) b.0 (maps ++ []) [] comma b.1),
+          (goes-append (sign BeginArray ∷ element_tokens (objects maps) ++ comma_after maps) begun (between Outside) (between (comma_at maps)) b.0 (maps ++ []) [] comma b.1),
       b.2,
     )
 
-pub goes-front : (tokens : List Token) (maps : List Members) (behind : Open) → IsFront tokens maps behind → GoesOpen tokens maps behind
-goes-front tokens maps behind h =
-    let low : AreShallow (stream_maps h.parts ++ open_maps behind) = subst AreShallow h.maps_are h.shallow in
-    let b = goes-open behind h.begun (all-behind Low (stream_maps h.parts) (open_maps behind) low) in (
+pub goes-prefix : (tokens : List Token) (maps : List Members) (following : Open) → IsPrefix tokens maps following → GoesOpen tokens maps following
+goes-prefix tokens maps following h =
+    let low : AreShallow (stream_maps h.parts ++ open_maps following) = subst AreShallow h.maps_are h.shallow in
+    let b = goes-open following h.begun (all-following Low (stream_maps h.parts) (open_maps following) low) in (
       b.0,
       subst (λ x. Goes (between Outside) x maps b.0) (sym h.tokens_are)
-          (subst (λ k. Goes (between Outside) (stream_tokens h.parts ++ open_tokens behind) k b.0) (sym h.maps_are)
-          (goes-append (stream_tokens h.parts) (open_tokens behind) (between Outside) (between Outside) b.0 (stream_maps h.parts) (open_maps behind)
-          (goes-stream h.parts (all-front Low (stream_maps h.parts) (open_maps behind) low)) b.1)),
+          (subst (λ k. Goes (between Outside) (stream_tokens h.parts ++ open_tokens following) k b.0) (sym h.maps_are)
+          (goes-append (stream_tokens h.parts) (open_tokens following) (between Outside) (between Outside) b.0 (stream_maps h.parts) (open_maps following)
+          (goes-stream h.parts (all-prefix Low (stream_maps h.parts) (open_maps following) low)) b.1)),
       b.2,
     )

@@ -14,7 +14,7 @@ use Rattle.read_json_lines.specs.Records.{start_state, fault_of}
 use Rattle.read_json_lines.specs.Files.{known, items_in, tokens_known, is_mark_begun, mark_part, file_items}
 use Rattle.read_json_lines.specs.Turns.{state_of}
 use Rattle.read_json_lines.specs.Streams.{outside, future, Starts}
-use Rattle.read_json_lines.proofs.Taking.{all-behind}
+use Rattle.read_json_lines.proofs.Taking.{all-following}
 use Rattle.read_json_lines.proofs.Turning.{future-outside}
 
 -- a stream before its first byte gives what the bytes from there on give
@@ -23,9 +23,9 @@ pub starts-future : (s : Stream) (infer : InferOpts) (file : FileRef) (start : C
 starts-future s infer file start place starts whole text =
     let end = s.place + length text in
     future-outside s whole text (ap is_some starts.text_is) starts.begun_is
-    ∙ all-behind s (outside whole s.infer end text) starts.goes_on
-    ∙ ap (λ i. items_in s.file (state_of s.stand) (outside whole i end text)) starts.infer_is
-    ∙ ap (λ f. items_in f (state_of s.stand) (outside whole infer end text)) starts.file_is
+    ∙ all-following s (outside whole s.infer end text) starts.goes_on
+    ∙ ap (λ i. items_in s.file (state_of s.record_state) (outside whole i end text)) starts.infer_is
+    ∙ ap (λ f. items_in f (state_of s.record_state) (outside whole infer end text)) starts.file_is
     ∙ ap (λ x. items_in file x (outside whole infer end text)) starts.state_is
     ∙ ap (λ p. items_in file start_state (outside whole infer (p + length text) text)) starts.place_is
 

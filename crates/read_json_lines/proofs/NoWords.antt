@@ -4,7 +4,7 @@ use Rattle.std.proofs.lemmas.Bool.{true≢false, cases_Bool, cases_lt}
 use Rattle.std.proofs.lemmas.List.{length-drop}
 use Rattle.mlr_spec.specs.declared.infer.InferOpts.{InferOpts}
 use Rattle.mlr_spec.specs.Tree.{Tree}
-use Rattle.mlr_spec.specs.JsonTokens.{Token, word, found, front_outside, word_token, word_value, token_of_word}
+use Rattle.mlr_spec.specs.JsonTokens.{Token, word, found, lexeme_outside, word_token, word_value, token_of_word}
 use Rattle.mlr_json.specs.declared.frame.Frame.{Frame}
 use Rattle.mlr_json.specs.declared.frame.Phase.{Phase}
 use Rattle.mlr_json.specs.Machine.{step, takes_value, with_value, wrong}
@@ -15,7 +15,7 @@ use Rattle.mlr_event.specs.Reading.{Item, fields}
 use Rattle.read_json_lines.specs.declared.listing.Listing.{Listing}
 use Rattle.read_json_lines.specs.declared.listing.Trouble.TheVariants.{Syntax, Kind}
 use Rattle.read_json_lines.specs.Records as records
-use Rattle.read_json_lines.specs.Records.{State, goes, gives, fails, turn, turn_between, value_turn, is_behind, takes_word, fault_of, items_of}
+use Rattle.read_json_lines.specs.Records.{State, goes, gives, fails, turn, turn_between, value_turn, is_after, takes_word, fault_of, items_of}
 use Rattle.read_json_lines.specs.Files.{Known, items_in}
 use Rattle.read_json_lines.specs.Streams.{or_stop, outside}
 use Rattle.read_json_lines.proofs.Outside.{outside-word, outside-last, outside-open}
@@ -24,21 +24,21 @@ no-step : (list : Listing) (frames : List Frame) (at : Phase) (value : Tree) →
 unfolding step
 no-step list frames at value none = ap (λ b. value_turn list (cond b (with_value value frames) wrong)) none
 
-behind-only : (b : Bool) → not b ≡ false → fails (cond b Syntax Kind) ≡ fails Syntax
-behind-only true none = refl
-behind-only false none = absurd (true≢false none)
+following-only : (b : Bool) → not b ≡ false → fails (cond b Syntax Kind) ≡ fails Syntax
+following-only true none = refl
+following-only false none = absurd (true≢false none)
 
 word-fails : (s : State) (value : Tree) → takes_word s ≡ false → turn s (word_token value) ≡ fails Syntax
 word-fails s value none = elim (cases_Bool (is_within s.frames)) [
   | inl within ↦ ap turned within ∙ no-step s.list s.frames s.phase value (sym (ap takes within) ∙ none)
-  | inr between ↦ ap turned between ∙ behind-only (is_behind s.list) (sym (ap takes between) ∙ none)
+  | inr between ↦ ap turned between ∙ following-only (is_after s.list) (sym (ap takes between) ∙ none)
 ]
   where
     turned : Bool → records.Turn
     turned within = cond within (value_turn s.list (step s.frames s.phase (word_token value))) (turn_between s (word_token value))
 
     takes : Bool → Bool
-    takes within = cond within (takes_value s.phase) (not (is_behind s.list))
+    takes within = cond within (takes_value s.phase) (not (is_after s.list))
 
 module _ (file : FileRef) (s : State) (none : takes_word s ≡ false) where
   abbrev fault_at : ℕ → List Item
@@ -58,7 +58,7 @@ module _ (file : FileRef) (s : State) (none : takes_word s ≡ false) where
       by None = refl
       by (Some v) = ap by_turn (word-fails s v none)
 
-  pub no-word : (whole : Bool) (infer : InferOpts) (end : ℕ) (text w : List ℕ) (len : ℕ) → length text ≤ end → front_outside text ≡ found (word w) len
+  pub no-word : (whole : Bool) (infer : InferOpts) (end : ℕ) (text w : List ℕ) (len : ℕ) → length text ≤ end → lexeme_outside text ≡ found (word w) len
       → items_in file s (outside whole infer end text) ≡ fault_at (end - length text)
   no-word true infer end text w len fits is = ap (items_in file s) (outside-last true infer end text fits w len is) ∙ stopped-or-not (end - length text) infer w (outside true infer end (drop len text))
   no-word false infer end text w len fits is = elim (cases_lt len (length text)) [

@@ -7,7 +7,7 @@ use Rattle.std.proofs.lemmas.List.{append-nil, length-append, drop-append-le, dr
 use Rattle.std.proofs.lemmas.List.Sums.{prefix_len-le-length}
 use Rattle.mlr_spec.specs.Infer.{number}
 use Rattle.mlr_spec.specs.declared.infer.InferOpts.{InferOpts}
-use Rattle.mlr_spec.specs.JsonTokens.{Piece, raw, unit, Lexeme, piece, quote, Front, found, begun, bad, is_raw, is_hex, escape_of, front_unit, front_inside, front_escape, decoded, lone_unit, text_token}
+use Rattle.mlr_spec.specs.JsonTokens.{Piece, raw, unit, Lexeme, piece, quote, Scanned, found, begun, bad, is_raw, is_hex, escape_of, lexeme_of_unit, lexeme_inside, lexeme_of_escape, decoded, lone_unit, text_token}
 use Rattle.mlr_json.specs.Decoding.{pending}
 use Rattle.mlr_json.proofs.Stable.{stays-found, escape-stays, run-stays}
 use Rattle.read_json_lines.specs.Files.{Known}
@@ -27,23 +27,23 @@ text-joined : (o : Option OpenText) (a b : List ℕ) (more : List Piece) (rest :
 text-joined None a b more rest = refl
 text-joined (Some t) a b more rest = ap (λ x. and_token t.place (text_token (t.builder.text ++ x)) rest) (joined t.builder.high a b more)
 
-raw-front : (b : ℕ) (t : List ℕ) → (b == 34) ≡ false → (b == 92) ≡ false → front_inside (b ∷ t) ≡ found (piece (raw (take_while is_raw (b ∷ t)))) (prefix_len is_raw (b ∷ t))
-unfolding front_inside
-raw-front b t n1 n2 =
-    let last : Front = found (piece (raw (take_while is_raw (b ∷ t)))) (prefix_len is_raw (b ∷ t)) in
-    ap (λ v. cond v (found quote 1) (cond (b == 92) (front_escape t) last)) n1 ∙ ap (λ v. cond v (front_escape t) last) n2
+raw-prefix : (b : ℕ) (t : List ℕ) → (b == 34) ≡ false → (b == 92) ≡ false → lexeme_inside (b ∷ t) ≡ found (piece (raw (take_while is_raw (b ∷ t)))) (prefix_len is_raw (b ∷ t))
+unfolding lexeme_inside
+raw-prefix b t n1 n2 =
+    let last : Scanned = found (piece (raw (take_while is_raw (b ∷ t)))) (prefix_len is_raw (b ∷ t)) in
+    ap (λ v. cond v (found quote 1) (cond (b == 92) (lexeme_of_escape t) last)) n1 ∙ ap (λ v. cond v (lexeme_of_escape t) last) n2
 
-at-escape : (b : ℕ) (t : List ℕ) → (b == 34) ≡ false → (b == 92) ≡ true → front_inside (b ∷ t) ≡ front_escape t
-unfolding front_inside
+at-escape : (b : ℕ) (t : List ℕ) → (b == 34) ≡ false → (b == 92) ≡ true → lexeme_inside (b ∷ t) ≡ lexeme_of_escape t
+unfolding lexeme_inside
 at-escape b t n1 y =
-    let last : Front = found (piece (raw (take_while is_raw (b ∷ t)))) (prefix_len is_raw (b ∷ t)) in
-    ap (λ v. cond v (found quote 1) (cond (b == 92) (front_escape t) last)) n1 ∙ ap (λ v. cond v (front_escape t) last) y
+    let last : Scanned = found (piece (raw (take_while is_raw (b ∷ t)))) (prefix_len is_raw (b ∷ t)) in
+    ap (λ v. cond v (found quote 1) (cond (b == 92) (lexeme_of_escape t) last)) n1 ∙ ap (λ v. cond v (lexeme_of_escape t) last) y
 
-at-quote : (b : ℕ) (t : List ℕ) → (b == 34) ≡ true → front_inside (b ∷ t) ≡ found quote 1
-unfolding front_inside
+at-quote : (b : ℕ) (t : List ℕ) → (b == 34) ≡ true → lexeme_inside (b ∷ t) ≡ found quote 1
+unfolding lexeme_inside
 at-quote b t y =
-    let last : Front = found (piece (raw (take_while is_raw (b ∷ t)))) (prefix_len is_raw (b ∷ t)) in
-    ap (λ v. cond v (found quote 1) (cond (b == 92) (front_escape t) last)) y
+    let last : Scanned = found (piece (raw (take_while is_raw (b ∷ t)))) (prefix_len is_raw (b ∷ t)) in
+    ap (λ v. cond v (found quote 1) (cond (b == 92) (lexeme_of_escape t) last)) y
 
 raw-byte : (b : ℕ) → is_raw b ≡ true → ((b == 34) ≡ false) × ((b == 92) ≡ false)
 raw-byte b is = elim (cases_Bool (b == 34)) [
@@ -61,7 +61,7 @@ module _ (whole : Bool) (infer : InferOpts) (end : ℕ) (o : Option OpenText) wh
   abbrev string_with : Piece → List ℕ → Known
   string_with p text = text_tokens o (p ∷ pieces whole end text) (inside whole infer end text)
 
-  piece-found : (text : List ℕ) (p : Piece) (len : ℕ) → length text ≤ end → front_inside text ≡ found (piece p) len → string_of text ≡ string_with p (drop len text)
+  piece-found : (text : List ℕ) (p : Piece) (len : ℕ) → length text ≤ end → lexeme_inside text ≡ found (piece p) len → string_of text ≡ string_with p (drop len text)
   piece-found text p len fits is =
       let found_is = inside-piece whole infer end text fits p len is in
       ap₂ (λ q t. text_tokens o q t) found_is.0 found_is.1
@@ -75,7 +75,7 @@ module _ (whole : Bool) (infer : InferOpts) (end : ℕ) (o : Option OpenText) wh
       elim (cases_Bool (is_raw c)) [
         | inl y ↦
             let plain = raw-byte c y in
-            let run = raw-front c bytes plain.0 plain.1 ∙ ap (λ n. found (piece (raw (take n (c ∷ bytes)))) n) is in
+            let run = raw-prefix c bytes plain.0 plain.1 ∙ ap (λ n. found (piece (raw (take n (c ∷ bytes)))) n) is in
             let found_is = inside-piece whole infer end (c ∷ bytes) fits (raw (take (suc k) (c ∷ bytes))) (suc k) run in
             text-joined o a (take (suc k) (c ∷ bytes)) (pieces whole end (drop (suc k) (c ∷ bytes))) (inside whole infer end (drop (suc k) (c ∷ bytes)))
             ∙ sym (ap₂ (λ q t. text_tokens o (raw a ∷ q) t) found_is.0 found_is.1)
@@ -83,7 +83,7 @@ module _ (whole : Bool) (infer : InferOpts) (end : ℕ) (o : Option OpenText) wh
       ]
 
   -- one that reaches the end of a text
-  at-end : (text bytes : List ℕ) (p : Piece) (len : ℕ) → length (text ++ bytes) ≤ end → len ≤ length text → front_inside text ≡ found (piece p) len → length text ≤ len
+  at-end : (text bytes : List ℕ) (p : Piece) (len : ℕ) → length (text ++ bytes) ≤ end → len ≤ length text → lexeme_inside text ≡ found (piece p) len → length text ≤ len
       → string_of (text ++ bytes) ≡ string_with p (drop len text ++ bytes)
   at-end [] bytes p len fits within is ends = absurd (let e : begun ≡ found (piece p) len = sym nothing-inside ∙ is in cc)
   at-end (b ∷ t) bytes p len fits within is ends =
@@ -96,7 +96,7 @@ module _ (whole : Bool) (infer : InferOpts) (end : ℕ) (o : Option OpenText) wh
           | inr n2 ↦
               let text = b ∷ t in
               let k = prefix_len is_raw bytes in
-              let here : found (piece (raw (take_while is_raw text))) (prefix_len is_raw text) ≡ found (piece p) len = sym (raw-front b t n1 n2) ∙ is in
+              let here : found (piece (raw (take_while is_raw text))) (prefix_len is_raw text) ≡ found (piece p) len = sym (raw-prefix b t n1 n2) ∙ is in
               let len_is : prefix_len is_raw text ≡ len = cc in
               let p_is : raw (take (prefix_len is_raw text) text) ≡ p = cc in
               let all : prefix_len is_raw text ≡ length text = omega (arith, len_is) in
@@ -105,7 +105,7 @@ module _ (whole : Bool) (infer : InferOpts) (end : ℕ) (o : Option OpenText) wh
               let many : prefix_len is_raw (text ++ bytes) ≡ length text + k = whole-then is_raw text bytes all in
               let small : length bytes ≤ end = omega (arith, length-append text bytes) in
               piece-found (text ++ bytes) (raw (text ++ take k bytes)) (length text + k) fits
-              (raw-front b (t ++ bytes) n1 n2 ∙ ap (λ n. found (piece (raw (take n (text ++ bytes)))) n) many
+              (raw-prefix b (t ++ bytes) n1 n2 ∙ ap (λ n. found (piece (raw (take n (text ++ bytes)))) n) many
               ∙ ap (λ x. found (piece (raw x)) (length text + k)) (take-append-add text bytes k))
               ∙ ap (string_with (raw (text ++ take k bytes))) (drop-append-add text bytes k)
               ∙ split-run text bytes small k refl
@@ -114,7 +114,7 @@ module _ (whole : Bool) (infer : InferOpts) (end : ℕ) (o : Option OpenText) wh
       ]
 
   -- the piece at the front of a text, whatever follows
-  pub string-piece : (text bytes : List ℕ) (p : Piece) (len : ℕ) → length (text ++ bytes) ≤ end → len ≤ length text → front_inside text ≡ found (piece p) len
+  pub string-piece : (text bytes : List ℕ) (p : Piece) (len : ℕ) → length (text ++ bytes) ≤ end → len ≤ length text → lexeme_inside text ≡ found (piece p) len
       → string_of (text ++ bytes) ≡ string_with p (drop len text ++ bytes)
   string-piece text bytes p len fits within is =
       elim (cases_lt len (length text)) [
@@ -125,7 +125,7 @@ module _ (whole : Bool) (infer : InferOpts) (end : ℕ) (o : Option OpenText) wh
       ]
 
 -- a byte that can't stand in a string
-unit-bad : (text more : List ℕ) (k : ℕ) → front_unit text ≡ bad k → front_unit (text ++ more) ≡ bad k
+unit-bad : (text more : List ℕ) (k : ℕ) → lexeme_of_unit text ≡ bad k → lexeme_of_unit (text ++ more) ≡ bad k
 unit-bad text more k is =
     let n = prefix_len is_hex text in
     elim (cases_Bool (nat_le 4 n)) [
@@ -136,7 +136,7 @@ unit-bad text more k is =
     ]
   where
     by-end : nat_le 4 (prefix_len is_hex text) ≡ false → ((prefix_len is_hex text == length text) ≡ true) ⊎ ((prefix_len is_hex text == length text) ≡ false)
-        → cond (prefix_len is_hex text == length text) begun (bad (2 + prefix_len is_hex text)) ≡ bad k → front_unit (text ++ more) ≡ bad k
+        → cond (prefix_len is_hex text == length text) begun (bad (2 + prefix_len is_hex text)) ≡ bad k → lexeme_of_unit (text ++ more) ≡ bad k
     by-end few (inl y) here = absurd (let e : begun ≡ bad k = sym (ap (λ v. cond v begun (bad (2 + prefix_len is_hex text))) y) ∙ here in cc)
     by-end few (inr other) here =
         let n = prefix_len is_hex text in
@@ -161,7 +161,7 @@ unit-bad text more k is =
         apart-of (inl y) below = absurd (omega (arith, eqb-true (prefix_len is_hex text) (length (text ++ more)) y, length-append text more))
         apart-of (inr n) below = n
 
-escape-bad : (text more : List ℕ) (k : ℕ) → front_escape text ≡ bad k → front_escape (text ++ more) ≡ bad k
+escape-bad : (text more : List ℕ) (k : ℕ) → lexeme_of_escape text ≡ bad k → lexeme_of_escape (text ++ more) ≡ bad k
 escape-bad [] more k is = absurd (let e : begun ≡ bad k = is in cc)
 escape-bad (c ∷ text) more k is =
     elim (cases_Bool (c == 117)) [
@@ -171,19 +171,19 @@ escape-bad (c ∷ text) more k is =
           rw n here
     ]
 
-pub inside-bad-stays : (text more : List ℕ) (k : ℕ) → front_inside text ≡ bad k → front_inside (text ++ more) ≡ bad k
+pub inside-bad-stays : (text more : List ℕ) (k : ℕ) → lexeme_inside text ≡ bad k → lexeme_inside (text ++ more) ≡ bad k
 inside-bad-stays [] more k is = absurd (let e : begun ≡ bad k = sym nothing-inside ∙ is in cc)
 inside-bad-stays (b ∷ t) more k is =
     elim (cases_Bool (b == 34)) [
       | inl y ↦ absurd (let e : found quote 1 ≡ bad k = sym (at-quote b t y) ∙ is in cc)
       | inr n1 ↦ elim (cases_Bool (b == 92)) [
         | inl y ↦ at-escape b (t ++ more) n1 y ∙ escape-bad t more k (sym (at-escape b t n1 y) ∙ is)
-        | inr n2 ↦ absurd (let e : found (piece (raw (take_while is_raw (b ∷ t)))) (prefix_len is_raw (b ∷ t)) ≡ bad k = sym (raw-front b t n1 n2) ∙ is in cc)
+        | inr n2 ↦ absurd (let e : found (piece (raw (take_while is_raw (b ∷ t)))) (prefix_len is_raw (b ∷ t)) ≡ bad k = sym (raw-prefix b t n1 n2) ∙ is in cc)
       ]
     ]
 
 -- an escape that has begun ends with one byte more, and is a piece
-unit-ends : (d : List ℕ) (b : ℕ) (l : Lexeme) (len : ℕ) → front_unit d ≡ begun → front_unit (d ++ b ∷ []) ≡ found l len → (len ≡ length d + 3) × (is_quote l ≡ false)
+unit-ends : (d : List ℕ) (b : ℕ) (l : Lexeme) (len : ℕ) → lexeme_of_unit d ≡ begun → lexeme_of_unit (d ++ b ∷ []) ≡ found l len → (len ≡ length d + 3) × (is_quote l ≡ false)
 unit-ends d b l len before is =
     let n = prefix_len is_hex d in
     let x = d ++ b ∷ [] in
@@ -212,14 +212,14 @@ unit-ends d b l len before is =
     begun-whole (inr few) (inr apart) = absurd (let e : bad (2 + prefix_len is_hex d) ≡ begun =
         sym (ap (λ v. cond v (found (piece (unit (number 16 (take 4 d)))) 6) (cond (prefix_len is_hex d == length d) begun (bad (2 + prefix_len is_hex d)))) few ∙ ap (λ v. cond v begun (bad (2 + prefix_len is_hex d))) apart) ∙ before in cc)
 
-pub escape-ends : (bytes : List ℕ) (b : ℕ) (l : Lexeme) (len : ℕ) → 0 < length bytes → front_inside bytes ≡ begun → front_inside (bytes ++ b ∷ []) ≡ found l len → (len ≡ length (bytes ++ b ∷ [])) × (is_quote l ≡ false)
+pub escape-ends : (bytes : List ℕ) (b : ℕ) (l : Lexeme) (len : ℕ) → 0 < length bytes → lexeme_inside bytes ≡ begun → lexeme_inside (bytes ++ b ∷ []) ≡ found l len → (len ≡ length (bytes ++ b ∷ [])) × (is_quote l ≡ false)
 escape-ends [] b l len some before is = absurd (omega arith)
 escape-ends (c ∷ t) b l len some before is =
     elim (cases_Bool (c == 34)) [
       | inl y ↦ absurd (let e : found quote 1 ≡ begun = sym (at-quote c t y) ∙ before in cc)
       | inr n1 ↦ elim (cases_Bool (c == 92)) [
         | inl y ↦ by t (sym (at-escape c t n1 y) ∙ before) (sym (at-escape c (t ++ b ∷ []) n1 y) ∙ is)
-        | inr n2 ↦ absurd (let e : found (piece (raw (take_while is_raw (c ∷ t)))) (prefix_len is_raw (c ∷ t)) ≡ begun = sym (raw-front c t n1 n2) ∙ before in cc)
+        | inr n2 ↦ absurd (let e : found (piece (raw (take_while is_raw (c ∷ t)))) (prefix_len is_raw (c ∷ t)) ≡ begun = sym (raw-prefix c t n1 n2) ∙ before in cc)
       ]
     ]
   where
@@ -234,7 +234,7 @@ escape-ends (c ∷ t) b l len some before is =
     never true e h = let f : found (piece (raw (e ∷ []))) 2 ≡ begun = h in cc
     never false e h = let f : bad 1 ≡ begun = h in cc
 
-    by : (t : List ℕ) → front_escape t ≡ begun → front_escape (t ++ b ∷ []) ≡ found l len → (len ≡ length (c ∷ t ++ b ∷ [])) × (is_quote l ≡ false)
+    by : (t : List ℕ) → lexeme_of_escape t ≡ begun → lexeme_of_escape (t ++ b ∷ []) ≡ found l len → (len ≡ length (c ∷ t ++ b ∷ [])) × (is_quote l ≡ false)
     by [] here there =
         elim (cases_Bool (b == 117)) [
           | inl y ↦ absurd (let e : begun ≡ found l len = sym (rw y refl) ∙ there in cc)
@@ -248,6 +248,6 @@ escape-ends (c ∷ t) b l len some before is =
           | inr n ↦ absurd (never (nat_lt 0 (escape_of e)) (escape_of e) (sym (rw n refl) ∙ here))
         ]
 
-pub escape-ended : (bytes text : List ℕ) (l : Lexeme) (len : ℕ) → 0 < length bytes → 0 < length text → front_inside bytes ≡ begun → front_inside (bytes ++ take 1 text) ≡ found l len → (len ≡ length (bytes ++ take 1 text)) × (is_quote l ≡ false)
+pub escape-ended : (bytes text : List ℕ) (l : Lexeme) (len : ℕ) → 0 < length bytes → 0 < length text → lexeme_inside bytes ≡ begun → lexeme_inside (bytes ++ take 1 text) ≡ found l len → (len ≡ length (bytes ++ take 1 text)) × (is_quote l ≡ false)
 escape-ended bytes [] l len some more before is = absurd (omega arith)
 escape-ended bytes (b ∷ t) l len some more before is = escape-ends bytes b l len some before is

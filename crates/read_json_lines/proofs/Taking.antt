@@ -12,14 +12,14 @@ use Rattle.mlr_event.specs.declared.names.FileRef.{FileRef}
 use Rattle.mlr_event.specs.Reading.{Item, fields}
 use Rattle.mlr_event.specs.Reading as reading
 use Rattle.mlr_event.specs.Stream.{has_fault}
-use Rattle.read_json_lines.specs.declared.stand.Turn.{Turn}
-use Rattle.read_json_lines.specs.declared.stand.Turn.TheVariants.{On, Record, Fault}
+use Rattle.read_json_lines.specs.declared.record_state.Turn.{Turn}
+use Rattle.read_json_lines.specs.declared.record_state.Turn.TheVariants.{On, Record, Fault}
 use Rattle.read_json_lines.specs.declared.stream.Stream.{Stream}
 use Rattle.read_json_lines.specs.Records as records
 use Rattle.read_json_lines.specs.Records.{State, Ending, goes, gives, fails, turn, fault_of, items_of}
 use Rattle.read_json_lines.specs.Files.{Known, items_in}
 use Rattle.read_json_lines.specs.Turns.{state_of, IsTurn, RefusesText}
-use Rattle.read_json_lines.specs.Streams.{and_token, Takes, Puts, Counts, HasPut, Opens, rest_items, turn_items, text_tokens, text_behind}
+use Rattle.read_json_lines.specs.Streams.{and_token, Takes, Appends, Counts, HasPut, Opens, rest_items, turn_items, text_tokens, text_after}
 
 module _ (file : FileRef) (next : State) (place : ℕ) (tokens : List (ℕ × Token)) (e : Ending) where
   abbrev by : records.Turn → List Item
@@ -47,47 +47,47 @@ module _ (file : FileRef) (next : State) (place : ℕ) (tokens : List (ℕ × To
 
 -- one token that was taken, and what it gave that was put
 pub takes-token : (old new : Stream) (before after : List Event) (place : ℕ) (token : Token) (made : Turn)
-    → IsTurn (turn (state_of old.stand) token) made (state_of new.stand) → new.file ≡ old.file
-    → Puts old new before after (turn_items old.file made place) → Counts old new
+    → IsTurn (turn (state_of old.record_state) token) made (state_of new.record_state) → new.file ≡ old.file
+    → Appends old new before after (turn_items old.file made place) → Counts old new
     → Takes old new before after (λ rest. and_token place token rest)
-takes-token old new before after place token made is file puts counts = record {
+takes-token old new before after place token made is file appends counts = record {
   more = turn_items old.file made place;
-  puts = puts;
+  appends = appends;
   counts = counts;
   items = λ rest.
-      token-taken old.file (state_of new.stand) place rest.tokens rest.ending (state_of old.stand) token made is
-      ∙ ap₂ (λ stop f. turn_items old.file made place ++ cond stop [] (items_in f (state_of new.stand) rest)) (sym puts.stopped) (sym file);
+      token-taken old.file (state_of new.record_state) place rest.tokens rest.ending (state_of old.record_state) token made is
+      ∙ ap₂ (λ stop f. turn_items old.file made place ++ cond stop [] (items_in f (state_of new.record_state) rest)) (sym appends.stopped) (sym file);
 }
 
 -- behind a fault nothing comes
-pub nothing-behind : (s : Stream) (rest : Known) → s.stopped ≡ true → rest_items s rest ≡ []
-nothing-behind s rest is = ap (λ b. cond b [] (items_in s.file (state_of s.stand) rest)) is
+pub nothing-following : (s : Stream) (rest : Known) → s.stopped ≡ true → rest_items s rest ≡ []
+nothing-following s rest is = ap (λ b. cond b [] (items_in s.file (state_of s.record_state) rest)) is
 
-pub all-behind : (s : Stream) (rest : Known) → s.stopped ≡ false → rest_items s rest ≡ items_in s.file (state_of s.stand) rest
-all-behind s rest running = ap (λ b. cond b [] (items_in s.file (state_of s.stand) rest)) running
+pub all-following : (s : Stream) (rest : Known) → s.stopped ≡ false → rest_items s rest ≡ items_in s.file (state_of s.record_state) rest
+all-following s rest running = ap (λ b. cond b [] (items_in s.file (state_of s.record_state) rest)) running
 
 -- a first quote that may not come, and one that may
-pub opens-refused : (old new : Stream) (before after : List Event) (trouble : Trouble) → RefusesText (state_of old.stand) (Some trouble)
+pub opens-refused : (old new : Stream) (before after : List Event) (trouble : Trouble) → RefusesText (state_of old.record_state) (Some trouble)
     → HasPut old new before after (reading.fault (fault_of old.file trouble old.place) ∷ []) → Opens old new before after
 opens-refused old new before after trouble refused put = record {
   more = reading.fault (fault_of old.file trouble old.place) ∷ [];
-  puts = record { events = put.puts.events; at = put.puts.at; stopped = put.puts.stopped };
+  appends = record { events = put.appends.events; at = put.appends.at; stopped = put.appends.stopped };
   counts = record { nr = put.counts.nr; fnr = put.counts.fnr };
   items = λ pieces rest.
-      token-taken old.file (state_of old.stand) old.place rest.tokens rest.ending (state_of old.stand) (text_token (decoded pieces)) (Fault trouble)
-      (subst (λ t. IsTurn t (Fault trouble) (state_of old.stand)) (sym (refused (decoded pieces))) refl)
-      ∙ ap (λ x. reading.fault (fault_of old.file trouble old.place) ∷ x) (sym (nothing-behind new (text_tokens new.text pieces rest) put.puts.stopped));
-  is_open = λ running. absurd (true≢false (sym put.puts.stopped ∙ running));
+      token-taken old.file (state_of old.record_state) old.place rest.tokens rest.ending (state_of old.record_state) (text_token (decoded pieces)) (Fault trouble)
+      (subst (λ t. IsTurn t (Fault trouble) (state_of old.record_state)) (sym (refused (decoded pieces))) refl)
+      ∙ ap (λ x. reading.fault (fault_of old.file trouble old.place) ∷ x) (sym (nothing-following new (text_tokens new.text pieces rest) put.appends.stopped));
+  is_open = λ running. absurd (true≢false (sym put.appends.stopped ∙ running));
 }
 
-pub opens-taken : (old : Stream) (builder : StringBuilder) (before : List Event) → old.stopped ≡ false → Holds builder [] → RefusesText (state_of old.stand) None
+pub opens-taken : (old : Stream) (builder : StringBuilder) (before : List Event) → old.stopped ≡ false → Holds builder [] → RefusesText (state_of old.record_state) None
     → Opens old (record old { text = Some (record { builder = builder; place = old.place }) }) before before
 opens-taken old builder before running holds takes = record {
   more = [];
-  puts = record { events = sym (append-nil before); at = refl; stopped = running };
+  appends = record { events = sym (append-nil before); at = refl; stopped = running };
   counts = record { nr = omega arith; fnr = omega arith };
   items = λ pieces rest.
-      ap (λ t. items_in old.file (state_of old.stand) (and_token old.place (text_token t) rest)) (sym (nothing-held builder holds pieces))
-      ∙ sym (all-behind (record old { text = Some (record { builder = builder; place = old.place }) }) (and_token old.place (text_token (text_behind builder pieces)) rest) running);
+      ap (λ t. items_in old.file (state_of old.record_state) (and_token old.place (text_token t) rest)) (sym (nothing-held builder holds pieces))
+      ∙ sym (all-following (record old { text = Some (record { builder = builder; place = old.place }) }) (and_token old.place (text_token (text_after builder pieces)) rest) running);
   is_open = λ _. takes;
 }

@@ -57,11 +57,11 @@ pub record Known : Type 0 where
 
 -- a word that has no value stops the text, whatever is behind
 abbrev pub unless_stopped : Option ℕ → Ending → Ending
-unless_stopped (Some place) behind = stops place
-unless_stopped None behind = behind
+unless_stopped (Some place) following = stops place
+unless_stopped None following = following
 
 abbrev pub tokens_then : Tokens → Ending → Known
-tokens_then all behind = record { tokens = all.tokens; ending = unless_stopped all.stop behind }
+tokens_then all following = record { tokens = all.tokens; ending = unless_stopped all.stop following }
 
 -- between strings, and from within one
 abbrev pub tokens_known : InferOpts → Settled → Known

@@ -57,15 +57,15 @@ pub data Open : Type 0 where
   in_list : List Members → Open
   map_in_list : List Members → List Token → Open
 
-abbrev pub comma_behind : List Members → List Token
-comma_behind [] = []
-comma_behind (m ∷ maps) = sign Comma ∷ []
+abbrev pub comma_after : List Members → List Token
+comma_after [] = []
+comma_after (m ∷ maps) = sign Comma ∷ []
 
 abbrev pub open_tokens : Open → List Token
 open_tokens nothing = []
 open_tokens (in_map begun) = begun
 open_tokens (in_list maps) = sign BeginArray ∷ element_tokens (objects maps)
-open_tokens (map_in_list maps begun) = sign BeginArray ∷ element_tokens (objects maps) ++ comma_behind maps ++ begun
+open_tokens (map_in_list maps begun) = sign BeginArray ∷ element_tokens (objects maps) ++ comma_after maps ++ begun
 
 -- its maps that are whole
 abbrev pub open_maps : Open → List Members
@@ -96,7 +96,7 @@ HasBegun (in_list maps) = Unit {0}
 HasBegun (map_in_list maps begun) = IsBegun begun
 
 -- tokens with which a stream begins, the maps that are whole in them, and what is open behind
-pub record IsFront (tokens : List Token) (maps : List Members) (opened : Open) : Type 0 where
+pub record IsPrefix (tokens : List Token) (maps : List Members) (opened : Open) : Type 0 where
   pub parts : List Part
   pub tokens_are : tokens ≡ stream_tokens parts ++ open_tokens opened
   pub maps_are : maps ≡ stream_maps parts ++ open_maps opened
@@ -127,12 +127,12 @@ pub record HasFault (file : FileRef) (tokens : List (ℕ × Token)) (items : Lis
   pub before : List (ℕ × Token)
   pub place : ℕ
   pub token : Token
-  pub behind : List (ℕ × Token)
+  pub following : List (ℕ × Token)
   pub maps : List Members
   pub opened : Open
   pub why : Trouble
-  pub parts : tokens ≡ before ++ (place, token) ∷ behind
-  pub front : IsFront (bare before) maps opened
+  pub parts : tokens ≡ before ++ (place, token) ∷ following
+  pub prefix : IsPrefix (bare before) maps opened
   pub why_is : IsTrouble why (bare before) opened token
   pub items_are : items ≡ records maps ++ reading.fault (fault_of file why place) ∷ []
 
@@ -153,7 +153,7 @@ pub record HasNone (file : FileRef) (tokens : List (ℕ × Token)) (ending : End
   pub maps : List Members
   pub opened : Open
   pub last : List Item
-  pub front : IsFront (bare tokens) maps opened
+  pub prefix : IsPrefix (bare tokens) maps opened
   pub last_is : IsLast file (bare tokens) ending last
   pub items_are : items ≡ records maps ++ last
 

@@ -2,5 +2,5 @@ pub mod Records
 pub mod Files
 pub mod Turns
 pub mod Streams
-pub mod Standing
+pub mod Represents
 pub mod Grammar

@@ -14,7 +14,7 @@ use Rattle.mlr_event.specs.declared.fault.Fault.TheVariants as fault
 use Rattle.mlr_event.specs.Reading.{Item, fields}
 use Rattle.mlr_event.specs.Reading as reading
 use Rattle.read_json_lines.specs.declared.listing.Listing.{Listing}
-use Rattle.read_json_lines.specs.declared.listing.Listing.TheVariants.{Outside, First, Behind, Next}
+use Rattle.read_json_lines.specs.declared.listing.Listing.TheVariants.{Outside, First, After, Next}
 use Rattle.read_json_lines.specs.declared.listing.Trouble.{Trouble}
 use Rattle.read_json_lines.specs.declared.listing.Trouble.TheVariants.{Syntax, Deep, Kind}
 
@@ -33,15 +33,15 @@ pub data Turn : Type 0 where
   gives : List (List ℕ × Tree) → State → Turn
   fails : Trouble → Turn
 
-abbrev pub behind_record : Listing → Listing
-behind_record Outside = Outside
-behind_record First = Behind
-behind_record Behind = Behind
-behind_record Next = Behind
+abbrev pub after_record : Listing → Listing
+after_record Outside = Outside
+after_record First = After
+after_record After = After
+after_record Next = After
 
 -- a whole value is a record if it is a map
 abbrev pub record_turn : Listing → Tree → Turn
-record_turn list (mapping pairs) = gives (pairs_in pairs) (record { list = behind_record list; frames = []; phase = phase.Value })
+record_turn list (mapping pairs) = gives (pairs_in pairs) (record { list = after_record list; frames = []; phase = phase.Value })
 record_turn list _ = fails Kind
 
 -- within a record, its value goes on
@@ -51,17 +51,17 @@ value_turn list (whole value) = record_turn list value
 value_turn list wrong = fails Syntax
 
 -- between records: where a value may stand, it must be a map
-abbrev pub is_behind : Listing → Bool
-is_behind Outside = false
-is_behind First = false
-is_behind Behind = true
-is_behind Next = false
+abbrev pub is_after : Listing → Bool
+is_after Outside = false
+is_after First = false
+is_after After = true
+is_after Next = false
 
 abbrev pub other_value : Listing → Trouble
-other_value list = if is_behind list then Syntax else Kind
+other_value list = if is_after list then Syntax else Kind
 
 abbrev pub map_begun : State → Turn
-map_begun s = if is_behind s.list then fails Syntax else value_turn s.list (step s.frames s.phase (sign BeginMap))
+map_begun s = if is_after s.list then fails Syntax else value_turn s.list (step s.frames s.phase (sign BeginMap))
 
 abbrev pub in_list : State → Listing → Turn
 in_list s list = goes (record s { list = list })
@@ -69,17 +69,17 @@ in_list s list = goes (record s { list = list })
 abbrev pub list_begun : State → Listing → Turn
 list_begun s Outside = in_list s First
 list_begun s First = fails Kind
-list_begun s Behind = fails Syntax
+list_begun s After = fails Syntax
 list_begun s Next = fails Kind
 
 abbrev pub list_ended : State → Listing → Turn
 list_ended s Outside = fails Syntax
 list_ended s First = in_list s Outside
-list_ended s Behind = in_list s Outside
+list_ended s After = in_list s Outside
 list_ended s Next = fails Syntax
 
 abbrev pub comma_turn : State → Listing → Turn
-comma_turn s list = if is_behind list then in_list s Next else fails Syntax
+comma_turn s list = if is_after list then in_list s Next else fails Syntax
 
 abbrev pub turn_between : State → Token → Turn
 turn_between s (sign BeginMap) = map_begun s
@@ -101,7 +101,7 @@ fault_of file Kind place = fault.JsonKind file place
 
 -- a word may stand here: within a record where a value may come, and between records where a map might
 abbrev pub takes_word : State → Bool
-takes_word s = if is_within s.frames then takes_value s.phase else not (is_behind s.list)
+takes_word s = if is_within s.frames then takes_value s.phase else not (is_after s.list)
 
 -- what is behind the last token: bytes that aren't known, a word that has begun and may go on, a byte at which the text
 -- stops, or the end of the file
@@ -115,7 +115,7 @@ pub data Ending : Type 0 where
 abbrev pub is_outside : Listing → Bool
 is_outside Outside = true
 is_outside First = false
-is_outside Behind = false
+is_outside After = false
 is_outside Next = false
 
 abbrev pub is_at_rest : State → Bool

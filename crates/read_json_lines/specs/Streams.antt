@@ -4,7 +4,7 @@ use Rattle.mlr_spec.specs.declared.infer.InferOpts.{InferOpts}
 use Rattle.std.specs.Option.{option_map}
 use Rattle.mlr_value.specs.declared.value.Value.{Value}
 use Rattle.mlr_value.specs.Value.{tree_of}
-use Rattle.mlr_spec.specs.JsonTokens.{Piece, Lexeme, piece, quote, word_token, word, found, begun, front_outside, front_inside, pieces_in, Token, text_token, decoded}
+use Rattle.mlr_spec.specs.JsonTokens.{Piece, Lexeme, piece, quote, word_token, word, found, begun, lexeme_outside, lexeme_inside, pieces_in, Token, text_token, decoded}
 use Rattle.mlr_json.specs.declared.string.StringBuilder.{StringBuilder}
 use Rattle.mlr_json.specs.Decoding.{pending}
 use Rattle.mlr_json.specs.Reading.{lexemes_left}
@@ -14,8 +14,8 @@ use Rattle.mlr_event.specs.declared.names.FileRef.{FileRef}
 use Rattle.mlr_event.specs.Reading.{Item, fields, events_of, ctx_after}
 use Rattle.mlr_event.specs.Reading as reading
 use Rattle.mlr_event.specs.Stream.{has_fault}
-use Rattle.read_json_lines.specs.declared.stand.Turn.{Turn}
-use Rattle.read_json_lines.specs.declared.stand.Turn.TheVariants.{On, Record, Fault}
+use Rattle.read_json_lines.specs.declared.record_state.Turn.{Turn}
+use Rattle.read_json_lines.specs.declared.record_state.Turn.TheVariants.{On, Record, Fault}
 use Rattle.read_json_lines.specs.declared.stream.Stream.{Stream}
 use Rattle.read_json_lines.specs.declared.strings.OpenText.{OpenText}
 use Rattle.read_json_lines.specs.Records.{State, start_state, stops, fault_of, takes_word, turn}
@@ -36,8 +36,8 @@ abbrev pub pieces : Bool → ℕ → List ℕ → List Piece
 pieces whole end text = pieces_in (left whole true end text).lexemes
 
 -- the text of a string that is open, with the pieces that follow
-abbrev pub text_behind : StringBuilder → List Piece → List ℕ
-text_behind builder more = builder.text ++ decoded (pending builder.high ++ more)
+abbrev pub text_after : StringBuilder → List Piece → List ℕ
+text_after builder more = builder.text ++ decoded (pending builder.high ++ more)
 
 abbrev pub and_token : ℕ → Token → Known → Known
 and_token place token more = record { tokens = (place, token) ∷ more.tokens; ending = more.ending }
@@ -50,11 +50,11 @@ or_stop place (Some token) more = and_token place token more
 abbrev pub tokens_of : Bool → InferOpts → Option OpenText → ℕ → List ℕ → Known
 tokens_of whole infer None end text = outside whole infer end text
 tokens_of whole infer (Some open_text) end text =
-    and_token open_text.place (text_token (text_behind open_text.builder (pieces whole end text))) (inside whole infer end text)
+    and_token open_text.place (text_token (text_after open_text.builder (pieces whole end text))) (inside whole infer end text)
 
 -- the items of tokens that follow
 abbrev pub rest_items : Stream → Known → List Item
-rest_items s tokens = if s.stopped then [] else items_in s.file (state_of s.stand) tokens
+rest_items s tokens = if s.stopped then [] else items_in s.file (state_of s.record_state) tokens
 
 -- the items of bytes that follow, as a front or as all that is left
 abbrev pub items_at : Stream → Bool → ℕ → List ℕ → List Item
@@ -65,11 +65,11 @@ future s whole rest = items_at s whole (s.place + length (s.begun.items ++ rest)
 
 -- what has begun is a word, or an escape of a string, and may stand there
 abbrev pub FitsText : Option OpenText → State → List ℕ → Type 0
-FitsText None s bytes = (bytes ≡ []) ⊎ ((front_outside bytes ≡ found (word bytes) (length bytes)) × (takes_word s ≡ true))
-FitsText (Some open_text) s bytes = (front_inside bytes ≡ begun) × ((text : List ℕ) → IsOn (turn s (text_token text)))
+FitsText None s bytes = (bytes ≡ []) ⊎ ((lexeme_outside bytes ≡ found (word bytes) (length bytes)) × (takes_word s ≡ true))
+FitsText (Some open_text) s bytes = (lexeme_inside bytes ≡ begun) × ((text : List ℕ) → IsOn (turn s (text_token text)))
 
 abbrev pub IsFit : Stream → Type 0
-IsFit s = s.stopped ≡ false → FitsText s.text (state_of s.stand) s.begun.items
+IsFit s = s.stopped ≡ false → FitsText s.text (state_of s.record_state) s.begun.items
 
 -- how far it has counted
 abbrev pub count_of : Stream → ℕ
@@ -87,7 +87,7 @@ is_fault (Record pairs) = false
 is_fault (Fault trouble) = true
 
 -- the events of these items were put, and the stream stands behind them
-pub record Puts (old new : Stream) (before after : List Event) (more : List Item) : Type 0 where
+pub record Appends (old new : Stream) (before after : List Event) (more : List Item) : Type 0 where
   pub events : after ≡ before ++ events_of old.at more
   pub at : new.at ≡ ctx_after old.at more
   pub stopped : new.stopped ≡ has_fault more
@@ -99,16 +99,16 @@ pub record Counts (old new : Stream) : Type 0 where
 
 -- the items of one turn were put, and nothing else has changed
 pub record HasPut (old new : Stream) (before after : List Event) (more : List Item) : Type 0 where
-  pub puts : Puts old new before after more
+  pub appends : Appends old new before after more
   pub counts : Counts old new
   pub same : new ≡ record old { at = new.at; stopped = new.stopped }
 
 -- tokens were taken: what they give with those that follow is what was put, and what those give then
 pub record Takes (old new : Stream) (before after : List Event) (tokens : Known → Known) : Type 0 where
   pub more : List Item
-  pub puts : Puts old new before after more
+  pub appends : Appends old new before after more
   pub counts : Counts old new
-  pub items : (rest : Known) → items_in old.file (state_of old.stand) (tokens rest) ≡ more ++ rest_items new rest
+  pub items : (rest : Known) → items_in old.file (state_of old.record_state) (tokens rest) ≡ more ++ rest_items new rest
 
 -- the token of a word that has this value, if it has one
 abbrev pub token_of_value : Option Value → Option Token
@@ -117,7 +117,7 @@ token_of_value value = option_map (λ v. word_token (tree_of v)) value
 -- a string that is open, with pieces and tokens that follow
 abbrev pub text_tokens : Option OpenText → List Piece → Known → Known
 text_tokens None more rest = rest
-text_tokens (Some open_text) more rest = and_token open_text.place (text_token (text_behind open_text.builder more)) rest
+text_tokens (Some open_text) more rest = and_token open_text.place (text_token (text_after open_text.builder more)) rest
 
 -- a string may stand here, whatever its text
 abbrev pub IsOpen : Option OpenText → State → Type 0
@@ -127,11 +127,11 @@ IsOpen (Some open_text) s = (text : List ℕ) → IsOn (turn s (text_token text)
 -- the first quote of a string was taken
 pub record Opens (old new : Stream) (before after : List Event) : Type 0 where
   pub more : List Item
-  pub puts : Puts old new before after more
+  pub appends : Appends old new before after more
   pub counts : Counts old new
   pub items : (pieces : List Piece) (rest : Known)
-      → items_in old.file (state_of old.stand) (and_token old.place (text_token (decoded pieces)) rest) ≡ more ++ rest_items new (text_tokens new.text pieces rest)
-  pub is_open : new.stopped ≡ false → IsOpen new.text (state_of new.stand)
+      → items_in old.file (state_of old.record_state) (and_token old.place (text_token (decoded pieces)) rest) ≡ more ++ rest_items new (text_tokens new.text pieces rest)
+  pub is_open : new.stopped ≡ false → IsOpen new.text (state_of new.record_state)
 
 -- a piece was put into the string that is open
 abbrev pub Pushes : Option OpenText → Option OpenText → Lexeme → Type 0
@@ -141,7 +141,7 @@ Pushes old new _ = old ≡ new
 -- a front of a text was taken, and this is left of it
 pub record Turned (old new : Stream) (text rest : List ℕ) (before after : List Event) : Type 0 where
   pub more : List Item
-  pub puts : Puts old new before after more
+  pub appends : Appends old new before after more
   pub items : (whole : Bool) (bytes : List ℕ) → future old whole (text ++ bytes) ≡ more ++ future new whole (rest ++ bytes)
   pub fit : IsFit new
 
@@ -163,7 +163,7 @@ pub record Starts (s : Stream) (infer : InferOpts) (file : FileRef) (start : Ctx
   pub infer_is : s.infer ≡ infer
   pub file_is : s.file ≡ file
   pub place_is : s.place ≡ place
-  pub state_is : state_of s.stand ≡ start_state
+  pub state_is : state_of s.record_state ≡ start_state
   pub text_is : s.text ≡ None
   pub begun_is : s.begun.items ≡ []
   pub at_is : s.at ≡ start

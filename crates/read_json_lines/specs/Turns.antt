@@ -2,16 +2,16 @@
 use Rattle.std.specs.Prelude.{◌≡◌, ℕ, List, Option, Some, None}
 use Rattle.mlr_spec.specs.Tree.{Tree, mapping, pairs_in}
 use Rattle.mlr_json.specs.Steps.{frames_of}
-use Rattle.read_json_lines.specs.declared.stand.Stand.{Stand}
-use Rattle.read_json_lines.specs.declared.stand.Turn.{Turn}
-use Rattle.read_json_lines.specs.declared.stand.Turn.TheVariants.{On, Record, Fault}
+use Rattle.read_json_lines.specs.declared.record_state.RecordState.{RecordState}
+use Rattle.read_json_lines.specs.declared.record_state.Turn.{Turn}
+use Rattle.read_json_lines.specs.declared.record_state.Turn.TheVariants.{On, Record, Fault}
 use Rattle.read_json_lines.specs.Records as records
 use Rattle.mlr_spec.specs.JsonTokens.{text_token}
 use Rattle.read_json_lines.specs.declared.listing.Trouble.{Trouble}
 use Rattle.read_json_lines.specs.Records.{State, goes, gives, fails, turn}
 
-abbrev pub state_of : Stand → State
-state_of stand = record { list = stand.list; frames = frames_of stand.machine; phase = stand.machine.phase }
+abbrev pub state_of : RecordState → State
+state_of record_state = record { list = record_state.list; frames = frames_of record_state.machine; phase = record_state.machine.phase }
 
 -- the fields of a value that is a map
 abbrev pub record_in : Tree → Option (List (List ℕ × Tree))

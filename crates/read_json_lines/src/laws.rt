@@ -11,9 +11,13 @@ ghost use Rattle.read_json_lines.specs.Records.{Ending, items_of, start_state};
 
 /// What a front of a file fixes: it stays whatever follows, and begins what every longer file gives as a whole. It
 /// does nothing.
-pub fn front_laws()
-    ensures fed { (opts : ReadOpts) (file : FileRef) (start : Ctx) (bytes rest : List ℕ) → (more : List Event) × (json_fed opts file start (bytes ++ rest) ≡ json_fed opts file start bytes ++ more) }
-    ensures read { (opts : ReadOpts) (file : FileRef) (start : Ctx) (bytes rest : List ℕ) → (more : List Event) × (json_read opts file start (bytes ++ rest) ≡ json_fed opts file start bytes ++ more) }
+pub fn prefix_laws()
+    ensures fed { (opts : ReadOpts) (file : FileRef) (start : Ctx) (bytes rest : List ℕ)
+        → (more : List Event)
+        × (json_fed opts file start (bytes ++ rest) ≡ json_fed opts file start bytes ++ more) }
+    ensures read { (opts : ReadOpts) (file : FileRef) (start : Ctx) (bytes rest : List ℕ)
+        → (more : List Event)
+        × (json_read opts file start (bytes ++ rest) ≡ json_fed opts file start bytes ++ more) }
 {}
 
 /// What a stream of tokens gives is what the JSON grammar says of it, and the grammar says one thing. A stream is maps and
@@ -23,6 +27,9 @@ pub fn front_laws()
 /// may stand at the end: at a byte that stops the text, at a word where none may stand, or where the file breaks off. It
 /// does nothing.
 pub fn stream_law()
-    ensures items { (file : FileRef) (tokens : List (ℕ × Token)) (ending : Ending) → HasItems file tokens ending (items_of file start_state tokens ending) }
-    ensures only { (file : FileRef) (tokens : List (ℕ × Token)) (ending : Ending) (items : List Item) → HasItems file tokens ending items → items ≡ items_of file start_state tokens ending }
+    ensures items { (file : FileRef) (tokens : List (ℕ × Token)) (ending : Ending)
+        → HasItems file tokens ending (items_of file start_state tokens ending) }
+    ensures only { (file : FileRef) (tokens : List (ℕ × Token)) (ending : Ending)
+        (items : List Item)
+        → HasItems file tokens ending items → items ≡ items_of file start_state tokens ending }
 {}

@@ -4,12 +4,12 @@
 mod laws;
 mod listing;
 mod reader;
+mod record_state;
 mod records;
-mod stand;
 mod stream;
 mod strings;
 #[cfg(test)]
 mod tests;
 
-pub use laws::{front_laws, stream_law};
+pub use laws::{prefix_laws, stream_law};
 pub use reader::{JsonReader, can_read};

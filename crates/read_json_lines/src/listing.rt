@@ -6,7 +6,7 @@ pub(crate) enum Listing {
     /// Behind the bracket that opens a list.
     First,
     /// Behind a record of a list.
-    Behind,
+    After,
     /// Behind a comma.
     Next,
 }

@@ -5,7 +5,7 @@ ghost use Rattle.mlr_event.specs.declared.names.FileRef.{FileRef};
 ghost use Rattle.mlr_event.specs.declared.options.ReadOpts.{ReadOpts};
 ghost use Rattle.mlr_event.specs.Adding.{Adds};
 ghost use Rattle.read_json_lines.specs.Files.{ctx_fed, ctx_read, json_fed, json_read};
-ghost use Rattle.read_json_lines.specs.Standing.{CanTake, HasEnded, IsBroken, IsOpen, Moves, StandsFor, StandsForWhole, StandsWith, is_usable, is_waiting, used};
+ghost use Rattle.read_json_lines.specs.Represents.{CanTake, HasEnded, IsBroken, IsOpen, Moves, Represents, RepresentsWhole, RepresentsWith, is_usable, is_waiting, used};
 
 use crate::listing::Trouble;
 use crate::stream::Stream;
@@ -38,7 +38,11 @@ pub struct JsonReader {
 // Written out, so that the crates above call it and don't go into the fields.
 impl Drop for JsonReader {
     fn drop(self) {
-        let JsonReader { mark, stream, stage } = self;
+        let JsonReader {
+            mark,
+            stream,
+            stage,
+        } = self;
         drop(mark);
         drop(stream);
         drop(stage);
@@ -64,7 +68,7 @@ impl JsonReader {
         requires usable { is_usable opts.now ≡ true }
         requires nr { start.nr ≤ 2 ^ 62 }
         requires fnr { start.fnr ≤ 2 ^ 62 }
-        ensures stands { IfOk result (λ reader. StandsFor opts.now file start reader []) }
+        ensures represents { IfOk result (λ reader. Represents opts.now file start reader []) }
         ensures open { IfOk result (λ reader. IsOpen reader) }
         ensures room { IfOk result (λ reader. used reader ≤ max 1 (max start.nr start.fnr)) }
     {
@@ -79,8 +83,15 @@ impl JsonReader {
     /// it puts nothing.
     pub fn feed(&mut self, piece: &[u8], out: &mut Events) -> Result<(), NoMemory>
         requires { CanTake self.old (length piece.now) }
-        ensures stands { OnOk result ((opts : ReadOpts) (file : FileRef) (start : Ctx) (bytes : List ℕ) → StandsFor opts file start self.old bytes → StandsFor opts file start self.new (bytes ++ piece.now)) }
-        ensures adds { OnOk result ((opts : ReadOpts) (file : FileRef) (start : Ctx) (bytes : List ℕ) → StandsFor opts file start self.old bytes → Adds out.old out.new (json_fed opts file start bytes) (json_fed opts file start (bytes ++ piece.now))) }
+        ensures represents { OnOk result ((opts : ReadOpts) (file : FileRef) (start : Ctx)
+            (bytes : List ℕ)
+            → Represents opts file start self.old bytes
+            → Represents opts file start self.new (bytes ++ piece.now)) }
+        ensures adds { OnOk result ((opts : ReadOpts) (file : FileRef) (start : Ctx)
+            (bytes : List ℕ)
+            → Represents opts file start self.old bytes
+            → Adds out.old out.new (json_fed opts file start bytes)
+            (json_fed opts file start (bytes ++ piece.now))) }
         ensures open { OnOk result (IsOpen self.new) }
         ensures room { OnOk result (used self.new ≤ used self.old + length piece.now) }
         ensures err { OnErr result (IsBroken self.new) }
@@ -95,8 +106,15 @@ impl JsonReader {
     /// Takes the end of the file, and puts a fault behind `out` where a value or a list isn't whole.
     pub fn end(&mut self, out: &mut Events) -> Result<(), NoMemory>
         requires { CanTake self.old 0 }
-        ensures stands { OnOk result ((opts : ReadOpts) (file : FileRef) (start : Ctx) (bytes : List ℕ) → StandsFor opts file start self.old bytes → StandsForWhole opts file start self.new bytes) }
-        ensures adds { OnOk result ((opts : ReadOpts) (file : FileRef) (start : Ctx) (bytes : List ℕ) → StandsFor opts file start self.old bytes → Adds out.old out.new (json_fed opts file start bytes) (json_read opts file start bytes)) }
+        ensures represents { OnOk result ((opts : ReadOpts) (file : FileRef) (start : Ctx)
+            (bytes : List ℕ)
+            → Represents opts file start self.old bytes
+            → RepresentsWhole opts file start self.new bytes) }
+        ensures adds { OnOk result ((opts : ReadOpts) (file : FileRef) (start : Ctx)
+            (bytes : List ℕ)
+            → Represents opts file start self.old bytes
+            → Adds out.old out.new (json_fed opts file start bytes)
+            (json_read opts file start bytes)) }
         ensures ended { OnOk result (HasEnded self.new) }
         ensures room { OnOk result (used self.new ≤ used self.old + 1) }
         ensures err { OnErr result (IsBroken self.new) }
@@ -112,8 +130,11 @@ impl JsonReader {
 
     /// The context of the last record so far, or the start.
     pub fn ctx(&self) -> Ctx
-        ensures fed { (opts : ReadOpts) (file : FileRef) (start : Ctx) (bytes : List ℕ) → StandsFor opts file start self.now bytes → result ≡ ctx_fed opts file start bytes }
-        ensures read { (opts : ReadOpts) (file : FileRef) (start : Ctx) (bytes : List ℕ) → StandsForWhole opts file start self.now bytes → result ≡ ctx_read opts file start bytes }
+        ensures fed { (opts : ReadOpts) (file : FileRef) (start : Ctx) (bytes : List ℕ)
+            → Represents opts file start self.now bytes → result ≡ ctx_fed opts file start bytes }
+        ensures read { (opts : ReadOpts) (file : FileRef) (start : Ctx) (bytes : List ℕ)
+            → RepresentsWhole opts file start self.now bytes
+            → result ≡ ctx_read opts file start bytes }
         ensures nr { result.nr ≤ used self.now }
         ensures fnr { result.fnr ≤ used self.now }
     {
@@ -129,8 +150,15 @@ impl JsonReader {
 
     fn take(&mut self, piece: &[u8], out: &mut Events) -> Result<(), NoMemory>
         requires { used self.old + length piece.now < 2 ^ 63 }
-        ensures stands { OnOk result ((opts : ReadOpts) (file : FileRef) (start : Ctx) (bytes : List ℕ) → StandsFor opts file start self.old bytes → StandsFor opts file start self.new (bytes ++ piece.now)) }
-        ensures adds { OnOk result ((opts : ReadOpts) (file : FileRef) (start : Ctx) (bytes : List ℕ) → StandsFor opts file start self.old bytes → Adds out.old out.new (json_fed opts file start bytes) (json_fed opts file start (bytes ++ piece.now))) }
+        ensures represents { OnOk result ((opts : ReadOpts) (file : FileRef) (start : Ctx)
+            (bytes : List ℕ)
+            → Represents opts file start self.old bytes
+            → Represents opts file start self.new (bytes ++ piece.now)) }
+        ensures adds { OnOk result ((opts : ReadOpts) (file : FileRef) (start : Ctx)
+            (bytes : List ℕ)
+            → Represents opts file start self.old bytes
+            → Adds out.old out.new (json_fed opts file start bytes)
+            (json_fed opts file start (bytes ++ piece.now))) }
         ensures room { OnOk result (used self.new ≤ used self.old + length piece.now) }
         ensures stage { self.new.stage ≡ self.old.stage }
     {
@@ -149,9 +177,15 @@ impl JsonReader {
         requires bytes { 0 < length text.now }
         requires marked { is_some self.old.mark ≡ true }
         requires room { used self.old + length text.now < 2 ^ 63 }
-        ensures moves { IfOk result (λ left. (opts : ReadOpts) (file : FileRef) (start : Ctx) (all : List ℕ) (put : List Event) → StandsWith self.old.mark opts file start self.old.stream all text.now put → Moves opts file start self.new.mark self.new.stream all left.now put out.old out.new) }
-        ensures room { IfOk result (λ left. used self.new + length left.now ≤ used self.old + length text.now) }
-        ensures falls { IfOk result (λ left. is_waiting self.new.mark + length left.now < is_waiting self.old.mark + length text.now) }
+        ensures moves { IfOk result (λ left. (opts : ReadOpts) (file : FileRef) (start : Ctx)
+            (all : List ℕ) (put : List Event)
+            → RepresentsWith self.old.mark opts file start self.old.stream all text.now put
+            → Moves opts file start self.new.mark self.new.stream all left.now put out.old
+            out.new) }
+        ensures room { IfOk result (λ left. used self.new + length left.now
+            ≤ used self.old + length text.now) }
+        ensures falls { IfOk result (λ left. is_waiting self.new.mark + length left.now
+            < is_waiting self.old.mark + length text.now) }
         ensures stage { self.new.stage ≡ self.old.stage }
     {
         let marked = self.mark.unwrap_or(0);
@@ -173,8 +207,15 @@ impl JsonReader {
 
     fn take_end(&mut self, out: &mut Events) -> Result<(), NoMemory>
         requires { used self.old < 2 ^ 63 }
-        ensures stands { OnOk result ((opts : ReadOpts) (file : FileRef) (start : Ctx) (bytes : List ℕ) → StandsFor opts file start self.old bytes → StandsForWhole opts file start self.new bytes) }
-        ensures adds { OnOk result ((opts : ReadOpts) (file : FileRef) (start : Ctx) (bytes : List ℕ) → StandsFor opts file start self.old bytes → Adds out.old out.new (json_fed opts file start bytes) (json_read opts file start bytes)) }
+        ensures represents { OnOk result ((opts : ReadOpts) (file : FileRef) (start : Ctx)
+            (bytes : List ℕ)
+            → Represents opts file start self.old bytes
+            → RepresentsWhole opts file start self.new bytes) }
+        ensures adds { OnOk result ((opts : ReadOpts) (file : FileRef) (start : Ctx)
+            (bytes : List ℕ)
+            → Represents opts file start self.old bytes
+            → Adds out.old out.new (json_fed opts file start bytes)
+            (json_read opts file start bytes)) }
         ensures room { OnOk result (used self.new ≤ used self.old + 1) }
         ensures stage { self.new.stage ≡ self.old.stage }
     {

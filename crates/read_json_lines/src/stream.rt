@@ -1,17 +1,17 @@
 ghost use Rattle.std.specs.Prelude.{ℕ, ◌≡◌, ◌+◌, ◌^◌, ◌<◌, ◌≤◌, ◌++◌, ◌∷◌, [], true, false, length, drop, take, IfOk, OnOk, is_some, None};
-ghost use Rattle.mlr_spec.specs.JsonTokens.{front_outside, found, sign, token_of_word};
+ghost use Rattle.mlr_spec.specs.JsonTokens.{lexeme_outside, found, sign, token_of_word};
 ghost use Rattle.mlr_spec.specs.JsonTokens as lexeme;
 ghost use Rattle.mlr_json.specs.Seen.{lexeme_seen};
 ghost use Rattle.mlr_event.specs.Reading as item;
 ghost use Rattle.read_json_lines.specs.Records.{fault_of};
-ghost use Rattle.read_json_lines.specs.Streams.{HasPut, IsFit, Opens, Pushes, Puts, Starts, Takes, Turned, and_token, count_of, future, is_between, is_quote, or_stop, text_tokens, token_of_value, turn_items, waits};
+ghost use Rattle.read_json_lines.specs.Streams.{HasPut, IsFit, Opens, Pushes, Appends, Starts, Takes, Turned, and_token, count_of, future, is_between, is_quote, or_stop, text_tokens, token_of_value, turn_items, waits};
 
 use crate::listing::Trouble;
-use crate::stand::{Stand, Turn};
+use crate::record_state::{RecordState, Turn};
 use crate::strings::OpenText;
 use mlr_event::rows::next_ctx;
 use mlr_event::{Ctx, Event, Events, Fault, FileRef};
-use mlr_json::{Front, Lexeme, StringBuilder, front_of, word_len, word_value};
+use mlr_json::{Lexeme, Scanned, StringBuilder, first_lexeme, word_len, word_value};
 use mlr_spec::{InferOpts, JsonMark, NoMemory};
 use mlr_value::Value;
 use std::alloc::Global;
@@ -25,7 +25,7 @@ pub(crate) struct Stream {
     pub(crate) file: FileRef,
     /// The place of the first byte that isn't read yet.
     pub(crate) place: u64,
-    pub(crate) stand: Stand,
+    pub(crate) record_state: RecordState,
     /// The string that is open.
     pub(crate) text: Option<OpenText>,
     /// The bytes that aren't read yet: of a word that may go on, or of an escape.
@@ -46,7 +46,7 @@ impl Stream {
             infer,
             file,
             place: 1,
-            stand: Stand::new(alloc),
+            record_state: RecordState::new(alloc),
             text: None,
             begun: Vec::new(alloc),
             at: start,
@@ -58,7 +58,8 @@ impl Stream {
     pub(crate) fn feed(&mut self, piece: &[u8], out: &mut Events) -> Result<(), NoMemory>
         requires goes_on { self.old.stopped ≡ false }
         requires room { count_of self.old + length piece.now < 2 ^ 63 }
-        ensures turned { OnOk result (IsFit self.old → Turned self.old self.new piece.now [] out.old out.new) }
+        ensures turned { OnOk result (IsFit self.old
+            → Turned self.old self.new piece.now [] out.old out.new) }
         ensures room { OnOk result (count_of self.new ≤ count_of self.old + length piece.now) }
     {
         let mut left = piece;
@@ -72,7 +73,8 @@ impl Stream {
     pub(crate) fn end(&mut self, out: &mut Events) -> Result<(), NoMemory>
         requires goes_on { self.old.stopped ≡ false }
         requires room { count_of self.old < 2 ^ 63 }
-        ensures ended { OnOk result (IsFit self.old → Puts self.old self.new out.old out.new (future self.old true [])) }
+        ensures ended { OnOk result (IsFit self.old
+            → Appends self.old self.new out.old out.new (future self.old true [])) }
         ensures room { OnOk result (count_of self.new ≤ count_of self.old + 1) }
     {
         if self.text.is_some() {
@@ -93,10 +95,11 @@ impl Stream {
         requires goes_on { self.old.stopped ≡ false }
         requires text { is_some self.old.text ≡ false }
         requires begun { self.old.begun.items ≡ [] }
-        ensures ended { OnOk result (Puts self.old self.new out.old out.new (future self.old true [])) }
+        ensures ended { OnOk result (Appends self.old self.new out.old out.new
+            (future self.old true [])) }
         ensures same { OnOk result (self.new ≡ record self.old { stopped = self.new.stopped }) }
     {
-        if self.stand.is_at_rest() {
+        if self.record_state.is_at_rest() {
             return Ok(());
         }
         self.fail(Trouble::Syntax, self.place, out)
@@ -107,9 +110,12 @@ impl Stream {
         requires bytes { 0 < length text.now }
         requires goes_on { self.old.stopped ≡ false }
         requires room { count_of self.old + length text.now < 2 ^ 63 }
-        ensures turned { IfOk result (λ left. IsFit self.old → Turned self.old self.new text.now left.now out.old out.new) }
-        ensures room { IfOk result (λ left. count_of self.new + length left.now ≤ count_of self.old + length text.now) }
-        ensures falls { IfOk result (λ left. waits self.new (length left.now) < waits self.old (length text.now)) }
+        ensures turned { IfOk result (λ left. IsFit self.old
+            → Turned self.old self.new text.now left.now out.old out.new) }
+        ensures room { IfOk result (λ left. count_of self.new + length left.now
+            ≤ count_of self.old + length text.now) }
+        ensures falls { IfOk result (λ left. waits self.new (length left.now)
+            < waits self.old (length text.now)) }
     {
         if self.text.is_some() {
             if self.begun.is_empty() {
@@ -131,17 +137,19 @@ impl Stream {
         requires room { count_of self.old + length text.now < 2 ^ 63 }
         requires text { is_some self.old.text ≡ false }
         requires begun { self.old.begun.items ≡ [] }
-        ensures turned { IfOk result (λ left. Turned self.old self.new text.now left.now out.old out.new) }
-        ensures room { IfOk result (λ left. count_of self.new + length left.now ≤ count_of self.old + length text.now) }
+        ensures turned { IfOk result (λ left. Turned self.old self.new text.now left.now out.old
+            out.new) }
+        ensures room { IfOk result (λ left. count_of self.new + length left.now
+            ≤ count_of self.old + length text.now) }
         ensures shorter { IfOk result (λ left. length left.now < length text.now) }
     {
-        match front_of(false, text) {
-            Front::Found(lexeme, len) => self.turn_lexeme(lexeme, len, text, out),
-            Front::Bad(offset) => {
+        match first_lexeme(false, text) {
+            Scanned::Found(lexeme, len) => self.turn_lexeme(lexeme, len, text, out),
+            Scanned::Bad(offset) => {
                 self.fail(Trouble::Syntax, self.place + offset as u64, out)?;
-                Ok(behind(text, text.len()))
+                Ok(following(text, text.len()))
             }
-            Front::Begun => Ok(text),
+            Scanned::Begun => Ok(text),
         }
     }
 
@@ -155,14 +163,16 @@ impl Stream {
     ) -> Result<&'a [u8], NoMemory>
         requires bytes { 0 < len }
         requires within { len ≤ length text.now }
-        requires front { front_outside text.now ≡ found (lexeme_seen lexeme) len }
+        requires prefix { lexeme_outside text.now ≡ found (lexeme_seen lexeme) len }
         requires outside { is_between (lexeme_seen lexeme) ≡ true }
         requires goes_on { self.old.stopped ≡ false }
         requires room { count_of self.old + length text.now < 2 ^ 63 }
         requires text { is_some self.old.text ≡ false }
         requires begun { self.old.begun.items ≡ [] }
-        ensures turned { IfOk result (λ left. Turned self.old self.new text.now left.now out.old out.new) }
-        ensures room { IfOk result (λ left. count_of self.new + length left.now ≤ count_of self.old + length text.now) }
+        ensures turned { IfOk result (λ left. Turned self.old self.new text.now left.now out.old
+            out.new) }
+        ensures room { IfOk result (λ left. count_of self.new + length left.now
+            ≤ count_of self.old + length text.now) }
         ensures left { IfOk result (λ left. left.now ≡ drop len text.now) }
     {
         match lexeme {
@@ -170,16 +180,16 @@ impl Stream {
             Lexeme::Mark(mark) => {
                 self.take_mark(mark, out)?;
                 self.place += len as u64;
-                Ok(behind(text, len))
+                Ok(following(text, len))
             }
             Lexeme::Quote => {
                 self.open_text(out)?;
                 self.place += len as u64;
-                Ok(behind(text, len))
+                Ok(following(text, len))
             }
             Lexeme::Blank => {
                 self.place += len as u64;
-                Ok(behind(text, len))
+                Ok(following(text, len))
             }
             Lexeme::Raw(_) | Lexeme::Unit(_) => unreachable!(),
         }
@@ -195,26 +205,28 @@ impl Stream {
     ) -> Result<&'a [u8], NoMemory>
         requires bytes { 0 < len }
         requires within { len ≤ length text.now }
-        requires front { front_outside text.now ≡ found (lexeme.word word.now) len }
+        requires prefix { lexeme_outside text.now ≡ found (lexeme.word word.now) len }
         requires goes_on { self.old.stopped ≡ false }
         requires room { count_of self.old + length text.now < 2 ^ 63 }
         requires text { is_some self.old.text ≡ false }
         requires begun { self.old.begun.items ≡ [] }
-        ensures turned { IfOk result (λ left. Turned self.old self.new text.now left.now out.old out.new) }
-        ensures room { IfOk result (λ left. count_of self.new + length left.now ≤ count_of self.old + length text.now) }
+        ensures turned { IfOk result (λ left. Turned self.old self.new text.now left.now out.old
+            out.new) }
+        ensures room { IfOk result (λ left. count_of self.new + length left.now
+            ≤ count_of self.old + length text.now) }
         ensures left { IfOk result (λ left. left.now ≡ drop len text.now) }
     {
-        if !self.stand.takes_word() {
+        if !self.record_state.takes_word() {
             self.fail(Trouble::Syntax, self.place, out)?;
-            return Ok(behind(text, len));
+            return Ok(following(text, len));
         }
         if len == text.len() {
             self.begun.extend_from_slice(word)?;
-            return Ok(behind(text, len));
+            return Ok(following(text, len));
         }
         self.take_word(word, out)?;
         self.place += len as u64;
-        Ok(behind(text, len))
+        Ok(following(text, len))
     }
 
     /// Goes on with the word that has begun, or ends it.
@@ -224,14 +236,17 @@ impl Stream {
         requires room { count_of self.old + length text.now < 2 ^ 63 }
         requires text { is_some self.old.text ≡ false }
         requires begun { 0 < length self.old.begun.items }
-        ensures turned { IfOk result (λ left. IsFit self.old → Turned self.old self.new text.now left.now out.old out.new) }
-        ensures room { IfOk result (λ left. count_of self.new + length left.now ≤ count_of self.old + length text.now) }
-        ensures falls { IfOk result (λ left. waits self.new (length left.now) < waits self.old (length text.now)) }
+        ensures turned { IfOk result (λ left. IsFit self.old
+            → Turned self.old self.new text.now left.now out.old out.new) }
+        ensures room { IfOk result (λ left. count_of self.new + length left.now
+            ≤ count_of self.old + length text.now) }
+        ensures falls { IfOk result (λ left. waits self.new (length left.now)
+            < waits self.old (length text.now)) }
     {
         let len = word_len(text);
         if len > 0 {
-            self.begun.extend_from_slice(front(text, len))?;
-            return Ok(behind(text, len));
+            self.begun.extend_from_slice(prefix(text, len))?;
+            return Ok(following(text, len));
         }
         self.end_word(out)?;
         Ok(text)
@@ -243,9 +258,20 @@ impl Stream {
         requires nr { self.old.at.nr < 2 ^ 63 }
         requires fnr { self.old.at.fnr < 2 ^ 63 }
         requires room { self.old.place + length self.old.begun.items < 2 ^ 63 }
-        ensures takes { OnOk result (Takes self.old self.new out.old out.new (λ rest. or_stop self.old.place (token_of_word self.old.infer self.old.begun.items) rest)) }
+        ensures takes { OnOk result (Takes self.old self.new out.old out.new
+            (λ rest. or_stop self.old.place (token_of_word self.old.infer self.old.begun.items)
+            rest)) }
         ensures begun { OnOk result (self.new.begun.items ≡ []) }
-        ensures same { OnOk result (self.new ≡ record self.old { place = self.old.place + length self.old.begun.items; begun = self.new.begun; stand = self.new.stand; at = self.new.at; stopped = self.new.stopped }) }
+        ensures same { OnOk result (self.new ≡ record
+            self.old {
+              place = self.old.place + length self.old.begun.items;
+              begun =
+                  self.new.begun;
+              record_state = self.new.record_state;
+              at = self.new.at;
+              stopped =
+                  self.new.stopped;
+            }) }
     {
         let value = word_value(self.alloc, self.begun.as_slice(), self.infer)?;
         let place = self.place;
@@ -258,10 +284,17 @@ impl Stream {
         requires goes_on { self.old.stopped ≡ false }
         requires nr { self.old.at.nr < 2 ^ 63 }
         requires fnr { self.old.at.fnr < 2 ^ 63 }
-        ensures takes { OnOk result (Takes self.old self.new out.old out.new (λ rest. and_token self.old.place (sign mark) rest)) }
-        ensures same { OnOk result (self.new ≡ record self.old { stand = self.new.stand; at = self.new.at; stopped = self.new.stopped }) }
+        ensures takes { OnOk result (Takes self.old self.new out.old out.new
+            (λ rest. and_token self.old.place (sign mark) rest)) }
+        ensures same { OnOk result (self.new ≡ record
+            self.old {
+              record_state = self.new.record_state;
+              at = self.new.at;
+              stopped =
+                  self.new.stopped;
+            }) }
     {
-        let turn = self.stand.mark(mark)?;
+        let turn = self.record_state.mark(mark)?;
         self.put(turn, self.place, out)
     }
 
@@ -269,8 +302,15 @@ impl Stream {
         requires goes_on { self.old.stopped ≡ false }
         requires nr { self.old.at.nr < 2 ^ 63 }
         requires fnr { self.old.at.fnr < 2 ^ 63 }
-        ensures takes { OnOk result (Takes self.old self.new out.old out.new (λ rest. or_stop self.old.place (token_of_word self.old.infer word.now) rest)) }
-        ensures same { OnOk result (self.new ≡ record self.old { stand = self.new.stand; at = self.new.at; stopped = self.new.stopped }) }
+        ensures takes { OnOk result (Takes self.old self.new out.old out.new
+            (λ rest. or_stop self.old.place (token_of_word self.old.infer word.now) rest)) }
+        ensures same { OnOk result (self.new ≡ record
+            self.old {
+              record_state = self.new.record_state;
+              at = self.new.at;
+              stopped =
+                  self.new.stopped;
+            }) }
     {
         let value = word_value(self.alloc, word, self.infer)?;
         self.take_value(value, self.place, out)
@@ -286,12 +326,19 @@ impl Stream {
         requires goes_on { self.old.stopped ≡ false }
         requires nr { self.old.at.nr < 2 ^ 63 }
         requires fnr { self.old.at.fnr < 2 ^ 63 }
-        ensures takes { OnOk result (Takes self.old self.new out.old out.new (λ rest. or_stop place (token_of_value value) rest)) }
-        ensures same { OnOk result (self.new ≡ record self.old { stand = self.new.stand; at = self.new.at; stopped = self.new.stopped }) }
+        ensures takes { OnOk result (Takes self.old self.new out.old out.new
+            (λ rest. or_stop place (token_of_value value) rest)) }
+        ensures same { OnOk result (self.new ≡ record
+            self.old {
+              record_state = self.new.record_state;
+              at = self.new.at;
+              stopped =
+                  self.new.stopped;
+            }) }
     {
         let turn = match value {
             None => Turn::Fault(Trouble::Syntax),
-            Some(value) => self.stand.word(value)?,
+            Some(value) => self.record_state.word(value)?,
         };
         self.put(turn, place, out)
     }
@@ -300,9 +347,10 @@ impl Stream {
     fn open_text(&mut self, out: &mut Events) -> Result<(), NoMemory>
         requires goes_on { self.old.stopped ≡ false }
         ensures opens { OnOk result (Opens self.old self.new out.old out.new) }
-        ensures same { OnOk result (self.new ≡ record self.old { text = self.new.text; stopped = self.new.stopped }) }
+        ensures same { OnOk result (self.new ≡ record
+            self.old { text = self.new.text; stopped = self.new.stopped }) }
     {
-        if let Some(trouble) = self.stand.refused_text() {
+        if let Some(trouble) = self.record_state.refused_text() {
             return self.fail(trouble, self.place, out);
         }
         self.text = Some(OpenText {
@@ -319,28 +367,30 @@ impl Stream {
         requires room { count_of self.old + length text.now < 2 ^ 63 }
         requires text { is_some self.old.text ≡ true }
         requires begun { self.old.begun.items ≡ [] }
-        ensures turned { IfOk result (λ left. IsFit self.old → Turned self.old self.new text.now left.now out.old out.new) }
-        ensures room { IfOk result (λ left. count_of self.new + length left.now ≤ count_of self.old + length text.now) }
+        ensures turned { IfOk result (λ left. IsFit self.old
+            → Turned self.old self.new text.now left.now out.old out.new) }
+        ensures room { IfOk result (λ left. count_of self.new + length left.now
+            ≤ count_of self.old + length text.now) }
         ensures shorter { IfOk result (λ left. length left.now < length text.now) }
     {
-        match front_of(true, text) {
-            Front::Found(lexeme, len) => {
+        match first_lexeme(true, text) {
+            Scanned::Found(lexeme, len) => {
                 if is_quote(lexeme) {
                     self.close_text(out)?;
                     self.place += len as u64;
-                    return Ok(behind(text, len));
+                    return Ok(following(text, len));
                 }
                 self.push_piece(lexeme)?;
                 self.place += len as u64;
-                Ok(behind(text, len))
+                Ok(following(text, len))
             }
-            Front::Begun => {
+            Scanned::Begun => {
                 self.begun.extend_from_slice(text)?;
-                Ok(behind(text, text.len()))
+                Ok(following(text, text.len()))
             }
-            Front::Bad(offset) => {
+            Scanned::Bad(offset) => {
                 self.fail(Trouble::Syntax, self.place + offset as u64, out)?;
-                Ok(behind(text, text.len()))
+                Ok(following(text, text.len()))
             }
         }
     }
@@ -352,25 +402,27 @@ impl Stream {
         requires room { count_of self.old + length text.now < 2 ^ 63 }
         requires text { is_some self.old.text ≡ true }
         requires begun { 0 < length self.old.begun.items }
-        ensures turned { IfOk result (λ left. IsFit self.old → Turned self.old self.new text.now left.now out.old out.new) }
-        ensures room { IfOk result (λ left. count_of self.new + length left.now ≤ count_of self.old + length text.now) }
+        ensures turned { IfOk result (λ left. IsFit self.old
+            → Turned self.old self.new text.now left.now out.old out.new) }
+        ensures room { IfOk result (λ left. count_of self.new + length left.now
+            ≤ count_of self.old + length text.now) }
         ensures shorter { IfOk result (λ left. length left.now < length text.now) }
     {
         let mut escape = replace(&mut self.begun, Vec::new(self.alloc));
-        escape.extend_from_slice(front(text, 1))?;
-        match front_of(true, escape.as_slice()) {
-            Front::Found(lexeme, len) => {
+        escape.extend_from_slice(prefix(text, 1))?;
+        match first_lexeme(true, escape.as_slice()) {
+            Scanned::Found(lexeme, len) => {
                 self.push_piece(lexeme)?;
                 self.place += len as u64;
-                Ok(behind(text, 1))
+                Ok(following(text, 1))
             }
-            Front::Begun => {
+            Scanned::Begun => {
                 self.begun.extend_from_slice(escape.as_slice())?;
-                Ok(behind(text, 1))
+                Ok(following(text, 1))
             }
-            Front::Bad(offset) => {
+            Scanned::Bad(offset) => {
                 self.fail(Trouble::Syntax, self.place + offset as u64, out)?;
-                Ok(behind(text, 1))
+                Ok(following(text, 1))
             }
         }
     }
@@ -378,7 +430,8 @@ impl Stream {
     /// Puts a piece into the string that is open.
     fn push_piece(&mut self, lexeme: Lexeme<'_>) -> Result<(), NoMemory>
         requires text { is_some self.old.text ≡ true }
-        ensures pushes { OnOk result (Pushes self.old.text self.new.text (lexeme_seen lexeme.entry)) }
+        ensures pushes { OnOk result (Pushes self.old.text self.new.text
+            (lexeme_seen lexeme.entry)) }
         ensures open { OnOk result (is_some self.new.text ≡ true) }
         ensures same { OnOk result (self.new ≡ record self.old { text = self.new.text }) }
     {
@@ -398,15 +451,23 @@ impl Stream {
         requires goes_on { self.old.stopped ≡ false }
         requires nr { self.old.at.nr < 2 ^ 63 }
         requires fnr { self.old.at.fnr < 2 ^ 63 }
-        ensures takes { OnOk result (Takes self.old self.new out.old out.new (λ rest. text_tokens self.old.text [] rest)) }
+        ensures takes { OnOk result (Takes self.old self.new out.old out.new
+            (λ rest. text_tokens self.old.text [] rest)) }
         ensures closed { OnOk result (self.new.text ≡ None) }
-        ensures same { OnOk result (self.new ≡ record self.old { text = self.new.text; stand = self.new.stand; at = self.new.at; stopped = self.new.stopped }) }
+        ensures same { OnOk result (self.new ≡ record
+            self.old {
+              text = self.new.text;
+              record_state = self.new.record_state;
+              at =
+                  self.new.at;
+              stopped = self.new.stopped;
+            }) }
     {
         let Some(open) = self.text.take() else {
             return Ok(());
         };
         let text = open.builder.finish()?;
-        let turn = self.stand.text(text)?;
+        let turn = self.record_state.text(text)?;
         self.put(turn, open.place, out)
     }
 
@@ -415,7 +476,8 @@ impl Stream {
         requires goes_on { self.old.stopped ≡ false }
         requires nr { self.old.at.nr < 2 ^ 63 }
         requires fnr { self.old.at.fnr < 2 ^ 63 }
-        ensures { OnOk result (HasPut self.old self.new out.old out.new (turn_items self.old.file turn place)) }
+        ensures { OnOk result (HasPut self.old self.new out.old out.new
+            (turn_items self.old.file turn place)) }
     {
         match turn {
             Turn::On => Ok(()),
@@ -433,7 +495,8 @@ impl Stream {
         place: u64,
         out: &mut Events,
     ) -> Result<(), NoMemory>
-        ensures { OnOk result (HasPut self.old self.new out.old out.new (item.fault (fault_of self.old.file trouble place) ∷ [])) }
+        ensures { OnOk result (HasPut self.old self.new out.old out.new
+            (item.fault (fault_of self.old.file trouble place) ∷ [])) }
     {
         self.stopped = true;
         out.push(Event::Fault(fault_of(trouble, self.file, place)))
@@ -452,7 +515,7 @@ fn fault_of(trouble: Trouble, file: FileRef, byte: u64) -> Fault
 
 /// The text behind its first bytes.
 #[inline(always)]
-fn behind(text: &[u8], len: usize) -> &[u8]
+fn following(text: &[u8], len: usize) -> &[u8]
     requires { len ≤ length text.now }
     ensures { result.now ≡ drop len text.now }
 {
@@ -461,7 +524,7 @@ fn behind(text: &[u8], len: usize) -> &[u8]
 
 /// The first bytes of a text.
 #[inline(always)]
-fn front(text: &[u8], len: usize) -> &[u8]
+fn prefix(text: &[u8], len: usize) -> &[u8]
     requires { len ≤ length text.now }
     ensures { result.now ≡ take len text.now }
 {

@@ -1,7 +1,7 @@
 //! Texts read whole, cut at each byte and byte by byte, and the events that they give, written out.
 
 ghost use Rattle.std.specs.Prelude.{◌≡◌, ◌+◌, ◌^◌, ◌<◌, ◌≤◌, length, IfOk, OnOk};
-ghost use Rattle.read_json_lines.specs.Standing.{CanTake, IsOpen, used};
+ghost use Rattle.read_json_lines.specs.Represents.{CanTake, IsOpen, used};
 
 use crate::{JsonReader, can_read};
 use itoa::Buffer;

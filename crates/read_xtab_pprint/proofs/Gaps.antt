@@ -3,7 +3,7 @@ use Rattle.std.proofs.Common.{◌≡◌, ℕ, zero, suc, ◌≤◌, Bool, true, 
 use Rattle.std.proofs.Math.Seq.{take-length}
 use Rattle.std.proofs.lemmas.Bool.{cases_Bool, true≢false, and_parts, eqb-true, not-true}
 use Rattle.std.proofs.lemmas.List.{append-nil, map-append, take_more}
-use Rattle.mlr_lines.specs.Lines.{begun_behind, begun_line, ended_behind, ended_lines, fixed_lines, last_line, whole_lines, without_return}
+use Rattle.mlr_lines.specs.Lines.{begun_after, begun_line, ended_after, ended_lines, fixed_lines, last_line, whole_lines, without_return}
 use Rattle.mlr_lines.specs.Steps.{are_none, unmarked_line, unmarked_lines}
 use Rattle.mlr_lines.proofs.Cutting.{begun-append, begun_line-is, ended_lines-append}
 use Rattle.mlr_event.specs.declared.event.Ctx.{Ctx}
@@ -13,7 +13,7 @@ use Rattle.mlr_event.specs.declared.options.Format.TheVariants as format
 use Rattle.mlr_event.specs.declared.options.ReadOpts.{ReadOpts}
 use Rattle.mlr_event.specs.Reading.{Item, comment_items, events_of, is_comment}
 use Rattle.read_xtab_pprint.specs.Blocks.{block_fed, block_read, items_fixed, items_whole}
-use Rattle.read_xtab_pprint.specs.Fronts.{end_empty, ends_with_gap, gap_front, gap_front_within, is_empty_line}
+use Rattle.read_xtab_pprint.specs.Prefixes.{end_empty, ends_with_gap, gap_prefix, gap_prefix_within, is_empty_line}
 use Rattle.read_xtab_pprint.specs.Xtab.{is_gap, record_items, xtab_from, xtab_rest}
 
 -- one more byte ends a line, or none
@@ -23,8 +23,8 @@ unmarked-nothing false = refl
 
 fixed-on : (bytes : List ℕ) (b : ℕ) → eqb b 10 ≡ false → fixed_lines (bytes ++ b ∷ []) ≡ fixed_lines bytes
 fixed-on bytes b other =
-    let begun = begun_behind [] bytes in
-    let none : ended_behind begun (b ∷ []) ≡ [] = rw other refl in
+    let begun = begun_after [] bytes in
+    let none : ended_after begun (b ∷ []) ≡ [] = rw other refl in
     ap (map without_return) (
     ended_lines-append bytes (b ∷ []) ∙ ap (λ lines. ended_lines bytes ++ unmarked_lines (are_none (ended_lines bytes)) lines) none
     ∙ append-nil (ended_lines bytes)
@@ -32,11 +32,11 @@ fixed-on bytes b other =
 
 fixed-last : (bytes : List ℕ) (b : ℕ) → eqb b 10 ≡ true → (line : List ℕ) × (fixed_lines (bytes ++ b ∷ []) ≡ fixed_lines bytes ++ line ∷ []) × (begun_line (bytes ++ b ∷ []) ≡ [])
 fixed-last bytes b feed =
-    let begun = begun_behind [] bytes in
+    let begun = begun_after [] bytes in
     let first = are_none (ended_lines bytes) in
     let line = unmarked_line first begun in
-    let one : ended_behind begun (b ∷ []) ≡ begun ∷ [] = rw feed refl in
-    let none : begun_behind begun (b ∷ []) ≡ [] = rw feed refl in (
+    let one : ended_after begun (b ∷ []) ≡ begun ∷ [] = rw feed refl in
+    let none : begun_after begun (b ∷ []) ≡ [] = rw feed refl in (
       without_return line,
       ap (map without_return) (ended_lines-append bytes (b ∷ []) ∙ ap (λ lines. ended_lines bytes ++ unmarked_lines first lines) one)
           ∙ map-append without_return (ended_lines bytes) (line ∷ []),
@@ -142,22 +142,22 @@ module _ (opts : ReadOpts) where
             ap (xtab_from opts [] []) last.1 ∙ from-quiet (fixed_lines bytes) last.0 [] [] isnt
       ]
 
-  front-is : (n : ℕ) (bytes : List ℕ) → n ≤ length bytes → fixed (take n bytes) ≡ whole (gap_front_within n opts.comments bytes)
-  front-is zero bytes below = refl
-  front-is (suc n) bytes below =
+  prefix-is : (n : ℕ) (bytes : List ℕ) → n ≤ length bytes → fixed (take n bytes) ≡ whole (gap_prefix_within n opts.comments bytes)
+  prefix-is zero bytes below = refl
+  prefix-is (suc n) bytes below =
       let text = take (suc n) bytes in
-      let before = gap_front_within n opts.comments bytes in
+      let before = gap_prefix_within n opts.comments bytes in
       elim (cases_Bool (ends_with_gap opts.comments text)) as (λ _. fixed text ≡ whole (cond (ends_with_gap opts.comments text) text before)) [
         | inl ends ↦ sym (whole-ended text ends) ∙ ap (λ t. whole (cond t text before)) (sym ends)
         | inr other ↦
             let more : text ≡ take n bytes ++ get_or bytes n 0 ∷ [] = ap (λ k. take k bytes) (sym (add-one n)) ∙ take_more bytes n 0 (omega (arith, below)) in
             ap fixed more ∙ byte-quiet (take n bytes) (get_or bytes n 0) (ap (ends_with_gap opts.comments) (sym more) ∙ other)
-            ∙ front-is n bytes (omega (arith, below)) ∙ ap (λ t. whole (cond t text before)) (sym other)
+            ∙ prefix-is n bytes (omega (arith, below)) ∙ ap (λ t. whole (cond t text before)) (sym other)
       ]
 
-  pub fed-gap : (file : FileRef) (start : Ctx) (bytes : List ℕ) → opts.format ≡ format.Xtab → block_fed opts file start bytes ≡ block_read opts file start (gap_front opts.comments bytes)
+  pub fed-gap : (file : FileRef) (start : Ctx) (bytes : List ℕ) → opts.format ≡ format.Xtab → block_fed opts file start bytes ≡ block_read opts file start (gap_prefix opts.comments bytes)
   fed-gap file start bytes is =
       ap (λ f. events_of start (items_fixed opts file f (fixed_lines bytes))) is
       ∙ ap (λ text. events_of start (fixed text)) (sym (take-length bytes))
-      ∙ ap (events_of start) (front-is (length bytes) bytes (omega arith))
-      ∙ ap (λ f. events_of start (items_whole opts file f (whole_lines (gap_front opts.comments bytes)))) (sym is)
+      ∙ ap (events_of start) (prefix-is (length bytes) bytes (omega arith))
+      ∙ ap (λ f. events_of start (items_whole opts file f (whole_lines (gap_prefix opts.comments bytes)))) (sym is)

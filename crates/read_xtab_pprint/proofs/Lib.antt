@@ -3,5 +3,5 @@ pub mod Turns
 pub mod Pprinting
 pub mod Xtabbing
 pub mod Whole
-pub mod Fronts
+pub mod Prefixes
 pub mod Gaps

@@ -2,12 +2,12 @@
 use Rattle.std.proofs.Common.{◌≡◌, ℕ, ◌+◌, Bool, true, false, if◌then◌else◌, List, [], ◌∷◌, ◌++◌, None, refl, ap, ap₂, sym, ◌∙◌}
 use Rattle.std.proofs.lemmas.List.{append-nil}
 use Rattle.mlr_lines.specs.Lines.{last_line}
-use Rattle.mlr_lines.specs.Standing.{behind, given}
+use Rattle.mlr_lines.specs.Represents.{format_after, given}
 use Rattle.mlr_event.specs.declared.event.Ctx.{Ctx}
 use Rattle.mlr_event.specs.declared.names.FileRef.{FileRef}
 use Rattle.mlr_event.specs.declared.options.ReadOpts.{ReadOpts}
 use Rattle.mlr_event.specs.Reading.{Item, ctx_after, events_of}
-use Rattle.mlr_event.specs.Stream.{has_fault, events_behind, ctx_behind}
+use Rattle.mlr_event.specs.Stream.{has_fault, events_after, ctx_after_events}
 use Rattle.mlr_event.proofs.Streams.{events_of-append, ctx_after-append}
 use Rattle.read_xtab_pprint.specs.declared.rules.PprintRules.{PprintRules}
 use Rattle.read_xtab_pprint.specs.Last.{pprint_after_last, pprint_gives_last}
@@ -31,7 +31,7 @@ stays rules text is =
 gives-nothing : (rules : PprintRules) (text : List ℕ) → rules.stopped ≡ true → pprint_events rules text ≡ []
 gives-nothing rules text is = ap (λ s. if s then [] else events_of rules.at (pprint_items rules text)) is
 
-events-by : (texts : List (List ℕ)) (rules : PprintRules) (stopped : Bool) → rules.stopped ≡ stopped → given pprint_after pprint_events rules texts ≡ events_behind stopped rules.at (all_by rules texts)
+events-by : (texts : List (List ℕ)) (rules : PprintRules) (stopped : Bool) → rules.stopped ≡ stopped → given pprint_after pprint_events rules texts ≡ events_after stopped rules.at (all_by rules texts)
 events-by [] rules true is = refl
 events-by [] rules false is = refl
 events-by (text ∷ texts) rules true is =
@@ -41,10 +41,10 @@ events-by (text ∷ texts) rules false is =
     let next : PprintRules = record rules { number = rules.number + 1; header = pprint_header rules.opts rules.header text; at = ctx_after rules.at items; stopped = has_fault items } in
     rw is (ap (λ events. events_of rules.at items ++ events) (events-by texts next (has_fault items) refl) ∙ sym (events_of-append rules.at items (others rules text texts)))
 
-ctx-by : (texts : List (List ℕ)) (rules : PprintRules) (stopped : Bool) → rules.stopped ≡ stopped → (behind pprint_after rules texts).at ≡ ctx_behind stopped rules.at (all_by rules texts)
+ctx-by : (texts : List (List ℕ)) (rules : PprintRules) (stopped : Bool) → rules.stopped ≡ stopped → (format_after pprint_after rules texts).at ≡ ctx_after_events stopped rules.at (all_by rules texts)
 ctx-by [] rules true is = refl
 ctx-by [] rules false is = refl
-ctx-by (text ∷ texts) rules true is = ap (λ r. (behind pprint_after r texts).at) (stays rules text is) ∙ ctx-by texts rules true is
+ctx-by (text ∷ texts) rules true is = ap (λ r. (format_after pprint_after r texts).at) (stays rules text is) ∙ ctx-by texts rules true is
 ctx-by (text ∷ texts) rules false is =
     let items = pprint_items rules text in
     let next : PprintRules = record rules { number = rules.number + 1; header = pprint_header rules.opts rules.header text; at = ctx_after rules.at items; stopped = has_fault items } in
@@ -54,7 +54,7 @@ pub pprint-gives-last : (line : List ℕ) (rules : PprintRules) → pprint_gives
 pprint-gives-last [] rules = refl
 pprint-gives-last (b ∷ line) rules = sym (append-nil (pprint_events rules (b ∷ line)))
 
-pub pprint-after-last : (line : List ℕ) (rules : PprintRules) → pprint_after_last rules line ≡ behind pprint_after rules (last_line line)
+pub pprint-after-last : (line : List ℕ) (rules : PprintRules) → pprint_after_last rules line ≡ format_after pprint_after rules (last_line line)
 pprint-after-last [] rules = refl
 pprint-after-last (b ∷ line) rules = refl
 
@@ -68,5 +68,5 @@ module _ (opts : ReadOpts) (file : FileRef) (start : Ctx) (rules : PprintRules) 
   pub pprint-give : (texts : List (List ℕ)) → given pprint_after pprint_events rules texts ≡ events_of start (pprint_lines opts file 1 None texts)
   pprint-give texts = events-by texts rules false begins.goes_on ∙ ap₂ events_of begins.at_is (all-is texts)
 
-  pub pprint-stand : (texts : List (List ℕ)) → (behind pprint_after rules texts).at ≡ ctx_after start (pprint_lines opts file 1 None texts)
-  pprint-stand texts = ctx-by texts rules false begins.goes_on ∙ ap₂ ctx_after begins.at_is (all-is texts)
+  pub pprint-represent : (texts : List (List ℕ)) → (format_after pprint_after rules texts).at ≡ ctx_after start (pprint_lines opts file 1 None texts)
+  pprint-represent texts = ctx-by texts rules false begins.goes_on ∙ ap₂ ctx_after begins.at_is (all-is texts)

@@ -75,19 +75,19 @@ cut-here b text it_isnt =
 skip : (b : ℕ) (text : List ℕ) → is_space b ≡ true → words_of (b ∷ text) ≡ words_of text
 skip b text it_is = ap (filter is_word) (slice_split-cons_yes is_space b text it_is)
 
-cut-at : (text front : List ℕ) → without_spaces text ≡ front → 0 < length front → IsWordCut text (before_first is_space front) (drop (length (before_first is_space front)) front)
-cut-at [] front is some = absurd (omega (arith, ap length is))
-cut-at (b ∷ text) front is some =
-    elim (cases_Bool (is_space b)) as (λ _. IsWordCut (b ∷ text) (before_first is_space front) (drop (length (before_first is_space front)) front)) [
-      | inl it_is ↦ let later = cut-at text front (sym (spaces-yes b text it_is) ∙ is) some in (skip b text it_is ∙ later.0, omega (arith, later.1))
+cut-at : (text prefix : List ℕ) → without_spaces text ≡ prefix → 0 < length prefix → IsWordCut text (before_first is_space prefix) (drop (length (before_first is_space prefix)) prefix)
+cut-at [] prefix is some = absurd (omega (arith, ap length is))
+cut-at (b ∷ text) prefix is some =
+    elim (cases_Bool (is_space b)) as (λ _. IsWordCut (b ∷ text) (before_first is_space prefix) (drop (length (before_first is_space prefix)) prefix)) [
+      | inl it_is ↦ let later = cut-at text prefix (sym (spaces-yes b text it_is) ∙ is) some in (skip b text it_is ∙ later.0, omega (arith, later.1))
       | inr it_isnt ↦
           subst (λ f. IsWordCut (b ∷ text) (before_first is_space f) (drop (length (before_first is_space f)) f)) (sym (spaces-no b text it_isnt) ∙ is) (cut-here b text it_isnt)
     ]
 
-IsWordCut-from : (text front word rest : List ℕ) → front ≡ without_spaces text → 0 < length front → word ≡ before_first is_space front → rest ≡ drop (length word) front → IsWordCut text word rest
-IsWordCut-from text front word rest is some word-is rest-is =
+IsWordCut-from : (text prefix word rest : List ℕ) → prefix ≡ without_spaces text → 0 < length prefix → word ≡ before_first is_space prefix → rest ≡ drop (length word) prefix → IsWordCut text word rest
+IsWordCut-from text prefix word rest is some word-is rest-is =
     subst (λ r. IsWordCut text word r) (sym rest-is)
-    (subst (λ w. IsWordCut text w (drop (length w) front)) (sym word-is) (cut-at text front (sym is) some))
+    (subst (λ w. IsWordCut text w (drop (length w) prefix)) (sym word-is) (cut-at text prefix (sym is) some))
 
 no-words : (text : List ℕ) → without_spaces text ≡ [] → words_of text ≡ []
 no-words [] is = refl
@@ -97,10 +97,10 @@ no-words (b ∷ text) is =
       | inr it_isnt ↦ absurd (let e : b ∷ text ≡ [] = sym (spaces-no b text it_isnt) ∙ is in cc)
     ]
 
-pub IsWordCut-front : (text front word rest : List ℕ) (empty : Bool) → front ≡ without_spaces text → empty ≡ eqb (length front) 0 → empty ≡ false → word ≡ before_first is_space front → rest ≡ drop (length word) front → IsWordCut text word rest
-IsWordCut-front text [] word rest empty is test some word-is rest-is = absurd (let e : true ≡ false = sym test ∙ some in cc)
-IsWordCut-front text (b ∷ front) word rest empty is test some word-is rest-is = IsWordCut-from text (b ∷ front) word rest is (omega arith) word-is rest-is
+pub IsWordCut-prefix : (text prefix word rest : List ℕ) (empty : Bool) → prefix ≡ without_spaces text → empty ≡ eqb (length prefix) 0 → empty ≡ false → word ≡ before_first is_space prefix → rest ≡ drop (length word) prefix → IsWordCut text word rest
+IsWordCut-prefix text [] word rest empty is test some word-is rest-is = absurd (let e : true ≡ false = sym test ∙ some in cc)
+IsWordCut-prefix text (b ∷ prefix) word rest empty is test some word-is rest-is = IsWordCut-from text (b ∷ prefix) word rest is (omega arith) word-is rest-is
 
-pub no-words-front : (text front : List ℕ) (empty : Bool) → front ≡ without_spaces text → empty ≡ eqb (length front) 0 → empty ≡ true → words_of text ≡ []
-no-words-front text [] empty is test none = no-words text (sym is)
-no-words-front text (b ∷ front) empty is test none = absurd (let e : true ≡ false = sym none ∙ test ∙ never-empty b front in cc)
+pub no-words-prefix : (text prefix : List ℕ) (empty : Bool) → prefix ≡ without_spaces text → empty ≡ eqb (length prefix) 0 → empty ≡ true → words_of text ≡ []
+no-words-prefix text [] empty is test none = no-words text (sym is)
+no-words-prefix text (b ∷ prefix) empty is test none = absurd (let e : true ≡ false = sym none ∙ test ∙ never-empty b prefix in cc)

@@ -5,19 +5,19 @@ use Rattle.std.proofs.lemmas.List.{append-nil}
 use Rattle.mlr_spec.specs.Infer.{tree_of_data}
 use Rattle.mlr_spec.specs.Tree.{Tree}
 use Rattle.mlr_lines.specs.Lines.{last_line}
-use Rattle.mlr_lines.specs.Standing.{behind, given}
+use Rattle.mlr_lines.specs.Represents.{format_after, given}
 use Rattle.mlr_event.specs.declared.event.Ctx.{Ctx}
 use Rattle.mlr_event.specs.declared.options.ReadOpts.{ReadOpts}
 use Rattle.mlr_event.specs.Reading.{Item, comment_items, ctx_after, events_of, is_comment, record_of}
 use Rattle.mlr_event.specs.Rows.{with_field, with_fields}
-use Rattle.mlr_event.specs.Stream.{has_fault, events_behind, ctx_behind}
+use Rattle.mlr_event.specs.Stream.{has_fault, events_after, ctx_after_events}
 use Rattle.mlr_event.proofs.Putting.{record_of-is, with_fields-more, with_fields-none}
 use Rattle.mlr_event.proofs.Streams.{ctx_after-append, ctx_after-comment, events_of-append, has_fault-append, has_fault-comment}
 use Rattle.read_xtab_pprint.specs.declared.rules.XtabRules.{XtabRules}
 use Rattle.read_xtab_pprint.specs.Last.{xtab_after_last, xtab_gives_last}
 use Rattle.read_xtab_pprint.specs.Rules.{XtabBegins}
 use Rattle.read_xtab_pprint.specs.Xtab.{is_gap, key_in, record_items, value_in, without_spaces, xtab_from, xtab_rest}
-use Rattle.read_xtab_pprint.specs.XtabRules.{behind_gap, begun_items, gap_events, with_text, xtab_after, xtab_events}
+use Rattle.read_xtab_pprint.specs.XtabRules.{after_gap, begun_items, gap_events, with_text, xtab_after, xtab_events}
 
 -- the record of the lines so far
 abbrev value_by : ReadOpts → List ℕ → Tree
@@ -66,10 +66,10 @@ record Holds (rules : XtabRules) (passed : List Item) (lines : List (List ℕ)) 
 
 -- behind items without a fault
 events-on : (at : Ctx) (items more : List Item) → has_fault items ≡ false → events_of at (items ++ more) ≡ events_of at items ++ events_of (ctx_after at items) more
-events-on at items more none = events_of-append at items more ∙ ap (λ t. events_of at items ++ events_behind t (ctx_after at items) more) none
+events-on at items more none = events_of-append at items more ∙ ap (λ t. events_of at items ++ events_after t (ctx_after at items) more) none
 
 ctx-on : (at : Ctx) (items more : List Item) → has_fault items ≡ false → ctx_after at (items ++ more) ≡ ctx_after (ctx_after at items) more
-ctx-on at items more none = ctx_after-append at items more ∙ ap (λ t. ctx_behind t (ctx_after at items) more) none
+ctx-on at items more none = ctx_after-append at items more ∙ ap (λ t. ctx_after_events t (ctx_after at items) more) none
 
 no-fault : (items more : List Item) → has_fault items ≡ false → has_fault more ≡ false → has_fault (items ++ more) ≡ false
 no-fault items more none none_more = has_fault-append items more ∙ rw none none_more
@@ -79,7 +79,7 @@ record-sound opts [] = refl
 record-sound opts (line ∷ lines) = refl
 
 gap-gives : (rules : XtabRules) (passed : List Item) (lines : List (List ℕ)) → Holds rules passed lines
-    → (gap_events rules ≡ events_of rules.at (passed ++ record_items rules.opts lines)) × ((behind_gap rules).at ≡ ctx_after rules.at (passed ++ record_items rules.opts lines))
+    → (gap_events rules ≡ events_of rules.at (passed ++ record_items rules.opts lines)) × ((after_gap rules).at ≡ ctx_after rules.at (passed ++ record_items rules.opts lines))
 gap-gives rules passed lines holds =
     let record_is : begun_items rules.begun ≡ record_items rules.opts lines = ap begun_items holds.begun_is ∙ begun-items rules.opts lines in (
       ap₂ (λ events items. events ++ events_of rules.at items) holds.passed_are record_is
@@ -92,10 +92,10 @@ gap-gives rules passed lines holds =
 -- what lines come to
 record Comes (rules : XtabRules) (passed : List Item) (lines texts : List (List ℕ)) : Type 0 where
   events : given xtab_after xtab_events rules texts ≡ events_of rules.at (xtab_from rules.opts passed lines texts)
-  at_is : (behind xtab_after rules texts).at ≡ ctx_after rules.at (xtab_from rules.opts passed lines texts)
+  at_is : (format_after xtab_after rules texts).at ≡ ctx_after rules.at (xtab_from rules.opts passed lines texts)
   goes_on : has_fault (xtab_from rules.opts passed lines texts) ≡ false
-  rest_gives : gap_events (behind xtab_after rules texts) ≡ events_of (ctx_after rules.at (xtab_from rules.opts passed lines texts)) (xtab_rest rules.opts passed lines texts)
-  rest_at : (behind_gap (behind xtab_after rules texts)).at ≡ ctx_after (ctx_after rules.at (xtab_from rules.opts passed lines texts)) (xtab_rest rules.opts passed lines texts)
+  rest_gives : gap_events (format_after xtab_after rules texts) ≡ events_of (ctx_after rules.at (xtab_from rules.opts passed lines texts)) (xtab_rest rules.opts passed lines texts)
+  rest_at : (after_gap (format_after xtab_after rules texts)).at ≡ ctx_after (ctx_after rules.at (xtab_from rules.opts passed lines texts)) (xtab_rest rules.opts passed lines texts)
 
 -- a line that gives nothing yet
 comes-quiet : (rules next : XtabRules) (passed passed_next : List Item) (lines lines_next texts : List (List ℕ)) (text : List ℕ)
@@ -107,18 +107,18 @@ comes-quiet rules next passed passed_next lines lines_next texts text after give
     let at_from = ap₂ ctx_after at_same (sym from) in
     record {
       events = ap₂ (λ events r. events ++ given xtab_after xtab_events r texts) gives after ∙ later.events ∙ ap₂ events_of at_same (sym from);
-      at_is = ap (λ r. (behind xtab_after r texts).at) after ∙ later.at_is ∙ at_from;
+      at_is = ap (λ r. (format_after xtab_after r texts).at) after ∙ later.at_is ∙ at_from;
       goes_on = ap has_fault from ∙ later.goes_on;
-      rest_gives = ap (λ r. gap_events (behind xtab_after r texts)) after ∙ later.rest_gives ∙ ap₂ events_of at_from (sym rest);
-      rest_at = ap (λ r. (behind_gap (behind xtab_after r texts)).at) after ∙ later.rest_at ∙ ap₂ ctx_after at_from (sym rest);
+      rest_gives = ap (λ r. gap_events (format_after xtab_after r texts)) after ∙ later.rest_gives ∙ ap₂ events_of at_from (sym rest);
+      rest_at = ap (λ r. (after_gap (format_after xtab_after r texts)).at) after ∙ later.rest_at ∙ ap₂ ctx_after at_from (sym rest);
     }
 
 -- an empty line
 comes-gap : (rules : XtabRules) (passed : List Item) (lines texts : List (List ℕ)) (text : List ℕ) → Holds rules passed lines
-    → xtab_after rules text ≡ behind_gap rules → xtab_events rules text ≡ gap_events rules
+    → xtab_after rules text ≡ after_gap rules → xtab_events rules text ≡ gap_events rules
     → xtab_from rules.opts passed lines (text ∷ texts) ≡ (passed ++ record_items rules.opts lines) ++ xtab_from rules.opts [] [] texts
     → xtab_rest rules.opts passed lines (text ∷ texts) ≡ xtab_rest rules.opts [] [] texts
-    → Comes (behind_gap rules) [] [] texts → Comes rules passed lines (text ∷ texts)
+    → Comes (after_gap rules) [] [] texts → Comes rules passed lines (text ∷ texts)
 comes-gap rules passed lines texts text holds after gives from rest later =
     let given_here = record_items rules.opts lines in
     let here = passed ++ given_here in
@@ -126,16 +126,16 @@ comes-gap rules passed lines texts text holds after gives from rest later =
     let gap = gap-gives rules passed lines holds in
     let sound : has_fault here ≡ false = no-fault passed given_here holds.goes_on (record-sound rules.opts lines) in
     let all : here ++ more ≡ xtab_from rules.opts passed lines (text ∷ texts) = sym from in
-    let at_all : ctx_after (behind_gap rules).at more ≡ ctx_after rules.at (xtab_from rules.opts passed lines (text ∷ texts)) =
+    let at_all : ctx_after (after_gap rules).at more ≡ ctx_after rules.at (xtab_from rules.opts passed lines (text ∷ texts)) =
     ap (λ at. ctx_after at more) gap.1 ∙ sym (ctx-on rules.at here more sound) ∙ ap (ctx_after rules.at) all in
     record {
       events = ap₂ (λ events r. events ++ given xtab_after xtab_events r texts) gives after
           ∙ ap₂ (λ events others. events ++ others) gap.0 (later.events ∙ ap (λ at. events_of at more) gap.1)
           ∙ sym (events-on rules.at here more sound) ∙ ap (events_of rules.at) all;
-      at_is = ap (λ r. (behind xtab_after r texts).at) after ∙ later.at_is ∙ at_all;
+      at_is = ap (λ r. (format_after xtab_after r texts).at) after ∙ later.at_is ∙ at_all;
       goes_on = ap has_fault (sym all) ∙ no-fault here more sound later.goes_on;
-      rest_gives = ap (λ r. gap_events (behind xtab_after r texts)) after ∙ later.rest_gives ∙ ap₂ events_of at_all (sym rest);
-      rest_at = ap (λ r. (behind_gap (behind xtab_after r texts)).at) after ∙ later.rest_at ∙ ap₂ ctx_after at_all (sym rest);
+      rest_gives = ap (λ r. gap_events (format_after xtab_after r texts)) after ∙ later.rest_gives ∙ ap₂ events_of at_all (sym rest);
+      rest_at = ap (λ r. (after_gap (format_after xtab_after r texts)).at) after ∙ later.rest_at ∙ ap₂ ctx_after at_all (sym rest);
     }
 
 holds-comment : (rules : XtabRules) (passed : List Item) (lines : List (List ℕ)) (text : List ℕ) → Holds rules passed lines
@@ -173,7 +173,7 @@ comes (text ∷ texts) rules passed lines holds =
       | inr isnt ↦ elim (cases_Bool (is_gap text)) as (λ _. Comes rules passed lines (text ∷ texts)) [
         | inl gap ↦
             comes-gap rules passed lines texts text holds (rw isnt (rw gap refl)) (rw isnt (rw gap refl)) (rw isnt (rw gap refl)) (rw isnt (rw gap refl))
-            (comes texts (behind_gap rules) [] [] (record { passed_are = refl; begun_is = refl; at_stays = refl; goes_on = refl }))
+            (comes texts (after_gap rules) [] [] (record { passed_are = refl; begun_is = refl; at_stays = refl; goes_on = refl }))
         | inr line ↦
             let next : XtabRules = record rules { begun = with_text opts (without_spaces text) rules.begun } in
             comes-quiet rules next passed passed lines (lines ++ text ∷ []) texts text (rw isnt (rw line refl)) (rw isnt (rw line refl)) refl (rw isnt (rw line refl)) (rw isnt (rw line refl))
@@ -181,11 +181,11 @@ comes (text ∷ texts) rules passed lines holds =
       ]
     ]
 
-pub xtab-gives-last : (line : List ℕ) (rules : XtabRules) → xtab_gives_last rules line ≡ given xtab_after xtab_events rules (last_line line) ++ gap_events (behind xtab_after rules (last_line line))
+pub xtab-gives-last : (line : List ℕ) (rules : XtabRules) → xtab_gives_last rules line ≡ given xtab_after xtab_events rules (last_line line) ++ gap_events (format_after xtab_after rules (last_line line))
 xtab-gives-last [] rules = refl
 xtab-gives-last (b ∷ line) rules = ap (λ events. events ++ gap_events (xtab_after rules (b ∷ line))) (sym (append-nil (xtab_events rules (b ∷ line))))
 
-pub xtab-after-last : (line : List ℕ) (rules : XtabRules) → xtab_after_last rules line ≡ behind_gap (behind xtab_after rules (last_line line))
+pub xtab-after-last : (line : List ℕ) (rules : XtabRules) → xtab_after_last rules line ≡ after_gap (format_after xtab_after rules (last_line line))
 xtab-after-last [] rules = refl
 xtab-after-last (b ∷ line) rules = refl
 
@@ -196,14 +196,14 @@ module _ (opts : ReadOpts) (start : Ctx) (rules : XtabRules) (begins : XtabBegin
   pub xtab-give : (texts : List (List ℕ)) → given xtab_after xtab_events rules texts ≡ events_of start (xtab_from opts [] [] texts)
   xtab-give texts = let come_to = come texts in come_to.events ∙ ap₂ (λ at o. events_of at (xtab_from o [] [] texts)) begins.at_is begins.opts_are
 
-  pub xtab-stand : (texts : List (List ℕ)) → (behind xtab_after rules texts).at ≡ ctx_after start (xtab_from opts [] [] texts)
-  xtab-stand texts = let come_to = come texts in come_to.at_is ∙ ap₂ (λ at o. ctx_after at (xtab_from o [] [] texts)) begins.at_is begins.opts_are
+  pub xtab-represent : (texts : List (List ℕ)) → (format_after xtab_after rules texts).at ≡ ctx_after start (xtab_from opts [] [] texts)
+  xtab-represent texts = let come_to = come texts in come_to.at_is ∙ ap₂ (λ at o. ctx_after at (xtab_from o [] [] texts)) begins.at_is begins.opts_are
 
   sound : (texts : List (List ℕ)) → has_fault (xtab_from opts [] [] texts) ≡ false
   sound texts = let come_to = come texts in ap (λ o. has_fault (xtab_from o [] [] texts)) (sym begins.opts_are) ∙ come_to.goes_on
 
   -- the end gives what stands behind the last empty line
-  pub xtab-last : (texts : List (List ℕ)) → events_of start (xtab_from opts [] [] texts) ++ gap_events (behind xtab_after rules texts) ≡ events_of start (xtab_from opts [] [] texts ++ xtab_rest opts [] [] texts)
+  pub xtab-last : (texts : List (List ℕ)) → events_of start (xtab_from opts [] [] texts) ++ gap_events (format_after xtab_after rules texts) ≡ events_of start (xtab_from opts [] [] texts ++ xtab_rest opts [] [] texts)
   xtab-last texts =
       let come_to = come texts in
       let from = xtab_from opts [] [] texts in
@@ -212,7 +212,7 @@ module _ (opts : ReadOpts) (start : Ctx) (rules : XtabRules) (begins : XtabBegin
       )
       ∙ sym (events-on start from (xtab_rest opts [] [] texts) (sound texts))
 
-  pub xtab-last-at : (texts : List (List ℕ)) → (behind_gap (behind xtab_after rules texts)).at ≡ ctx_after start (xtab_from opts [] [] texts ++ xtab_rest opts [] [] texts)
+  pub xtab-last-at : (texts : List (List ℕ)) → (after_gap (format_after xtab_after rules texts)).at ≡ ctx_after start (xtab_from opts [] [] texts ++ xtab_rest opts [] [] texts)
   xtab-last-at texts =
       let come_to = come texts in
       come_to.rest_at ∙ ap₂ (λ at o. ctx_after (ctx_after at (xtab_from o [] [] texts)) (xtab_rest o [] [] texts)) begins.at_is begins.opts_are

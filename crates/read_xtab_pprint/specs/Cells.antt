@@ -1,10 +1,11 @@
 -- The cells of a line, one by one.
 use Rattle.std.specs.Prelude.{◌≡◌, ◌<◌, ◌==◌, if◌then◌else◌, ℕ, Bool, true, false, List, [], ◌∷◌, length, Some}
+use Rattle.mlr_spec.specs.Ascii.{vertical_bar}
 use Rattle.read_xtab_pprint.specs.Pprint.{cells_of, is_bar, words_of}
 
 abbrev pub is_barred : List ℕ → Bool
 is_barred [] = false
-is_barred (b ∷ line) = b == 124
+is_barred (b ∷ line) = b == vertical_bar
 
 -- each second word
 abbrev pub second_words : List (List ℕ) → List (List ℕ)

@@ -23,7 +23,7 @@ use Rattle.read_xtab_pprint.specs.PprintRules.{pprint_after, pprint_count, pprin
 use Rattle.read_xtab_pprint.specs.Last.{pprint_after_last, xtab_after_last}
 use Rattle.read_xtab_pprint.specs.Rules.{after_last, after_line, at_of, count_of}
 use Rattle.read_xtab_pprint.specs.Xtab.{is_gap, without_spaces}
-use Rattle.read_xtab_pprint.specs.XtabRules.{behind_gap, begun_items, begun_pairs, with_text, xtab_after, xtab_count}
+use Rattle.read_xtab_pprint.specs.XtabRules.{after_gap, begun_items, begun_pairs, with_text, xtab_after, xtab_count}
 
 length-put_at : (key : List ℕ) (value : Tree) (pairs : List (List ℕ × Tree)) → length (put_at key value pairs) ≤ length pairs + 1
 length-put_at key value [] = omega arith
@@ -95,7 +95,7 @@ count-line (by.Xtab rules) line = count-xtab rules (without_return line)
 
 -- the end gives a record at most
 gap-by : (passes gap : Bool) (rules : XtabRules) (line : List ℕ) → is_comment rules.opts.comments line ≡ passes → is_gap line ≡ gap
-    → xtab_count (behind_gap (xtab_after rules line)) ≤ xtab_count rules + 1
+    → xtab_count (after_gap (xtab_after rules line)) ≤ xtab_count rules + 1
 gap-by true gap rules line is gap_is =
     let one = one-record rules.at (begun_items rules.begun) (few-begun rules.begun) in
     rw is (omega (arith, one.0, one.1))

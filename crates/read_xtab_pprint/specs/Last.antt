@@ -4,7 +4,7 @@ use Rattle.mlr_event.specs.declared.event.Event.{Event}
 use Rattle.read_xtab_pprint.specs.declared.rules.PprintRules.{PprintRules}
 use Rattle.read_xtab_pprint.specs.declared.rules.XtabRules.{XtabRules}
 use Rattle.read_xtab_pprint.specs.PprintRules.{pprint_after, pprint_events}
-use Rattle.read_xtab_pprint.specs.XtabRules.{behind_gap, gap_events, xtab_after, xtab_events}
+use Rattle.read_xtab_pprint.specs.XtabRules.{after_gap, gap_events, xtab_after, xtab_events}
 
 abbrev pub pprint_after_last : PprintRules → List ℕ → PprintRules
 pprint_after_last rules [] = rules
@@ -16,8 +16,8 @@ pprint_gives_last rules (b ∷ line) = pprint_events rules (b ∷ line)
 
 -- the end gives the record that has begun
 abbrev pub xtab_after_last : XtabRules → List ℕ → XtabRules
-xtab_after_last rules [] = behind_gap rules
-xtab_after_last rules (b ∷ line) = behind_gap (xtab_after rules (b ∷ line))
+xtab_after_last rules [] = after_gap rules
+xtab_after_last rules (b ∷ line) = after_gap (xtab_after rules (b ∷ line))
 
 abbrev pub xtab_gives_last : XtabRules → List ℕ → List Event
 xtab_gives_last rules [] = gap_events rules

@@ -1,7 +1,7 @@
 pub mod Xtab
 pub mod Pprint
 pub mod Blocks
-pub mod Fronts
+pub mod Prefixes
 pub mod Words
 pub mod Cells
 pub mod PprintRules
@@ -10,4 +10,4 @@ pub mod Usable
 pub mod Last
 pub mod Rules
 pub mod Counting
-pub mod Standing
+pub mod Represents

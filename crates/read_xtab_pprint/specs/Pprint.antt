@@ -2,6 +2,7 @@
 use Rattle.std.specs.Prelude.{ℕ, ◌+◌, if◌then◌else◌, Bool, false, not, ◌||◌, ◌==◌, List, [], ◌∷◌, ◌++◌, map, length, Option, Some, None}
 use Rattle.std.specs.List.{filter, slice_split}
 use Rattle.std.specs.Str.{bytes_eq}
+use Rattle.mlr_spec.specs.Ascii.{space, plus_sign, vertical_bar}
 use Rattle.mlr_spec.specs.Infer.{tree_of_data}
 use Rattle.mlr_event.specs.declared.names.FileRef.{FileRef}
 use Rattle.mlr_event.specs.declared.fault.Fault.TheVariants.{Length, Table}
@@ -10,10 +11,10 @@ use Rattle.mlr_event.specs.Reading.{Item, fields, fault, is_comment, comment_ite
 
 -- the texts between runs of spaces
 abbrev pub words_of : List ℕ → List (List ℕ)
-words_of line = filter (λ word. not (length word == 0)) (slice_split (λ b. b == 32) line)
+words_of line = filter (λ word. not (length word == 0)) (slice_split (λ b. b == space) line)
 
 abbrev pub is_bar : List ℕ → Bool
-is_bar word = bytes_eq word (124 ∷ [])
+is_bar word = bytes_eq word (vertical_bar ∷ [])
 
 -- the words between bars that take turns with them, the first and the last of which are bars
 abbrev pub between_bars : List (List ℕ) → Option (List (List ℕ))
@@ -31,12 +32,12 @@ some_cells (Some (cell ∷ cells)) = Some (cell ∷ cells)
 -- the cells of a line; None of a line that begins with a bar and has another form
 abbrev pub cells_of : List ℕ → Option (List (List ℕ))
 cells_of [] = Some []
-cells_of (b ∷ line) = if b == 124 then some_cells (between_bars (words_of (b ∷ line))) else Some (words_of (b ∷ line))
+cells_of (b ∷ line) = if b == vertical_bar then some_cells (between_bars (words_of (b ∷ line))) else Some (words_of (b ∷ line))
 
 -- a line that begins with `+` is a rule of a table with bars
 abbrev pub is_rule : List ℕ → Bool
 is_rule [] = false
-is_rule (b ∷ line) = b == 43
+is_rule (b ∷ line) = b == plus_sign
 
 abbrev pub row : ReadOpts → FileRef → ℕ → List (List ℕ) → List (List ℕ) → List Item
 row opts file n header cells =
@@ -49,10 +50,10 @@ cells_items opts file n header None = fault (Table file n) ∷ []
 cells_items opts file n None (Some cells) = []
 cells_items opts file n (Some header) (Some cells) = row opts file n header cells
 
-abbrev pub header_behind : Option (List (List ℕ)) → Option (List (List ℕ)) → Option (List (List ℕ))
-header_behind header None = header
-header_behind None (Some cells) = Some cells
-header_behind (Some header) (Some cells) = Some header
+abbrev pub header_after : Option (List (List ℕ)) → Option (List (List ℕ)) → Option (List (List ℕ))
+header_after header None = header
+header_after None (Some cells) = Some cells
+header_after (Some header) (Some cells) = Some header
 
 -- what the line with number n gives, under the header of its block if that has come, and the header behind it; an empty
 -- line ends a block
@@ -64,7 +65,7 @@ pprint_line opts file n header line =
 abbrev pub pprint_header : ReadOpts → Option (List (List ℕ)) → List ℕ → Option (List (List ℕ))
 pprint_header opts header line =
     if is_comment opts.comments line || is_rule line then header else (
-    if length line == 0 then None else header_behind header (cells_of line))
+    if length line == 0 then None else header_after header (cells_of line))
 
 abbrev pub pprint_lines : ReadOpts → FileRef → ℕ → Option (List (List ℕ)) → List (List ℕ) → List Item
 pprint_lines opts file n header [] = []

@@ -8,7 +8,7 @@ use Rattle.mlr_event.specs.Stream.{has_fault}
 use Rattle.read_xtab_pprint.specs.declared.row.Row.{Row}
 use Rattle.read_xtab_pprint.specs.declared.row.Row.TheVariants as row
 use Rattle.read_xtab_pprint.specs.declared.rules.PprintRules.{PprintRules}
-use Rattle.read_xtab_pprint.specs.Pprint.{cells_items, cells_of, header_behind, is_rule, pprint_header, pprint_line}
+use Rattle.read_xtab_pprint.specs.Pprint.{cells_items, cells_of, header_after, is_rule, pprint_header, pprint_line}
 
 abbrev pub row_items : Row → List Item
 row_items row.Nothing = []
@@ -20,11 +20,11 @@ abbrev pub plain_items : ReadOpts → FileRef → ℕ → Option (List (List ℕ
 plain_items opts file n header line = if is_rule line || length line == 0 then [] else cells_items opts file n header (cells_of line)
 
 abbrev pub plain_header : Option (List (List ℕ)) → List ℕ → Option (List (List ℕ))
-plain_header header line = if is_rule line then header else (if length line == 0 then None else header_behind header (cells_of line))
+plain_header header line = if is_rule line then header else (if length line == 0 then None else header_after header (cells_of line))
 
 -- the rules behind it, but for the number
-abbrev pub behind_row : PprintRules → List ℕ → PprintRules
-behind_row rules line =
+abbrev pub after_row : PprintRules → List ℕ → PprintRules
+after_row rules line =
     let items = plain_items rules.opts rules.file rules.number rules.header line in
     record rules { header = plain_header rules.header line; at = ctx_after rules.at items; stopped = has_fault items }
 

@@ -1,12 +1,13 @@
 -- XTAB: a record is a run of lines, each a key and a value; empty lines stand between records.
 use Rattle.std.specs.Prelude.{ℕ, if◌then◌else◌, Bool, ◌==◌, List, [], ◌∷◌, ◌++◌, map, length, drop}
 use Rattle.std.specs.List.{prefix_len, before_first}
+use Rattle.mlr_spec.specs.Ascii.{space}
 use Rattle.mlr_spec.specs.Infer.{tree_of_data}
 use Rattle.mlr_event.specs.declared.options.ReadOpts.{ReadOpts}
 use Rattle.mlr_event.specs.Reading.{Item, fields, is_comment, comment_items, record_of}
 
 abbrev pub is_space : ℕ → Bool
-is_space b = b == 32
+is_space b = b == space
 
 abbrev pub without_spaces : List ℕ → List ℕ
 without_spaces text = drop (prefix_len is_space text) text

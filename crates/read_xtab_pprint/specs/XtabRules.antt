@@ -29,14 +29,14 @@ with_text opts text begun =
 abbrev pub gap_events : XtabRules → List Event
 gap_events rules = rules.passed ++ events_of rules.at (begun_items rules.begun)
 
-abbrev pub behind_gap : XtabRules → XtabRules
-behind_gap rules = record rules { passed = []; begun = None; at = ctx_after rules.at (begun_items rules.begun) }
+abbrev pub after_gap : XtabRules → XtabRules
+after_gap rules = record rules { passed = []; begun = None; at = ctx_after rules.at (begun_items rules.begun) }
 
 -- a line without its end
 abbrev pub xtab_after : XtabRules → List ℕ → XtabRules
 xtab_after rules line =
     if is_comment rules.opts.comments line then record rules { passed = rules.passed ++ events_of rules.at (comment_items rules.opts.comments line) } else (
-    if is_gap line then behind_gap rules else record rules { begun = with_text rules.opts (without_spaces line) rules.begun })
+    if is_gap line then after_gap rules else record rules { begun = with_text rules.opts (without_spaces line) rules.begun })
 
 abbrev pub xtab_events : XtabRules → List ℕ → List Event
 xtab_events rules line = if is_comment rules.opts.comments line then [] else (if is_gap line then gap_events rules else [])

@@ -42,7 +42,7 @@ fn takes_turns(line: &[u8]) -> bool
         }
         match next_word(rest) {
             None => return true,
-            Some((_, behind)) => left = behind,
+            Some((_, following)) => left = following,
         }
     }
     false
@@ -68,7 +68,8 @@ fn count_left(barred: bool, line: &[u8]) -> usize
 
 /// The next cell, behind a bar where the cells stand between bars, and the text behind it.
 pub(crate) fn next_cell(barred: bool, text: &[u8]) -> Option<(&[u8], &[u8])>
-    ensures { MatchOption result (cells_left barred (words_of text.now) ≡ []) (λ cut. IsCellCut barred text.now cut.0.now cut.1.now) }
+    ensures { MatchOption result (cells_left barred (words_of text.now) ≡ [])
+        (λ cut. IsCellCut barred text.now cut.0.now cut.1.now) }
 {
     if !barred {
         return next_word(text);

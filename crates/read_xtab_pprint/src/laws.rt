@@ -4,16 +4,25 @@ ghost use Rattle.mlr_event.specs.declared.event.Event.{Event};
 ghost use Rattle.mlr_event.specs.declared.names.FileRef.{FileRef};
 ghost use Rattle.mlr_event.specs.declared.options.Format.TheVariants as format;
 ghost use Rattle.mlr_event.specs.declared.options.ReadOpts.{ReadOpts};
-ghost use Rattle.mlr_lines.specs.Fronts.{ended_front};
+ghost use Rattle.mlr_lines.specs.Prefixes.{ended_prefix};
 ghost use Rattle.read_xtab_pprint.specs.Blocks.{block_fed, block_read};
-ghost use Rattle.read_xtab_pprint.specs.Fronts.{gap_front};
+ghost use Rattle.read_xtab_pprint.specs.Prefixes.{gap_prefix};
 
 /// What a front of a file fixes: it stays whatever follows, and it is what a shorter front stands for as a whole file.
 /// In PPRINT that is the longest one that ends with a line end, in XTAB the longest one that ends with the line end of
 /// an empty line. It does nothing.
-pub fn front_laws()
-    ensures fed { (opts : ReadOpts) (file : FileRef) (start : Ctx) (bytes rest : List ℕ) → (more : List Event) × (block_fed opts file start (bytes ++ rest) ≡ block_fed opts file start bytes ++ more) }
-    ensures read { (opts : ReadOpts) (file : FileRef) (start : Ctx) (bytes rest : List ℕ) → (more : List Event) × (block_read opts file start (bytes ++ rest) ≡ block_fed opts file start bytes ++ more) }
-    ensures front { (opts : ReadOpts) (file : FileRef) (start : Ctx) (bytes : List ℕ) → opts.format ≡ format.Pprint → block_fed opts file start bytes ≡ block_read opts file start (ended_front bytes) }
-    ensures gap { (opts : ReadOpts) (file : FileRef) (start : Ctx) (bytes : List ℕ) → opts.format ≡ format.Xtab → block_fed opts file start bytes ≡ block_read opts file start (gap_front opts.comments bytes) }
+pub fn prefix_laws()
+    ensures fed { (opts : ReadOpts) (file : FileRef) (start : Ctx) (bytes rest : List ℕ)
+        → (more : List Event)
+        × (block_fed opts file start (bytes ++ rest) ≡ block_fed opts file start bytes ++ more) }
+    ensures read { (opts : ReadOpts) (file : FileRef) (start : Ctx) (bytes rest : List ℕ)
+        → (more : List Event)
+        × (block_read opts file start (bytes ++ rest) ≡ block_fed opts file start bytes ++ more) }
+    ensures prefix { (opts : ReadOpts) (file : FileRef) (start : Ctx) (bytes : List ℕ)
+        → opts.format ≡ format.Pprint
+        → block_fed opts file start bytes ≡ block_read opts file start (ended_prefix bytes) }
+    ensures gap { (opts : ReadOpts) (file : FileRef) (start : Ctx) (bytes : List ℕ)
+        → opts.format ≡ format.Xtab
+        → block_fed opts file start bytes
+        ≡ block_read opts file start (gap_prefix opts.comments bytes) }
 {}

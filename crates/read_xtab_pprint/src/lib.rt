@@ -3,16 +3,16 @@
 
 mod cells;
 mod laws;
+mod line_step;
 mod pprint;
 mod reader;
 mod row;
 mod rules;
 mod table;
-mod take;
 #[cfg(test)]
 mod tests;
 mod words;
 mod xtab;
 
-pub use laws::front_laws;
+pub use laws::prefix_laws;
 pub use reader::{BlockReader, can_read};

@@ -1,7 +1,7 @@
 ghost use Rattle.std.specs.Prelude.{◌≡◌, ◌^◌, ◌<◌, ◌++◌, OnOk, false};
 ghost use Rattle.mlr_event.specs.Reading.{events_of};
 ghost use Rattle.read_xtab_pprint.specs.Last.{pprint_after_last, pprint_gives_last};
-ghost use Rattle.read_xtab_pprint.specs.PprintRules.{behind_row, plain_items, pprint_after, pprint_count, pprint_events};
+ghost use Rattle.read_xtab_pprint.specs.PprintRules.{after_row, plain_items, pprint_after, pprint_count, pprint_events};
 
 use crate::row::Row;
 use crate::rules::PprintRules;
@@ -45,8 +45,10 @@ impl PprintRules {
     fn take_row(&mut self, line: &[u8], out: &mut Events) -> Result<(), NoMemory>
         requires count { pprint_count self.old < 2 ^ 63 }
         requires goes_on { self.old.stopped ≡ false }
-        ensures state { OnOk result (self.new ≡ behind_row self.old line.now) }
-        ensures events { OnOk result (out.new ≡ out.old ++ events_of self.old.at (plain_items self.old.opts self.old.file self.old.number self.old.header line.now)) }
+        ensures state { OnOk result (self.new ≡ after_row self.old line.now) }
+        ensures events { OnOk result (out.new ≡ out.old
+            ++ events_of self.old.at (plain_items self.old.opts self.old.file self.old.number
+            self.old.header line.now)) }
     {
         let place = Place {
             file: self.file,

@@ -5,7 +5,7 @@ ghost use Rattle.mlr_event.specs.declared.options.ReadOpts.{ReadOpts};
 ghost use Rattle.mlr_event.specs.Adding.{Adds};
 ghost use Rattle.read_xtab_pprint.specs.Blocks.{block_fed, block_read};
 ghost use Rattle.read_xtab_pprint.specs.Rules.{Begins, count_of};
-ghost use Rattle.read_xtab_pprint.specs.Standing.{CanTake, HasEnded, IsBroken, IsOpen, StandsFor, StandsForWhole, ctx_fed, ctx_read, used};
+ghost use Rattle.read_xtab_pprint.specs.Represents.{CanTake, HasEnded, IsBroken, IsOpen, Represents, RepresentsWhole, ctx_fed, ctx_read, used};
 ghost use Rattle.read_xtab_pprint.specs.Usable.{is_usable};
 
 use crate::rules::{BlockRules, PprintRules, XtabRules};
@@ -78,7 +78,7 @@ impl BlockReader {
         requires usable { is_usable opts.now ≡ true }
         requires nr { start.nr ≤ 2 ^ 62 }
         requires fnr { start.fnr ≤ 2 ^ 62 }
-        ensures stands { IfOk result (λ reader. StandsFor opts.now file start reader []) }
+        ensures represents { IfOk result (λ reader. Represents opts.now file start reader []) }
         ensures open { IfOk result (λ reader. IsOpen reader) }
         ensures room { IfOk result (λ reader. used reader ≤ max 1 (max start.nr start.fnr)) }
     {
@@ -92,8 +92,15 @@ impl BlockReader {
     /// nothing.
     pub fn feed(&mut self, piece: &[u8], out: &mut Events) -> Result<(), NoMemory>
         requires { CanTake self.old (length piece.now) }
-        ensures stands { OnOk result ((opts : ReadOpts) (file : FileRef) (start : Ctx) (bytes : List ℕ) → StandsFor opts file start self.old bytes → StandsFor opts file start self.new (bytes ++ piece.now)) }
-        ensures adds { OnOk result ((opts : ReadOpts) (file : FileRef) (start : Ctx) (bytes : List ℕ) → StandsFor opts file start self.old bytes → Adds out.old out.new (block_fed opts file start bytes) (block_fed opts file start (bytes ++ piece.now))) }
+        ensures represents { OnOk result ((opts : ReadOpts) (file : FileRef) (start : Ctx)
+            (bytes : List ℕ)
+            → Represents opts file start self.old bytes
+            → Represents opts file start self.new (bytes ++ piece.now)) }
+        ensures adds { OnOk result ((opts : ReadOpts) (file : FileRef) (start : Ctx)
+            (bytes : List ℕ)
+            → Represents opts file start self.old bytes
+            → Adds out.old out.new (block_fed opts file start bytes)
+            (block_fed opts file start (bytes ++ piece.now))) }
         ensures open { OnOk result (IsOpen self.new) }
         ensures room { OnOk result (used self.new ≤ used self.old + length piece.now) }
         ensures err { OnErr result (IsBroken self.new) }
@@ -105,8 +112,15 @@ impl BlockReader {
     /// behind `out`.
     pub fn end(&mut self, out: &mut Events) -> Result<(), NoMemory>
         requires { CanTake self.old 0 }
-        ensures stands { OnOk result ((opts : ReadOpts) (file : FileRef) (start : Ctx) (bytes : List ℕ) → StandsFor opts file start self.old bytes → StandsForWhole opts file start self.new bytes) }
-        ensures adds { OnOk result ((opts : ReadOpts) (file : FileRef) (start : Ctx) (bytes : List ℕ) → StandsFor opts file start self.old bytes → Adds out.old out.new (block_fed opts file start bytes) (block_read opts file start bytes)) }
+        ensures represents { OnOk result ((opts : ReadOpts) (file : FileRef) (start : Ctx)
+            (bytes : List ℕ)
+            → Represents opts file start self.old bytes
+            → RepresentsWhole opts file start self.new bytes) }
+        ensures adds { OnOk result ((opts : ReadOpts) (file : FileRef) (start : Ctx)
+            (bytes : List ℕ)
+            → Represents opts file start self.old bytes
+            → Adds out.old out.new (block_fed opts file start bytes)
+            (block_read opts file start bytes)) }
         ensures ended { OnOk result (HasEnded self.new) }
         ensures room { OnOk result (used self.new ≤ used self.old + 1) }
         ensures err { OnErr result (IsBroken self.new) }
@@ -116,8 +130,11 @@ impl BlockReader {
 
     /// The context of the last record so far, or the start.
     pub fn ctx(&self) -> Ctx
-        ensures fed { (opts : ReadOpts) (file : FileRef) (start : Ctx) (bytes : List ℕ) → StandsFor opts file start self.now bytes → result ≡ ctx_fed opts file start bytes }
-        ensures read { (opts : ReadOpts) (file : FileRef) (start : Ctx) (bytes : List ℕ) → StandsForWhole opts file start self.now bytes → result ≡ ctx_read opts file start bytes }
+        ensures fed { (opts : ReadOpts) (file : FileRef) (start : Ctx) (bytes : List ℕ)
+            → Represents opts file start self.now bytes → result ≡ ctx_fed opts file start bytes }
+        ensures read { (opts : ReadOpts) (file : FileRef) (start : Ctx) (bytes : List ℕ)
+            → RepresentsWhole opts file start self.now bytes
+            → result ≡ ctx_read opts file start bytes }
         ensures nr { result.nr ≤ used self.now }
         ensures fnr { result.fnr ≤ used self.now }
     {

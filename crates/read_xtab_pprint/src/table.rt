@@ -4,7 +4,7 @@ ghost use Rattle.mlr_spec.specs.Infer.{tree_of_data};
 ghost use Rattle.mlr_spec.specs.Pairs.{are_distinct};
 ghost use Rattle.mlr_event.specs.Reading.{record_of};
 ghost use Rattle.read_xtab_pprint.specs.Cells.{cells_in};
-ghost use Rattle.read_xtab_pprint.specs.Pprint.{cells_items, header_behind, is_rule, row};
+ghost use Rattle.read_xtab_pprint.specs.Pprint.{cells_items, header_after, is_rule, row};
 ghost use Rattle.read_xtab_pprint.specs.PprintRules.{plain_header, plain_items, row_items};
 
 use crate::cells::{copy_cells, count_cells, is_barred, next_cell};
@@ -32,7 +32,8 @@ pub(crate) fn table_row(
     header: &mut Option<Header>,
     line: &[u8],
 ) -> Result<Row, NoMemory>
-    ensures items { IfOk result (λ row. row_items row ≡ plain_items opts.now place.file place.line header.old line.now) }
+    ensures items { IfOk result (λ row. row_items row
+        ≡ plain_items opts.now place.file place.line header.old line.now) }
     ensures header { OnOk result (header.new ≡ plain_header header.old line.now) }
 {
     if line.is_empty() {
@@ -71,8 +72,9 @@ fn cells_row(
     count: usize,
 ) -> Result<Row, NoMemory>
     requires { count ≡ length (cells_in line.now) }
-    ensures items { IfOk result (λ row. row_items row ≡ cells_items opts.now place.file place.line header.old (Some (cells_in line.now))) }
-    ensures header { OnOk result (header.new ≡ header_behind header.old (Some (cells_in line.now))) }
+    ensures items { IfOk result (λ row. row_items row
+        ≡ cells_items opts.now place.file place.line header.old (Some (cells_in line.now))) }
+    ensures header { OnOk result (header.new ≡ header_after header.old (Some (cells_in line.now))) }
 {
     let (row, next) = match mem::replace(header, None) {
         None => (Row::Nothing, Header::new(alloc, copy_cells(alloc, line)?)?),
@@ -92,7 +94,8 @@ fn row_under(
     count: usize,
 ) -> Result<Row, NoMemory>
     requires { count ≡ length (cells_in line.now) }
-    ensures { IfOk result (λ made. row_items made ≡ row opts.now place.file place.line header.now (cells_in line.now)) }
+    ensures { IfOk result (λ made. row_items made
+        ≡ row opts.now place.file place.line header.now (cells_in line.now)) }
 {
     if count != header.len() {
         return Ok(Row::Fault(Fault::Length {
@@ -117,7 +120,8 @@ fn fill(
 ) -> Result<(), NoMemory>
     requires same { length (cells_in line.now) ≡ length header.now }
     requires empty { record.old ≡ [] }
-    ensures { OnOk result (record.new ≡ record_of opts.now.dedupe header.now (map (tree_of_data opts.now.infer) (cells_in line.now))) }
+    ensures { OnOk result (record.new ≡ record_of opts.now.dedupe header.now
+        (map (tree_of_data opts.now.infer) (cells_in line.now))) }
 {
     if opts.dedupe {
         push_cells(alloc, opts, header.keys(), line, record)
@@ -137,7 +141,8 @@ fn push_cells(
     requires distinct { are_distinct names.now ≡ true }
     requires same { length (cells_in line.now) ≡ length names.now }
     requires empty { record.old ≡ [] }
-    ensures { OnOk result (record.new ≡ zip names.now (map (tree_of_data opts.now.infer) (cells_in line.now))) }
+    ensures { OnOk result (record.new ≡ zip names.now
+        (map (tree_of_data opts.now.infer) (cells_in line.now))) }
 {
     let barred = is_barred(line);
     let mut place = 0;
@@ -161,7 +166,8 @@ fn put_cells(
     requires length { length header.now < 2 ^ 63 }
     requires same { length (cells_in line.now) ≡ length header.now }
     requires empty { record.old ≡ [] }
-    ensures { OnOk result (record.new ≡ record_of opts.now.dedupe header.now (map (tree_of_data opts.now.infer) (cells_in line.now))) }
+    ensures { OnOk result (record.new ≡ record_of opts.now.dedupe header.now
+        (map (tree_of_data opts.now.infer) (cells_in line.now))) }
 {
     let barred = is_barred(line);
     let mut place = 0;

@@ -46,11 +46,12 @@ fn space_place(text: &[u8]) -> usize
 
 /// The first word of the text, and the text behind it.
 pub(crate) fn next_word(text: &[u8]) -> Option<(&[u8], &[u8])>
-    ensures { MatchOption result (words_of text.now ≡ []) (λ cut. IsWordCut text.now cut.0.now cut.1.now) }
+    ensures { MatchOption result (words_of text.now ≡ [])
+        (λ cut. IsWordCut text.now cut.0.now cut.1.now) }
 {
-    let front = without_spaces(text);
-    if front.is_empty() {
+    let prefix = without_spaces(text);
+    if prefix.is_empty() {
         return None;
     }
-    Some(cut_word(front))
+    Some(cut_word(prefix))
 }

@@ -1,7 +1,7 @@
 ghost use Rattle.std.specs.Prelude.{◌≡◌, ◌^◌, ◌<◌, ◌-◌, ◌++◌, length, OnOk};
 ghost use Rattle.read_xtab_pprint.specs.Last.{xtab_after_last, xtab_gives_last};
 ghost use Rattle.read_xtab_pprint.specs.Xtab.{without_spaces};
-ghost use Rattle.read_xtab_pprint.specs.XtabRules.{behind_gap, begun_pairs, gap_events, with_text, xtab_after, xtab_count, xtab_events};
+ghost use Rattle.read_xtab_pprint.specs.XtabRules.{after_gap, begun_pairs, gap_events, with_text, xtab_after, xtab_count, xtab_events};
 
 use crate::rules::XtabRules;
 use crate::words::{cut_word, without_spaces};
@@ -45,7 +45,7 @@ impl XtabRules {
     /// Gives the comments that were passed and the record that has begun.
     fn give(&mut self, out: &mut Events) -> Result<(), NoMemory>
         requires { xtab_count self.old < 2 ^ 64 - 1 }
-        ensures state { OnOk result (self.new ≡ behind_gap self.old) }
+        ensures state { OnOk result (self.new ≡ after_gap self.old) }
         ensures events { OnOk result (out.new ≡ out.old ++ gap_events self.old) }
     {
         push_all(mem::replace(&mut self.passed, Events::new(self.alloc)), out)?;

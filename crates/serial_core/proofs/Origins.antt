@@ -17,17 +17,17 @@ use Rattle.mlr_world.specs.Taken.{Take}
 use Rattle.read_files.specs.declared.reader.FileReader.{FileReader}
 use Rattle.read_files.specs.declared.reader.ReadTurn.{ReadTurn}
 use Rattle.read_files.specs.declared.reader.ReadTurn.TheVariants as turn
-use Rattle.read_files.specs.Given.{Behind, GoesOn, InOrder, stops_at, total}
+use Rattle.read_files.specs.Takes.{After, GoesOn, InOrder, stops_at, total}
 use Rattle.read_files.specs.Sources.{ctx_from, events_taken, is_whole, source, zero_context}
-use Rattle.read_files.specs.Standing as file
+use Rattle.read_files.specs.Represents as file
 use Rattle.read_files.proofs.Steps.{source-stops}
 use Rattle.verbs_seq.specs.declared.seq_spec.SeqSpec.{SeqSpec}
 use Rattle.verbs_seq.specs.declared.source.SeqSource.{SeqSource}
 use Rattle.verbs_seq.specs.Seq.{IsSoundSeq, seq_all, seq_context, seq_count, seq_event, seq_events}
-use Rattle.verbs_seq.specs.Standing.{StandsAt}
+use Rattle.verbs_seq.specs.Represents.{RepresentsAt}
 use Rattle.serial_core.specs.declared.reader.Reader.TheVariants as reader
 use Rattle.serial_core.specs.Command.{Origin, files, numbers}
-use Rattle.serial_core.specs.Reading.{Counts, Read, ReadSays, ReaderStands, TookMore}
+use Rattle.serial_core.specs.Reading.{Counts, Read, ReadSays, ReaderRepresents, TookMore}
 use Rattle.serial_core.proofs.Numbers.{events-append}
 
 -- behind an end nothing is open
@@ -45,8 +45,8 @@ open-source opts names takes opens = elim (cases_Bool (is_whole opts names takes
 ]
 
 -- where a list is no longer, nothing comes behind it
-none-behind : (xs ys : List Event) → xs ++ ys ≡ xs → ys ≡ []
-none-behind xs ys same = nil_from_length ys (omega (arith, ap length same, length-append xs ys))
+none-following : (xs ys : List Event) → xs ++ ys ≡ xs → ys ≡ []
+none-following xs ys same = nil_from_length ys (omega (arith, ap length same, length-append xs ys))
 
 -- behind the last input nothing more is taken
 abbrev pub SourceAll : Type 0
@@ -83,15 +83,15 @@ module _ (opts : ReadOpts) (names : List InputName) (before : Option (List Take)
   pub files-read : (all : SourceAll) → InOrder names given → is_list (source opts names t.given') ≡ true → Read took (files opts names) before given read (reader.Files after) contents taken' name' out out'
   files-read all order list = record {
     given' = t.given';
-    took = record { order = t.order; goes_on = t.goes_on; behind = t.behind; one_read = t.one_read; few = t.few };
+    took = record { order = t.order; goes_on = t.goes_on; following = t.following; one_read = t.one_read; few = t.few };
     put = t.more;
     rest = [];
     events = sym all-is ∙ sym (append-nil (read ++ t.more));
     list = list;
-    puts = t.puts;
-    fails = λ name failed. none-behind (events_taken opts given) t.more (sym t.events ∙ (says-of (turn.Failed name) failed).3);
+    appends = t.appends;
+    fails = λ name failed. none-following (events_taken opts given) t.more (sym t.events ∙ (says-of (turn.Failed name) failed).3);
     says = says-as took t.says;
-    stands = λ went. (t.stands went, all-is ∙ open-source opts names t.given' (went-open took went t.says));
+    represents = λ went. (t.represents went, all-is ∙ open-source opts names t.given' (went-open took went t.says));
     early = early-at all order (stops_at names given) refl;
     came_on = λ went. (says-of turn.Went went).2;
   }
@@ -116,14 +116,14 @@ pub goes-on : (takes : List Take) → GoesOn takes takes
 goes-on [] = tt
 goes-on (take ∷ takes) = ((refl, ([], sym (append-nil take.bytes), λ e. (refl, e))), goes-on takes)
 
-module _ (seq : SeqSpec) (before : Option (List Take)) (given : List Take) (read : List Event) (n : ℕ) (sound : IsSoundSeq seq) (old : SeqSource) (at : StandsAt seq n old)
+module _ (seq : SeqSpec) (before : Option (List Take)) (given : List Take) (read : List Event) (n : ℕ) (sound : IsSoundSeq seq) (old : SeqSource) (at : RepresentsAt seq n old)
     (read_is : read ≡ seq_events seq 0 n) (given_is : given ≡ []) (after : SeqSource) (contents : Option Contents) (taken : Option (List Take)) (name : Option InputName)
-    (behind : Behind before given contents taken name) (out out' : List Event) where
+    (following : After before given contents taken name) (out out' : List Event) where
   nothing-took : TookMore (numbers seq) before given given contents taken name
   nothing-took = record {
     order = subst (InOrder []) (sym given_is) tt;
     goes_on = goes-on given;
-    behind = behind;
+    following = following;
     one_read = omega arith;
     few = omega (arith, ap total given_is);
   }
@@ -139,10 +139,10 @@ module _ (seq : SeqSpec) (before : Option (List Take)) (given : List Take) (read
         rest = rest-from seq (n + c.some);
         events = all-from seq (n + c.some) next.2.within ∙ ap (λ xs. xs ++ rest-from seq (n + c.some)) (sym all);
         list = all-list seq;
-        puts = c.puts;
+        appends = c.appends;
         fails = λ name failed. absurd (let f = failed in cc);
         says = (ap is_open all ∙ records-open seq (range_with_len 0 (n + c.some)), omega (arith, ap total given_is), inr given_is);
-        stands = λ went. (n + c.some, sound, next.2, all, given_is);
+        represents = λ went. (n + c.some, sound, next.2, all, given_is);
         early = inl refl;
         came_on = λ went. next.1;
       }
@@ -155,10 +155,10 @@ module _ (seq : SeqSpec) (before : Option (List Take)) (given : List Take) (read
         rest = [];
         events = sym all ∙ sym (append-nil (read ++ c.put));
         list = all-list seq;
-        puts = c.puts;
+        appends = c.appends;
         fails = λ name failed. absurd (let f = failed in cc);
         says = (ap is_open all ∙ end-open (seq_events seq 0 (seq_count seq)) (seq_context (seq_count seq)), refl);
-        stands = λ went. absurd (let f = went in cc);
+        represents = λ went. absurd (let f = went in cc);
         early = inl refl;
         came_on = λ went. absurd (let f = went in cc);
       }
@@ -181,10 +181,10 @@ module _ (seq : SeqSpec) (before : Option (List Take)) (given : List Take) (read
     rest = rest-from seq n;
     events = all-from seq n at.within ∙ ap (λ xs. xs ++ rest-from seq n) (sym read_is ∙ sym (append-nil read));
     list = all-list seq;
-    puts = λ memory. absurd (memory refl);
+    appends = λ memory. absurd (memory refl);
     fails = λ name failed. absurd (let f = failed in cc);
     says = tt;
-    stands = λ went. absurd (let f = went in cc);
+    represents = λ went. absurd (let f = went in cc);
     early = inl refl;
     came_on = λ went. absurd (let f = went in cc);
   }
@@ -202,7 +202,7 @@ numbers-cause (turn.Failed failed) seq n after out out' f c = absurd (never c.an
 numbers-cause turn.TooLong seq n after out out' f c = λ name. refl
 numbers-cause turn.NoMemory seq n after out out' f c = λ name. refl
 
-pub origin-cause : (origin : Origin) (given : List Take) (read : List Event) (old : SeqSource) → ReaderStands origin given read (reader.Numbers old) → (took : ReadTurn) (after : SeqSource) (out out' : List Event) (f : InputName → ℕ)
-    → ((seq : SeqSpec) (n : ℕ) → IsSoundSeq seq → StandsAt seq n old → Counts took seq n after out out') → file.TurnCause took f f
-origin-cause (files opts names) given read old stands took after out out' f counts = absurd stands
-origin-cause (numbers seq) given read old stands took after out out' f counts = numbers-cause took seq stands.0 after out out' f (counts seq stands.0 stands.1 stands.2)
+pub origin-cause : (origin : Origin) (given : List Take) (read : List Event) (old : SeqSource) → ReaderRepresents origin given read (reader.Numbers old) → (took : ReadTurn) (after : SeqSource) (out out' : List Event) (f : InputName → ℕ)
+    → ((seq : SeqSpec) (n : ℕ) → IsSoundSeq seq → RepresentsAt seq n old → Counts took seq n after out out') → file.TurnCause took f f
+origin-cause (files opts names) given read old represents took after out out' f counts = absurd represents
+origin-cause (numbers seq) given read old represents took after out out' f counts = numbers-cause took seq represents.0 after out out' f (counts seq represents.0 represents.1 represents.2)

@@ -11,87 +11,87 @@ use Rattle.mlr_world.specs.Outputs.{Held, ChangesAt, with_bytes}
 use Rattle.mlr_world.specs.Taken.{Take}
 use Rattle.mlr_world.proofs.Changes.{ChangesAt-map, ChangesAt-none, ChangesAt-then, with_bytes-none}
 use Rattle.outlet.specs.Out.{out_of}
-use Rattle.outlet.specs.Standing.{PutsFront}
+use Rattle.outlet.specs.Represents.{AppendsPrefix}
 use Rattle.chain_core.specs.Chain.{chain}
 use Rattle.std.specs.Prelude.{IfSome}
 use Rattle.std.specs.Option.{option_map}
 use Rattle.std.proofs.lemmas.List.{append-nil}
-use Rattle.read_files.specs.Given.{AreFrontsTaken, Behind}
+use Rattle.read_files.specs.Takes.{ArePrefixesTaken, After}
 use Rattle.serial_core.specs.declared.answer.Ended.{Ended}
 use Rattle.serial_core.specs.declared.answer.Ended.TheVariants as answer
 use Rattle.serial_core.specs.declared.serial.Serial.{Serial}
 use Rattle.serial_core.specs.declared.serial.SerialTurn.TheVariants.{Went, Over}
 use Rattle.serial_core.specs.Command.{Command, result, text}
 use Rattle.serial_core.specs.Run.{Run}
-use Rattle.serial_core.specs.Standing.{Begins, InputCause, Leaves, MayGoOn, Ran, SerialStands}
+use Rattle.serial_core.specs.Represents.{Begins, InputCause, Leaves, MayGoOn, Ran, SerialRepresents}
 use Rattle.serial_core.proofs.Stopping.{EndsEarly}
-use Rattle.serial_core.proofs.Turns.{leaves-behind, reader-few, reader-order, reader-rest, whole-behind}
+use Rattle.serial_core.proofs.Turns.{leaves-following, reader-few, reader-order, reader-rest, whole-following}
 
 -- how far a run has come
-pub record Going {S : Type 0} (verb : S → Verb) (stands : S → List Event → Type 0) (command : Command) (before : Option (List Take)) (contents : Option Contents) (taken : Option (List Take)) (name : Option InputName) (first held : Option Held) (serial : Serial S) : Type 0 where
+pub record Going {S : Type 0} (verb : S → Verb) (represents : S → List Event → Type 0) (command : Command) (before : Option (List Take)) (contents : Option Contents) (taken : Option (List Take)) (name : Option InputName) (first held : Option Held) (serial : Serial S) : Type 0 where
   pub given : List Take
   pub read : List Event
   pub shown : List Event
-  pub at : SerialStands verb stands command given read shown serial
-  pub behind : Behind before given contents taken name
+  pub at : SerialRepresents verb represents command given read shown serial
+  pub following : After before given contents taken name
   pub may_go_on : MayGoOn command given
   pub leaves : ChangesAt Stdout (λ b n. n ≡ with_bytes (out_of command.write shown) b) first held
 
 -- nothing was taken behind what was taken before
-pub behind-none : (contents : Option Contents) (taken : Option (List Take)) (name : Option InputName) → Behind taken [] contents taken name
-behind-none contents taken name = record { entries = same taken; fronts = none contents taken; open_is = tt }
+pub following-none : (contents : Option Contents) (taken : Option (List Take)) (name : Option InputName) → After taken [] contents taken name
+following-none contents taken name = record { entries = same taken; prefixes = none contents taken; open_is = tt }
   where
     same : (taken : Option (List Take)) → taken ≡ option_map (λ takes. takes ++ []) taken
     same None = refl
     same (Some takes) = ap Some (sym (append-nil takes))
 
-    none : (contents : Option Contents) (taken : Option (List Take)) → IfSome contents (λ told. IfSome taken (λ _. AreFrontsTaken told []))
+    none : (contents : Option Contents) (taken : Option (List Take)) → IfSome contents (λ told. IfSome taken (λ _. ArePrefixesTaken told []))
     none None taken = tt
     none (Some told) None = tt
     none (Some told) (Some takes) = tt
 
-module _ {S : Type 0} (verb : S → Verb) (stands : S → List Event → Type 0) (command : Command) (before : Option (List Take)) (contents : Option Contents) where
-  pub going-first : (taken : Option (List Take)) (name : Option InputName) (held : Option Held) (serial : Serial S) → Begins verb stands command serial → Behind before [] contents taken name
-      → Going verb stands command before contents taken name held held serial
-  going-first taken name held serial begins behind = record {
+module _ {S : Type 0} (verb : S → Verb) (represents : S → List Event → Type 0) (command : Command) (before : Option (List Take)) (contents : Option Contents) where
+  pub going-first : (taken : Option (List Take)) (name : Option InputName) (held : Option Held) (serial : Serial S) → Begins verb represents command serial → After before [] contents taken name
+      → Going verb represents command before contents taken name held held serial
+  going-first taken name held serial begins following = record {
     given = [];
     read = [];
     shown = [];
     at = begins;
-    behind = behind;
+    following = following;
     may_go_on = inl refl;
     leaves = ChangesAt-none Stdout (λ b n. n ≡ with_bytes (out_of command.write []) b) with_bytes-none held;
   }
 
-  module _ (taken : Option (List Take)) (name : Option InputName) (first held : Option Held) (serial : Serial S) (now : Going verb stands command before contents taken name first held serial)
+  module _ (taken : Option (List Take)) (name : Option InputName) (first held : Option Held) (serial : Serial S) (now : Going verb represents command before contents taken name first held serial)
       (after : Serial S) (taken' : Option (List Take)) (name' : Option InputName) (held' : Option Held) where
-    pub going-on : Ran Went verb stands command before now.given now.read now.shown after contents taken' name' held held' → Going verb stands command before contents taken' name' first held' after
+    pub going-on : Ran Went verb represents command before now.given now.read now.shown after contents taken' name' held held' → Going verb represents command before contents taken' name' first held' after
     going-on ran = record {
       given = ran.given';
       read = now.read ++ ran.outcome.put;
       shown = chain command.verbs (now.read ++ ran.outcome.put);
-      at = ran.outcome.stand;
-      behind = ran.took.behind;
+      at = ran.outcome.represent;
+      following = ran.took.following;
       may_go_on = ran.outcome.may_go_on;
       leaves =
           ChangesAt-then Stdout (λ b n. n ≡ with_bytes (out_of command.write now.shown) b) (λ b n. n ≡ with_bytes ran.outcome.more b)
           (λ b n. n ≡ with_bytes (out_of command.write (chain command.verbs (now.read ++ ran.outcome.put))) b)
-          (λ a b c one two. whole-behind (out_of command.write now.shown) ran.outcome.more a b c one two ∙ ap (λ t. with_bytes t a) (sym ran.outcome.text))
+          (λ a b c one two. whole-following (out_of command.write now.shown) ran.outcome.more a b c one two ∙ ap (λ t. with_bytes t a) (sym ran.outcome.text))
           first held held' now.leaves ran.outcome.leaves;
     }
 
-    pub came-over : EndsEarly command before contents → (ended : Ended) → Ran (Over ended) verb stands command before now.given now.read now.shown after contents taken' name' held held' → Run ended command contents before taken' name' first held'
+    pub came-over : EndsEarly command before contents → (ended : Ended) → Ran (Over ended) verb represents command before now.given now.read now.shown after contents taken' name' held held' → Run ended command contents before taken' name' first held'
     came-over ends ended ran = record {
       given = ran.given';
       order = ran.took.order;
-      behind = ran.took.behind;
+      following = ran.took.following;
       few = ran.took.few;
       says = ran.outcome.says;
       leaves =
           ChangesAt-then Stdout (λ b n. n ≡ with_bytes (out_of command.write now.shown) b) (Leaves ended ran.outcome.more) (Leaves ended (text command ran.given'))
-          (λ a b c one two. subst (λ t. Leaves ended t a c) (sym ran.outcome.text) (leaves-behind ended command ran.given' ran.outcome.says (out_of command.write now.shown) ran.outcome.more a b c one two))
+          (λ a b c one two. subst (λ t. Leaves ended t a c) (sym ran.outcome.text) (leaves-following ended command ran.given' ran.outcome.says (out_of command.write now.shown) ran.outcome.more a b c one two))
           first held held' now.leaves ran.outcome.leaves;
-      early = ends now.given ran.given' taken name (reader-order command.origin now.given now.read serial.reader now.at.reader) now.behind now.may_go_on ran.outcome.early ran.took.one_read;
+      early = ends now.given ran.given' taken name (reader-order command.origin now.given now.read serial.reader now.at.reader) now.following now.may_go_on ran.outcome.early ran.took.one_read;
     }
 
 -- counts behind calls that changed none

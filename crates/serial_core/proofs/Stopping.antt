@@ -17,14 +17,14 @@ use Rattle.mlr_world.specs.Outputs.{Held, ChangesAt}
 use Rattle.mlr_world.specs.Taken.{Take}
 use Rattle.outlet.specs.Out.{fault_in, out_of}
 use Rattle.chain_core.specs.Chain.{chain}
-use Rattle.read_files.specs.Given.{AreFrontsTaken, AreWhole, Behind, GoesOn, InOrder, taken_by, total}
+use Rattle.read_files.specs.Takes.{ArePrefixesTaken, AreWhole, After, GoesOn, InOrder, taken_by, total}
 use Rattle.read_files.specs.Sources.{events_taken, source}
 use Rattle.serial_core.specs.declared.answer.Ended.{Ended}
 use Rattle.serial_core.specs.declared.answer.Ended.TheVariants as answer
 use Rattle.serial_core.specs.Answer.{has_failed}
 use Rattle.serial_core.specs.Command.{Command, Origin, files, numbers, given_by, names_of, result}
 use Rattle.serial_core.specs.Run.{Completes, HoldsAll, Run, StopsEarly}
-use Rattle.serial_core.specs.Standing.{InputCause, Leaves, MayGoOn}
+use Rattle.serial_core.specs.Represents.{InputCause, Leaves, MayGoOn}
 use Rattle.serial_core.proofs.Origins.{open-source}
 use Rattle.serial_core.proofs.Turning.{end-closes, fault-closes, last-alone}
 
@@ -40,14 +40,14 @@ SourceFixed = (opts : ReadOpts) (names : List InputName) (given longer : List Ta
     → source opts names longer ≡ source opts names given
 
 abbrev pub SourceWhole : Type 0
-SourceWhole = (told : Contents) (names : List InputName) (given whole : List Take) → InOrder names given → AreFrontsTaken told given → AreWhole told names whole → GoesOn given whole × InOrder names whole
+SourceWhole = (told : Contents) (names : List InputName) (given whole : List Take) → InOrder names given → ArePrefixesTaken told given → AreWhole told names whole → GoesOn given whole × InOrder names whole
 
 abbrev pub SourceEarly : Type 0
-SourceEarly = (told : Contents) (names : List InputName) (given : List Take) (n : ℕ) → InOrder names given → AreFrontsTaken told given → n < total given → GoesOn (taken_by told names n) given × InOrder names (taken_by told names n)
+SourceEarly = (told : Contents) (names : List InputName) (given : List Take) (n : ℕ) → InOrder names given → ArePrefixesTaken told given → n < total given → GoesOn (taken_by told names n) given × InOrder names (taken_by told names n)
 
 -- a run that went on while its result might ends early with the next read
 abbrev pub EndsEarly : Command → Option (List Take) → Option Contents → Type 0
-EndsEarly command before contents = (given given' : List Take) (taken : Option (List Take)) (name : Option InputName) → InOrder (names_of command.origin) given → Behind before given contents taken name → MayGoOn command given
+EndsEarly command before contents = (given given' : List Take) (taken : Option (List Take)) (name : Option InputName) → InOrder (names_of command.origin) given → After before given contents taken name → MayGoOn command given
     → (given' ≡ given) ⊎ (is_open (result command given) ≡ true) → total given' < total given + 65536 → IfSome contents (λ told. IfSome before (λ _. StopsEarly command told given'))
 
 none-order : (names : List InputName) → InOrder names []
@@ -61,11 +61,11 @@ total-on (t ∷ given) [] on = absurd on
 total-on (t ∷ given) (u ∷ longer) on = omega (arith, total-on given longer on.1, ap length on.0.1.1, length-append t.bytes on.0.1.0)
 
 -- what was taken, where contents and takes are told
-behind-fronts : (before : Option (List Take)) (given : List Take) (contents : Option Contents) (taken : Option (List Take)) (name : Option InputName) → Behind before given contents taken name
-    → (told : Contents) (takes : List Take) → contents ≡ Some told → before ≡ Some takes → AreFrontsTaken told given
-behind-fronts before given contents taken name behind told takes told_is takes_is =
-    subst (λ c. IfSome c (λ told. AreFrontsTaken told given)) told_is
-    (subst (λ t. IfSome contents (λ told. IfSome t (λ _. AreFrontsTaken told given))) (behind.entries ∙ ap (option_map (λ takes. takes ++ given)) takes_is) behind.fronts)
+following-prefixes : (before : Option (List Take)) (given : List Take) (contents : Option Contents) (taken : Option (List Take)) (name : Option InputName) → After before given contents taken name
+    → (told : Contents) (takes : List Take) → contents ≡ Some told → before ≡ Some takes → ArePrefixesTaken told given
+following-prefixes before given contents taken name following told takes told_is takes_is =
+    subst (λ c. IfSome c (λ told. ArePrefixesTaken told given)) told_is
+    (subst (λ t. IfSome contents (λ told. IfSome t (λ _. ArePrefixesTaken told given))) (following.entries ∙ ap (option_map (λ takes. takes ++ given)) takes_is) following.prefixes)
 
 if-both : {A B : Type 0} (o : Option A) (p : Option B) (P : A → Type 0) → ((a : A) (b : B) → o ≡ Some a → p ≡ Some b → P a) → IfSome o (λ a. IfSome p (λ _. P a))
 if-both None p P holds = tt
@@ -73,7 +73,7 @@ if-both (Some a) None P holds = tt
 if-both (Some a) (Some b) P holds = holds a b refl refl
 
 module _ (lists : SourceList) (grows : SourceGrows) (fixed : SourceFixed) (command : Command)
-    (growth : (events behind : List Event) → (more : List Event) × (chain command.verbs (events ++ behind) ≡ chain command.verbs events ++ more))
+    (growth : (events following : List Event) → (more : List Event) × (chain command.verbs (events ++ following) ≡ chain command.verbs events ++ more))
     (chained : (events : List Event) → is_list events ≡ true → is_list (chain command.verbs events) ≡ true) where
   -- a result with an end or a fault stays as it is when more is taken
   origin-fixed : (origin : Origin) (given longer : List Take) → InOrder (names_of origin) given → InOrder (names_of origin) longer → GoesOn given longer → is_open (chain command.verbs (given_by origin given)) ≡ false
@@ -99,7 +99,7 @@ module _ (lists : SourceList) (grows : SourceGrows) (fixed : SourceFixed) (comma
   nothing-taken given (inl nothing) closed = nothing
   nothing-taken given (inr opens) closed = absurd (true≢false (sym opens ∙ closed))
 
-  module _ (early : SourceEarly) (told : Contents) (given given' : List Take) (order : InOrder (names_of command.origin) given) (fronts : AreFrontsTaken told given) (may : MayGoOn command given) where
+  module _ (early : SourceEarly) (told : Contents) (given given' : List Take) (order : InOrder (names_of command.origin) given) (prefixes : ArePrefixesTaken told given) (may : MayGoOn command given) where
     at-once : (given' ≡ given) ⊎ (is_open (result command given) ≡ true) → is_open (result command []) ≡ false → given' ≡ []
     at-once ends closed =
         let now : is_open (result command given) ≡ false = ap is_open (result-fixed [] given (none-order (names_of command.origin)) order tt closed) ∙ closed in
@@ -108,7 +108,7 @@ module _ (lists : SourceList) (grows : SourceGrows) (fixed : SourceFixed) (comma
     soon : total given' < total given + 65536 → (n : ℕ) → is_open (result command (taken_by told (names_of command.origin) n)) ≡ false → total given' < n + 65536
     soon one n closed = elim (cases_lt n (total given)) [
       | inl less ↦
-          let on = early told (names_of command.origin) given n order fronts less in
+          let on = early told (names_of command.origin) given n order prefixes less in
           let now : is_open (result command given) ≡ false = ap is_open (result-fixed (taken_by told (names_of command.origin) n) given on.1 order on.0 closed) ∙ closed in
           absurd (omega (arith, less, ap total (nothing-taken given may now)))
       | inr more ↦ omega (arith, more, one)
@@ -118,16 +118,16 @@ module _ (lists : SourceList) (grows : SourceGrows) (fixed : SourceFixed) (comma
     stops-early ends one = record { at_once = at-once ends; soon = soon one }
 
   pub stopped-early : SourceEarly → (before : Option (List Take)) (contents : Option Contents) → EndsEarly command before contents
-  stopped-early early before contents given given' taken name order behind may ends one =
+  stopped-early early before contents given given' taken name order following may ends one =
       if-both contents before (λ told. StopsEarly command told given')
-      (λ told takes told_is takes_is. stops-early early told given given' order (behind-fronts before given contents taken name behind told takes told_is takes_is) may ends one)
+      (λ told takes told_is takes_is. stops-early early told given given' order (following-prefixes before given contents taken name following told takes told_is takes_is) may ends one)
 
   -- where no call fails the answer is that of all that the inputs hold
   module _ (whole : SourceWhole) (contents : Option Contents) (taken taken' : Option (List Take)) (name' : Option InputName) (held held' : Option Held) (holds : HoldsAll command contents taken) where
     on-whole : (ended : Ended) (run : Run ended command contents taken taken' name' held held') → GoesOn run.given holds.whole × InOrder (names_of command.origin) holds.whole
     on-whole ended run =
         whole holds.told (names_of command.origin) run.given holds.whole run.order
-        (behind-fronts taken run.given contents taken' name' run.behind holds.told holds.before holds.contents_told holds.taken_told) holds.wholes
+        (following-prefixes taken run.given contents taken' name' run.following holds.told holds.before holds.contents_told holds.taken_told) holds.wholes
 
     same-whole : (ended : Ended) (run : Run ended command contents taken taken' name' held held') → is_open (result command run.given) ≡ false → result command holds.whole ≡ result command run.given
     same-whole ended run closed = let on = on-whole ended run in result-fixed run.given holds.whole run.order on.1 on.0 closed

@@ -16,16 +16,16 @@ use Rattle.mlr_world.specs.Outputs.{Held, ChangesAt}
 use Rattle.mlr_world.proofs.Changes.{ChangesAt-map}
 use Rattle.writers.specs.declared.options.WriteOpts.{WriteOpts}
 use Rattle.outlet.specs.Out.{fault_in, out_of}
-use Rattle.outlet.specs.Standing.{PutsFront}
+use Rattle.outlet.specs.Represents.{AppendsPrefix}
 use Rattle.chain_core.specs.Chain.{chain}
 use Rattle.read_files.specs.declared.reader.ReadTurn.{ReadTurn}
 use Rattle.read_files.specs.declared.reader.ReadTurn.TheVariants as turn
-use Rattle.read_files.specs.Standing.{TurnCause}
+use Rattle.read_files.specs.Represents.{TurnCause}
 use Rattle.serial_core.specs.declared.answer.Ended.{Ended}
 use Rattle.serial_core.specs.declared.answer.Ended.TheVariants as answer
 use Rattle.mlr_world.specs.Taken.{Take}
 use Rattle.serial_core.specs.Command.{Command, result}
-use Rattle.serial_core.specs.Standing.{InputCause, Leaves, Says, TurnCounts, WriteLeaves, WriteSays, behind, turn_failed}
+use Rattle.serial_core.specs.Represents.{InputCause, Leaves, Says, TurnCounts, WriteLeaves, WriteSays, following, turn_failed}
 
 -- no count rose but in a read that failed
 pub turn-same : (read : ReadTurn) (f0 f1 : InputName → ℕ) → ((name : InputName) → read ≡ turn.Failed name → ⊥) → TurnCause read f0 f1 → (name : InputName) → f1 name ≡ f0 name
@@ -35,19 +35,19 @@ turn-same (turn.Failed name) f0 f1 other cause = absurd (other name refl)
 turn-same turn.TooLong f0 f1 other cause = cause
 turn-same turn.NoMemory f0 f1 other cause = cause
 
-pub behind-cause : (read : ReadTurn) (f0 f1 : InputName → ℕ) → TurnCause read f0 f1 → TurnCounts (behind read) f0 f1
-behind-cause turn.Went f0 f1 cause = cause
-behind-cause turn.Ended f0 f1 cause = cause
-behind-cause (turn.Failed name) f0 f1 cause = cause
-behind-cause turn.TooLong f0 f1 cause = cause
-behind-cause turn.NoMemory f0 f1 cause = cause
+pub following-cause : (read : ReadTurn) (f0 f1 : InputName → ℕ) → TurnCause read f0 f1 → TurnCounts (following read) f0 f1
+following-cause turn.Went f0 f1 cause = cause
+following-cause turn.Ended f0 f1 cause = cause
+following-cause (turn.Failed name) f0 f1 cause = cause
+following-cause turn.TooLong f0 f1 cause = cause
+following-cause turn.NoMemory f0 f1 cause = cause
 
-pub behind-counts : (read : ReadTurn) (f0 f1 : Target → ℕ) → Counted false f0 f1 Stdout → Counted (turn_failed (behind read)) f0 f1 Stdout
-behind-counts turn.Went f0 f1 same = same
-behind-counts turn.Ended f0 f1 same = same
-behind-counts (turn.Failed name) f0 f1 same = same
-behind-counts turn.TooLong f0 f1 same = same
-behind-counts turn.NoMemory f0 f1 same = same
+pub following-counts : (read : ReadTurn) (f0 f1 : Target → ℕ) → Counted false f0 f1 Stdout → Counted (turn_failed (following read)) f0 f1 Stdout
+following-counts turn.Went f0 f1 same = same
+following-counts turn.Ended f0 f1 same = same
+following-counts (turn.Failed name) f0 f1 same = same
+following-counts turn.TooLong f0 f1 same = same
+following-counts turn.NoMemory f0 f1 same = same
 
 -- an answer of a write says nothing of the inputs
 pub written-cause : (ended : Ended) (events : List Event) (f0 f1 : InputName → ℕ) → WriteSays (Some ended) events → ((name : InputName) → f1 name ≡ f0 name) → InputCause ended f0 f1
@@ -60,12 +60,12 @@ written-cause answer.TooLong events f0 f1 says same = absurd says
 written-cause answer.NoMemory events f0 f1 says same = same
 
 -- a front of a list is one
-pub list-front : (xs ys : List Event) → is_list (xs ++ ys) ≡ true → is_list xs ≡ true
-list-front [] ys list = refl
-list-front (x ∷ []) ys list = refl
-list-front (x ∷ y ∷ xs) ys list =
+pub list-prefix : (xs ys : List Event) → is_list (xs ++ ys) ≡ true → is_list xs ≡ true
+list-prefix [] ys list = refl
+list-prefix (x ∷ []) ys list = refl
+list-prefix (x ∷ y ∷ xs) ys list =
     let parts = and_parts (not (is_last x)) (is_list ((y ∷ xs) ++ ys)) list in
-    ap (λ b. b && is_list (y ∷ xs)) parts.0 ∙ list-front (y ∷ xs) ys parts.1
+    ap (λ b. b && is_list (y ∷ xs)) parts.0 ∙ list-prefix (y ∷ xs) ys parts.1
 
 -- nothing comes behind a list with an end or a fault
 pub last-alone : (xs ys : List Event) → is_open xs ≡ false → is_list (xs ++ ys) ≡ true → ys ≡ []
@@ -105,15 +105,15 @@ pub fault-closes : (events : List Event) (fault : Fault) → fault_in events ≡
 fault-closes events fault is = ap not (fault-lasts events fault is)
 
 -- a front of a text is one of a longer text
-pub front-longer : (text more : List ℕ) (before now : Option (List ℕ)) → PutsFront text before now → PutsFront (text ++ more) before now
-front-longer text more before now p = (p.0, (p.1.0 ++ more, ap (λ t. t ++ more) p.1.1 ∙ append_assoc p.0 p.1.0 more), p.2)
+pub prefix-longer : (text more : List ℕ) (before now : Option (List ℕ)) → AppendsPrefix text before now → AppendsPrefix (text ++ more) before now
+prefix-longer text more before now p = (p.0, (p.1.0 ++ more, ap (λ t. t ++ more) p.1.1 ∙ append_assoc p.0 p.1.0 more), p.2)
 
 -- What a command makes of what was taken, where these events were read of it, and more may be fixed.
 module _ (write : WriteOpts) (verbs : List Verb) (read put rest given : List Event)
     (given_is : given ≡ (read ++ put) ++ rest)
     (list : is_list (chain verbs given) ≡ true)
-    (grows : (events behind : List Event) → (more : List Event) × (chain verbs (events ++ behind) ≡ chain verbs events ++ more))
-    (writes : (events behind : List Event) → is_open events ≡ true → (more : List ℕ) × (out_of write (events ++ behind) ≡ out_of write events ++ more)) where
+    (grows : (events following : List Event) → (more : List Event) × (chain verbs (events ++ following) ≡ chain verbs events ++ more))
+    (writes : (events following : List Event) → is_open events ≡ true → (more : List ℕ) × (out_of write (events ++ following) ≡ out_of write events ++ more)) where
   later : (more : List Event) × (chain verbs given ≡ chain verbs (read ++ put) ++ more)
   later = let more = grows (read ++ put) rest in (more.0, ap (chain verbs) given_is ∙ more.1)
 
@@ -131,8 +131,8 @@ module _ (write : WriteOpts) (verbs : List Verb) (read put rest given : List Eve
   ]
 
   -- the text behind one that was written
-  text-behind : (shown more : List ℕ) → out_of write (chain verbs (read ++ put)) ≡ shown ++ more → out_of write (chain verbs given) ≡ shown ++ (more ++ text-later.0)
-  text-behind shown more is = text-later.1 ∙ ap (λ t. t ++ text-later.0) is ∙ append_assoc shown more text-later.0
+  text-following : (shown more : List ℕ) → out_of write (chain verbs (read ++ put)) ≡ shown ++ more → out_of write (chain verbs given) ≡ shown ++ (more ++ text-later.0)
+  text-following shown more is = text-later.1 ∙ ap (λ t. t ++ text-later.0) is ∙ append_assoc shown more text-later.0
 
   -- An answer of a write, by the text that was written.
   pub record Over (ended : Ended) (command : Command) (takes : List Take) (shown : List ℕ) (held held' : Option Held) : Type 0 where
@@ -155,13 +155,13 @@ module _ (write : WriteOpts) (verbs : List Verb) (read put rest given : List Eve
   written-over (answer.Written target) command takes is says shown more held held' text leaves = record {
     says = says;
     more = more ++ text-later.0;
-    text = text-behind shown more text;
-    leaves = ChangesAt-map Stdout (PutsFront more) (PutsFront (more ++ text-later.0)) (front-longer more text-later.0) held held' leaves;
+    text = text-following shown more text;
+    leaves = ChangesAt-map Stdout (AppendsPrefix more) (AppendsPrefix (more ++ text-later.0)) (prefix-longer more text-later.0) held held' leaves;
   }
   written-over answer.TooLong command takes is says shown more held held' text leaves = absurd says
   written-over answer.NoMemory command takes is says shown more held held' text leaves = record {
     says = tt;
     more = more ++ text-later.0;
-    text = text-behind shown more text;
-    leaves = ChangesAt-map Stdout (PutsFront more) (PutsFront (more ++ text-later.0)) (front-longer more text-later.0) held held' leaves;
+    text = text-following shown more text;
+    leaves = ChangesAt-map Stdout (AppendsPrefix more) (AppendsPrefix (more ++ text-later.0)) (prefix-longer more text-later.0) held held' leaves;
   }

@@ -13,11 +13,11 @@ use Rattle.mlr_world.specs.Outputs.{Held, with_bytes}
 use Rattle.mlr_world.specs.Taken.{Take}
 use Rattle.mlr_world.proofs.Changes.{ChangesAt-then, with_bytes-twice}
 use Rattle.outlet.specs.Out.{out_of}
-use Rattle.outlet.specs.Standing.{PutsFront, StandsFor}
+use Rattle.outlet.specs.Represents.{AppendsPrefix, Represents}
 use Rattle.chain_core.specs.Chain.{chain}
-use Rattle.chain_core.specs.Standing as chains
+use Rattle.chain_core.specs.Represents as chains
 use Rattle.chain_core.proofs.Chains.{chain-list}
-use Rattle.read_files.specs.Given.{Behind, InOrder, total}
+use Rattle.read_files.specs.Takes.{After, InOrder, total}
 use Rattle.std.specs.Prelude.{if◌then◌else◌}
 use Rattle.read_files.specs.Sources.{ctx_from, is_whole, source, zero_context}
 use Rattle.serial_core.specs.declared.answer.Ended.{Ended}
@@ -28,81 +28,81 @@ use Rattle.serial_core.specs.declared.serial.Serial.{Serial}
 use Rattle.serial_core.specs.declared.serial.SerialTurn.{SerialTurn}
 use Rattle.serial_core.specs.declared.serial.SerialTurn.TheVariants.{Went, Over}
 use Rattle.serial_core.specs.Command.{Command, Origin, files, numbers, given_by, names_of}
-use Rattle.serial_core.specs.Reading.{ReaderStands}
-use Rattle.serial_core.specs.Standing.{Leaves, Outcome, Ran, Says, SerialStands, Settled, WriteSays, Wrote}
+use Rattle.serial_core.specs.Reading.{ReaderRepresents}
+use Rattle.serial_core.specs.Represents.{Leaves, Outcome, Ran, Says, SerialRepresents, Settled, WriteSays, Wrote}
 use Rattle.serial_core.proofs.Origins.{all-from, all-list, goes-on, rest-from}
 use Rattle.serial_core.proofs.Turning.{written-over}
 
 -- What a reader says of what was taken.
-pub reader-order : (origin : Origin) (given : List Take) (read : List Event) (old : Reader) → ReaderStands origin given read old → InOrder (names_of origin) given
-reader-order (files opts names) given read (reader.Files all) stands = stands.0.order
-reader-order (files opts names) given read (reader.Numbers all) stands = absurd stands
-reader-order (numbers seq) given read (reader.Files all) stands = absurd stands
-reader-order (numbers seq) given read (reader.Numbers all) stands = subst (InOrder []) (sym stands.4) tt
+pub reader-order : (origin : Origin) (given : List Take) (read : List Event) (old : Reader) → ReaderRepresents origin given read old → InOrder (names_of origin) given
+reader-order (files opts names) given read (reader.Files all) represents = represents.0.order
+reader-order (files opts names) given read (reader.Numbers all) represents = absurd represents
+reader-order (numbers seq) given read (reader.Files all) represents = absurd represents
+reader-order (numbers seq) given read (reader.Numbers all) represents = subst (InOrder []) (sym represents.4) tt
 
-pub reader-few : (origin : Origin) (given : List Take) (read : List Event) (old : Reader) → ReaderStands origin given read old → total given < 2 ^ 60
-reader-few (files opts names) given read (reader.Files all) stands = stands.0.few
-reader-few (files opts names) given read (reader.Numbers all) stands = absurd stands
-reader-few (numbers seq) given read (reader.Files all) stands = absurd stands
-reader-few (numbers seq) given read (reader.Numbers all) stands = omega (arith, ap total stands.4)
+pub reader-few : (origin : Origin) (given : List Take) (read : List Event) (old : Reader) → ReaderRepresents origin given read old → total given < 2 ^ 60
+reader-few (files opts names) given read (reader.Files all) represents = represents.0.few
+reader-few (files opts names) given read (reader.Numbers all) represents = absurd represents
+reader-few (numbers seq) given read (reader.Files all) represents = absurd represents
+reader-few (numbers seq) given read (reader.Numbers all) represents = omega (arith, ap total represents.4)
 
-pub reader-rest : (origin : Origin) (given : List Take) (read : List Event) (old : Reader) → ReaderStands origin given read old → (rest : List Event) × (given_by origin given ≡ read ++ rest)
-reader-rest (files opts names) given read (reader.Files all) stands =
+pub reader-rest : (origin : Origin) (given : List Take) (read : List Event) (old : Reader) → ReaderRepresents origin given read old → (rest : List Event) × (given_by origin given ≡ read ++ rest)
+reader-rest (files opts names) given read (reader.Files all) represents =
     let end = (if is_whole opts names given then event.End (ctx_from opts zero_context given) ∷ [] else []) in
-    (end, ap (λ xs. xs ++ end) (sym stands.1))
-reader-rest (files opts names) given read (reader.Numbers all) stands = absurd stands
-reader-rest (numbers seq) given read (reader.Files all) stands = absurd stands
-reader-rest (numbers seq) given read (reader.Numbers all) stands = (rest-from seq stands.0, all-from seq stands.0 stands.2.within ∙ ap (λ xs. xs ++ rest-from seq stands.0) (sym stands.3))
+    (end, ap (λ xs. xs ++ end) (sym represents.1))
+reader-rest (files opts names) given read (reader.Numbers all) represents = absurd represents
+reader-rest (numbers seq) given read (reader.Files all) represents = absurd represents
+reader-rest (numbers seq) given read (reader.Numbers all) represents = (rest-from seq represents.0, all-from seq represents.0 represents.2.within ∙ ap (λ xs. xs ++ rest-from seq represents.0) (sym represents.3))
 
 pub origin-list : (lists : (opts : ReadOpts) (names : List InputName) (given : List Take) → is_list (source opts names given) ≡ true) → (origin : Origin) (given : List Take) → is_list (given_by origin given) ≡ true
 origin-list lists (files opts names) given = lists opts names given
 origin-list lists (numbers seq) given = all-list seq
 
-pub whole-behind : (text more : List ℕ) (a b c : Option (List ℕ)) → b ≡ with_bytes text a → c ≡ with_bytes more b → c ≡ with_bytes (text ++ more) a
-whole-behind text more a b c first second = second ∙ ap (with_bytes more) first ∙ with_bytes-twice text more a
+pub whole-following : (text more : List ℕ) (a b c : Option (List ℕ)) → b ≡ with_bytes text a → c ≡ with_bytes more b → c ≡ with_bytes (text ++ more) a
+whole-following text more a b c first second = second ∙ ap (with_bytes more) first ∙ with_bytes-twice text more a
 
-front-behind : (text more : List ℕ) (a b c : Option (List ℕ)) → b ≡ with_bytes text a → PutsFront more b c → PutsFront (text ++ more) a c
-front-behind text more a b c first p =
+prefix-following : (text more : List ℕ) (a b c : Option (List ℕ)) → b ≡ with_bytes text a → AppendsPrefix more b c → AppendsPrefix (text ++ more) a c
+prefix-following text more a b c first p =
     (text ++ p.0, (p.1.0, ap (λ t. text ++ t) p.1.1 ∙ sym (append_assoc text p.0 p.1.0)), p.2 ∙ ap (with_bytes p.0) first ∙ with_bytes-twice text p.0 a)
 
-pub leaves-behind : (ended : Ended) (command : Command) (takes : List Take) → Says ended command takes → (text more : List ℕ) (a b c : Option (List ℕ)) → b ≡ with_bytes text a → Leaves ended more b c → Leaves ended (text ++ more) a c
-leaves-behind answer.Done command takes says text more a b c first second = whole-behind text more a b c first second
-leaves-behind (answer.Refused refusal) command takes says text more a b c first second = absurd says
-leaves-behind (answer.Data fault) command takes says text more a b c first second = whole-behind text more a b c first second
-leaves-behind (answer.Read name) command takes says text more a b c first second = whole-behind text more a b c first second
-leaves-behind (answer.Written target) command takes says text more a b c first second = front-behind text more a b c first second
-leaves-behind answer.TooLong command takes says text more a b c first second = whole-behind text more a b c first second
-leaves-behind answer.NoMemory command takes says text more a b c first second = front-behind text more a b c first second
+pub leaves-following : (ended : Ended) (command : Command) (takes : List Take) → Says ended command takes → (text more : List ℕ) (a b c : Option (List ℕ)) → b ≡ with_bytes text a → Leaves ended more b c → Leaves ended (text ++ more) a c
+leaves-following answer.Done command takes says text more a b c first second = whole-following text more a b c first second
+leaves-following (answer.Refused refusal) command takes says text more a b c first second = absurd says
+leaves-following (answer.Data fault) command takes says text more a b c first second = whole-following text more a b c first second
+leaves-following (answer.Read name) command takes says text more a b c first second = whole-following text more a b c first second
+leaves-following (answer.Written target) command takes says text more a b c first second = prefix-following text more a b c first second
+leaves-following answer.TooLong command takes says text more a b c first second = whole-following text more a b c first second
+leaves-following answer.NoMemory command takes says text more a b c first second = prefix-following text more a b c first second
 
-module _ {S : Type 0} (verb : S → Verb) (stands : S → List Event → Type 0) (orderly : (s : S) → KeepsOrder (verb s))
-    (command : Command) (given : List Take) (read shown : List Event) (serial : Serial S) (at : SerialStands verb stands command given read shown serial) where
+module _ {S : Type 0} (verb : S → Verb) (represents : S → List Event → Type 0) (orderly : (s : S) → KeepsOrder (verb s))
+    (command : Command) (given : List Take) (read shown : List Event) (serial : Serial S) (at : SerialRepresents verb represents command given read shown serial) where
   pub chained : (events : List Event) → is_list events ≡ true → is_list (chain command.verbs events) ≡ true
-  chained events list = subst (λ vs. is_list (chain vs events) ≡ true) at.verbs (chain-list verb stands orderly true serial.stages.stages.items events list)
+  chained events list = subst (λ vs. is_list (chain vs events) ≡ true) at.verbs (chain-list verb represents orderly true serial.stages.stages.items events list)
 
   pub list-at-hand : is_list (shown ++ serial.events) ≡ true
   list-at-hand = sym (ap is_list at.at_hand) ∙ chained read (sym (ap is_list (append-nil read)) ∙ open-list read [] at.clear refl)
 
-  pub settled-behind : (now : Serial S) → now.reader ≡ serial.reader → now.stages ≡ serial.stages → now.events ≡ [] → StandsFor command.write (shown ++ serial.events) now.outlet → Settled verb stands command given read now
-  settled-behind now same_reader same_stages none outlet = record {
+  pub settled-following : (now : Serial S) → now.reader ≡ serial.reader → now.stages ≡ serial.stages → now.events ≡ [] → Represents command.write (shown ++ serial.events) now.outlet → Settled verb represents command given read now
+  settled-following now same_reader same_stages none outlet = record {
     all = record {
-      reader = subst (ReaderStands command.origin given read) (sym same_reader) at.reader;
+      reader = subst (ReaderRepresents command.origin given read) (sym same_reader) at.reader;
       clear = at.clear;
       verbs = ap (chains.verbs_in verb) same_stages ∙ at.verbs;
-      stages = subst (chains.StandsFor verb stands read) (sym same_stages) at.stages;
-      outlet = subst (λ t. StandsFor command.write t now.outlet) (sym at.at_hand) outlet;
+      stages = subst (chains.Represents verb represents read) (sym same_stages) at.stages;
+      outlet = subst (λ t. Represents command.write t now.outlet) (sym at.at_hand) outlet;
       at_hand = sym (append-nil (chain command.verbs read)) ∙ ap (λ t. chain command.verbs read ++ t) (sym none);
     };
     nothing = none;
   }
 
   -- it is over before a read
-  pub over-written : (grows : (events behind : List Event) → (more : List Event) × (chain command.verbs (events ++ behind) ≡ chain command.verbs events ++ more))
-      (writes : (events behind : List Event) → is_open events ≡ true → (more : List ℕ) × (out_of command.write (events ++ behind) ≡ out_of command.write events ++ more))
+  pub over-written : (grows : (events following : List Event) → (more : List Event) × (chain command.verbs (events ++ following) ≡ chain command.verbs events ++ more))
+      (writes : (events following : List Event) → is_open events ≡ true → (more : List ℕ) × (out_of command.write (events ++ following) ≡ out_of command.write events ++ more))
       → is_list (given_by command.origin given) ≡ true
-      → (before : Option (List Take)) (contents : Option Contents) (taken : Option (List Take)) (name : Option InputName) → Behind before given contents taken name
+      → (before : Option (List Take)) (contents : Option Contents) (taken : Option (List Take)) (name : Option InputName) → After before given contents taken name
       → (ended : Ended) (now : Serial S) (held held' : Option Held) → Wrote (Some ended) command.write shown serial.events held held'
-      → Ran (Over ended) verb stands command before given read shown now contents taken name held held'
-  over-written grows writes list before contents taken name behind ended now held held' wrote =
+      → Ran (Over ended) verb represents command before given read shown now contents taken name held held'
+  over-written grows writes list before contents taken name following ended now held held' wrote =
       let rest = reader-rest command.origin given read serial.reader at.reader in
       let is : shown ++ serial.events ≡ chain command.verbs (read ++ []) = sym at.at_hand ∙ ap (chain command.verbs) (sym (append-nil read)) in
       let over = written-over command.write command.verbs read [] rest.0 (given_by command.origin given) (rest.1 ∙ ap (λ t. t ++ rest.0) (sym (append-nil read))) (chained (given_by command.origin given) list) grows writes
@@ -112,7 +112,7 @@ module _ {S : Type 0} (verb : S → Verb) (stands : S → List Event → Type 0)
         took = record {
           order = reader-order command.origin given read serial.reader at.reader;
           goes_on = goes-on given;
-          behind = behind;
+          following = following;
           one_read = omega arith;
           few = omega (arith, reader-few command.origin given read serial.reader at.reader);
         };
@@ -120,9 +120,9 @@ module _ {S : Type 0} (verb : S → Verb) (stands : S → List Event → Type 0)
       }
 
   -- a read behind a write
-  outcome-behind : (turned : SerialTurn) (given' : List Take) (after : Serial S) (held held' held'' : Option Held) → Wrote None command.write shown serial.events held held'
-      → Outcome turned verb stands command given given' read (chain command.verbs read) after held' held'' → Outcome turned verb stands command given given' read shown after held held''
-  outcome-behind Went given' after held held' held'' wrote o = record {
+  outcome-following : (turned : SerialTurn) (given' : List Take) (after : Serial S) (held held' held'' : Option Held) → Wrote None command.write shown serial.events held held'
+      → Outcome turned verb represents command given given' read (chain command.verbs read) after held' held'' → Outcome turned verb represents command given given' read shown after held held''
+  outcome-following Went given' after held held' held'' wrote o = record {
     put = o.put;
     rest = o.rest;
     events = o.events;
@@ -130,24 +130,24 @@ module _ {S : Type 0} (verb : S → Verb) (stands : S → List Event → Type 0)
     goes = o.goes;
     may_go_on = o.may_go_on;
     came_on = o.came_on;
-    stand = o.stand;
+    represent = o.represent;
     more = wrote.more ++ o.more;
     text = o.text ∙ ap (λ t. t ++ o.more) (ap (out_of command.write) at.at_hand ∙ wrote.text) ∙ append_assoc (out_of command.write shown) wrote.more o.more;
-    leaves = ChangesAt-then Stdout (λ b n. n ≡ with_bytes wrote.more b) (λ b n. n ≡ with_bytes o.more b) (λ b n. n ≡ with_bytes (wrote.more ++ o.more) b) (whole-behind wrote.more o.more) held held' held'' wrote.leaves o.leaves;
+    leaves = ChangesAt-then Stdout (λ b n. n ≡ with_bytes wrote.more b) (λ b n. n ≡ with_bytes o.more b) (λ b n. n ≡ with_bytes (wrote.more ++ o.more) b) (whole-following wrote.more o.more) held held' held'' wrote.leaves o.leaves;
   }
-  outcome-behind (Over ended) given' after held held' held'' wrote o = record {
+  outcome-following (Over ended) given' after held held' held'' wrote o = record {
     says = o.says;
     more = wrote.more ++ o.more;
     text = o.text ∙ ap (λ t. t ++ o.more) (ap (out_of command.write) at.at_hand ∙ wrote.text) ∙ append_assoc (out_of command.write shown) wrote.more o.more;
-    leaves = ChangesAt-then Stdout (λ b n. n ≡ with_bytes wrote.more b) (Leaves ended o.more) (Leaves ended (wrote.more ++ o.more)) (leaves-behind ended command given' o.says wrote.more o.more) held held' held'' wrote.leaves o.leaves;
+    leaves = ChangesAt-then Stdout (λ b n. n ≡ with_bytes wrote.more b) (Leaves ended o.more) (Leaves ended (wrote.more ++ o.more)) (leaves-following ended command given' o.says wrote.more o.more) held held' held'' wrote.leaves o.leaves;
     early = o.early;
   }
 
-  pub ran-behind : (turned : SerialTurn) (before : Option (List Take)) (after : Serial S) (contents : Option Contents) (taken : Option (List Take)) (name : Option InputName) (held held' held'' : Option Held)
-      → Wrote None command.write shown serial.events held held' → Ran turned verb stands command before given read (chain command.verbs read) after contents taken name held' held''
-      → Ran turned verb stands command before given read shown after contents taken name held held''
-  ran-behind turned before after contents taken name held held' held'' wrote ran = record {
+  pub ran-following : (turned : SerialTurn) (before : Option (List Take)) (after : Serial S) (contents : Option Contents) (taken : Option (List Take)) (name : Option InputName) (held held' held'' : Option Held)
+      → Wrote None command.write shown serial.events held held' → Ran turned verb represents command before given read (chain command.verbs read) after contents taken name held' held''
+      → Ran turned verb represents command before given read shown after contents taken name held held''
+  ran-following turned before after contents taken name held held' held'' wrote ran = record {
     given' = ran.given';
     took = ran.took;
-    outcome = outcome-behind turned ran.given' after held held' held'' wrote ran.outcome;
+    outcome = outcome-following turned ran.given' after held held' held'' wrote ran.outcome;
   }

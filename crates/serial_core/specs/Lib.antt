@@ -2,5 +2,5 @@ pub mod Answer
 pub mod Command
 pub mod Reading
 pub mod Run
-pub mod Standing
+pub mod Represents
 pub mod Models

@@ -13,18 +13,18 @@ abbrev pub has_record : List Event → Bool
 has_record events = list_any is_record events
 
 -- an event, but no record behind another
-abbrev pub unless_behind : Bool → Event → List Event
-unless_behind met e = if is_record e && met then [] else e ∷ []
+abbrev pub unless_after : Bool → Event → List Event
+unless_after met e = if is_record e && met then [] else e ∷ []
 
 -- the first record alone
 abbrev pub first_record : Verb
-first_record = record { first = []; now = λ before fields ctx. unless_behind (has_record before) (event.Rec fields ctx); late = λ before ctx. []; closed = λ before. has_record before; effects = false }
+first_record = record { first = []; now = λ before fields ctx. unless_after (has_record before) (event.Rec fields ctx); late = λ before ctx. []; closed = λ before. has_record before; effects = false }
 
-record-alone : (met : Bool) (fields : List (List ℕ × Tree)) (ctx : Ctx) → list_all is_record (unless_behind met (event.Rec fields ctx)) ≡ true
+record-alone : (met : Bool) (fields : List (List ℕ × Tree)) (ctx : Ctx) → list_all is_record (unless_after met (event.Rec fields ctx)) ≡ true
 record-alone true fields ctx = refl
 record-alone false fields ctx = refl
 
-record-part : (met : Bool) (fields : List (List ℕ × Tree)) (ctx : Ctx) → is_part (unless_behind met (event.Rec fields ctx)) ≡ true
+record-part : (met : Bool) (fields : List (List ℕ × Tree)) (ctx : Ctx) → is_part (unless_after met (event.Rec fields ctx)) ≡ true
 record-part true fields ctx = refl
 record-part false fields ctx = refl
 
@@ -35,11 +35,11 @@ pub first-orderly : KeepsOrder first_record
 first-orderly = record { first = refl; now = λ before fields ctx. record-part (has_record before) fields ctx; late = λ before ctx. refl }
 
 pub first-closes : StaysClosed first_record
-first-closes before behind is =
-    let met : has_record (before ++ behind) ≡ true = list_any-append is_record before behind ∙ ap (λ b. b || has_record behind) is in
-    (λ fields ctx. ap (λ b. unless_behind b (event.Rec fields ctx)) met, λ ctx. refl)
+first-closes before following is =
+    let met : has_record (before ++ following) ≡ true = list_any-append is_record before following ∙ ap (λ b. b || has_record following) is in
+    (λ fields ctx. ap (λ b. unless_after b (event.Rec fields ctx)) met, λ ctx. refl)
 
-pub first-gives : (before : List Event) (e : Event) → gives first_record before e ≡ unless_behind (has_record before) e
+pub first-gives : (before : List Event) (e : Event) → gives first_record before e ≡ unless_after (has_record before) e
 first-gives before (event.Rec fields ctx) = refl
 first-gives before (event.Text text) = refl
 first-gives before (event.Out target piece) = refl
@@ -47,5 +47,5 @@ first-gives before (event.End ctx) = refl
 first-gives before (event.Fault fault) = refl
 
 -- whether it met a record
-abbrev pub FirstStands : Bool → Bool → List Event → Type 0
-FirstStands broken met given = (broken ≡ false) × (met ≡ has_record given)
+abbrev pub FirstRepresents : Bool → Bool → List Event → Type 0
+FirstRepresents broken met given = (broken ≡ false) × (met ≡ has_record given)

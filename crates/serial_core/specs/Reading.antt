@@ -7,31 +7,31 @@ use Rattle.mlr_world.specs.Inputs.{Contents}
 use Rattle.mlr_world.specs.Taken.{Take}
 use Rattle.read_files.specs.declared.reader.ReadTurn.{ReadTurn}
 use Rattle.read_files.specs.declared.reader.ReadTurn.TheVariants.{Went, Ended, Failed, TooLong, NoMemory}
-use Rattle.read_files.specs.Given.{Behind, GoesOn, InOrder, ends, stops_at, total}
+use Rattle.read_files.specs.Takes.{After, GoesOn, InOrder, ends, stops_at, total}
 use Rattle.read_files.specs.Sources.{events_taken}
-use Rattle.read_files.specs.Standing as file
+use Rattle.read_files.specs.Represents as file
 use Rattle.verbs_seq.specs.Seq.{IsSoundSeq, seq_all, seq_events}
 use Rattle.verbs_seq.specs.declared.seq_spec.SeqSpec.{SeqSpec}
 use Rattle.verbs_seq.specs.declared.source.SeqSource.{SeqSource}
-use Rattle.verbs_seq.specs.Standing as seq
+use Rattle.verbs_seq.specs.Represents as seq
 use Rattle.serial_core.specs.declared.reader.Reader.{Reader}
 use Rattle.serial_core.specs.declared.reader.Reader.TheVariants as reader
 use Rattle.serial_core.specs.Command.{Origin, files, numbers, given_by, names_of}
 
 -- it reads this origin, this was taken of its inputs, and these events were put out
-abbrev pub ReaderStands : Origin → List Take → List Event → Reader → Type 0
-ReaderStands (files opts names) given read (reader.Files all) = file.StandsFor opts names given all × (read ≡ events_taken opts given)
-ReaderStands (files opts names) given read (reader.Numbers all) = ⊥
-ReaderStands (numbers spec) given read (reader.Files all) = ⊥
-ReaderStands (numbers spec) given read (reader.Numbers all) =
-    (n : ℕ) × IsSoundSeq spec × seq.StandsAt spec n all × (read ≡ seq_events spec 0 n) × (given ≡ [])
+abbrev pub ReaderRepresents : Origin → List Take → List Event → Reader → Type 0
+ReaderRepresents (files opts names) given read (reader.Files all) = file.Represents opts names given all × (read ≡ events_taken opts given)
+ReaderRepresents (files opts names) given read (reader.Numbers all) = ⊥
+ReaderRepresents (numbers spec) given read (reader.Files all) = ⊥
+ReaderRepresents (numbers spec) given read (reader.Numbers all) =
+    (n : ℕ) × IsSoundSeq spec × seq.RepresentsAt spec n all × (read ≡ seq_events spec 0 n) × (given ≡ [])
 
 -- what a turn of the numbers says: the next of them came, or all that were left and the end
 pub record Counts (turn : ReadTurn) (spec : SeqSpec) (given : ℕ) (after : SeqSource) (out out' : List Event) : Type 0 where
   pub some : ℕ
   pub put : List Event
-  pub puts : (turn ≡ NoMemory → ⊥) → out' ≡ out ++ put
-  pub next : turn ≡ Went → (put ≡ seq_events spec given some) × (put ≡ [] → ⊥) × seq.StandsAt spec (given + some) after
+  pub appends : (turn ≡ NoMemory → ⊥) → out' ≡ out ++ put
+  pub next : turn ≡ Went → (put ≡ seq_events spec given some) × (put ≡ [] → ⊥) × seq.RepresentsAt spec (given + some) after
   pub last : turn ≡ Ended → seq_events spec 0 given ++ put ≡ seq_all spec
   pub answers : (turn ≡ Went) ⊎ ((turn ≡ Ended) ⊎ (turn ≡ NoMemory))
 
@@ -47,7 +47,7 @@ ReadSays NoMemory origin given read rest = Unit {0}
 pub record TookMore (origin : Origin) (before : Option (List Take)) (given given' : List Take) (contents : Option Contents) (taken' : Option (List Take)) (name' : Option InputName) : Type 0 where
   pub order : InOrder (names_of origin) given'
   pub goes_on : GoesOn given given'
-  pub behind : Behind before given' contents taken' name'
+  pub following : After before given' contents taken' name'
   pub one_read : total given' < total given + 65536
   pub few : total given' ≤ 2 ^ 60
 
@@ -64,9 +64,9 @@ pub record Read (turn : ReadTurn) (origin : Origin) (before : Option (List Take)
   pub rest : List Event
   pub events : given_by origin given' ≡ (read ++ put) ++ rest
   pub list : is_list (given_by origin given') ≡ true
-  pub puts : (turn ≡ NoMemory → ⊥) → out' ≡ out ++ put
+  pub appends : (turn ≡ NoMemory → ⊥) → out' ≡ out ++ put
   pub fails : ((name : InputName) → turn ≡ Failed name → put ≡ [])
   pub says : ReadSays turn origin given' (read ++ put) rest
-  pub stands : turn ≡ Went → ReaderStands origin given' (read ++ put) after
+  pub represents : turn ≡ Went → ReaderRepresents origin given' (read ++ put) after
   pub early : (given' ≡ given) ⊎ (given_by origin given ≡ read)
   pub came_on : turn ≡ Went → CameOn origin given given' put

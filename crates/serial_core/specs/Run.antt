@@ -6,11 +6,11 @@ use Rattle.mlr_event.specs.Verb.{is_open}
 use Rattle.mlr_world.specs.Inputs.{Contents}
 use Rattle.mlr_world.specs.Outputs.{Held, ChangesAt}
 use Rattle.mlr_world.specs.Taken.{Take}
-use Rattle.read_files.specs.Given.{AreWhole, Behind, InOrder, taken_by, total}
+use Rattle.read_files.specs.Takes.{AreWhole, After, InOrder, taken_by, total}
 use Rattle.serial_core.specs.declared.answer.Ended.{Ended}
 use Rattle.serial_core.specs.declared.answer.Ended.TheVariants as answer
 use Rattle.serial_core.specs.Command.{Command, names_of, result, text}
-use Rattle.serial_core.specs.Standing.{Leaves, Says}
+use Rattle.serial_core.specs.Represents.{Leaves, Says}
 
 -- Little was taken: nothing where the result was fixed before, and else fewer than 65,536 bytes more than fix it.
 pub record StopsEarly (command : Command) (told : Contents) (given : List Take) : Type 0 where
@@ -21,7 +21,7 @@ pub record StopsEarly (command : Command) (told : Contents) (given : List Take) 
 pub record Run (ended : Ended) (command : Command) (contents : Option Contents) (taken taken' : Option (List Take)) (name' : Option InputName) (held held' : Option Held) : Type 0 where
   pub given : List Take
   pub order : InOrder (names_of command.origin) given
-  pub behind : Behind taken given contents taken' name'
+  pub following : After taken given contents taken' name'
   pub few : total given ≤ 2 ^ 60
   pub says : Says ended command given
   pub leaves : ChangesAt Stdout (Leaves ended (text command given)) held held'

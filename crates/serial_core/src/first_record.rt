@@ -14,7 +14,7 @@ pub(crate) struct FirstRecord {
 impl FirstRecord {
     /// A verb that was given nothing.
     pub(crate) fn new() -> Self
-        ensures stands { ⟦<FirstRecord as Step>⟧.stands result [] }
+        ensures represents { ⟦<FirstRecord as Step>⟧.represents result [] }
         ensures first { (⟦<FirstRecord as Step>⟧.verb result).first ≡ [] }
     {
         FirstRecord {
@@ -27,11 +27,11 @@ impl FirstRecord {
 impl Step for FirstRecord {
     ghost use Rattle.std.specs.Prelude.{◌≡◌, true};
     ghost use Rattle.mlr_event.specs.Models.{never-both};
-    ghost use Rattle.serial_core.specs.Models.{FirstStands, first_record, first-closes, first-orderly, first-quiet};
+    ghost use Rattle.serial_core.specs.Models.{FirstRepresents, first_record, first-closes, first-orderly, first-quiet};
 
     ghost verb = { λ s. first_record };
 
-    ghost stands = { λ s given. FirstStands s.broken s.met given };
+    ghost represents = { λ s given. FirstRepresents s.broken s.met given };
 
     ghost broken = { λ s. s.broken ≡ true };
 

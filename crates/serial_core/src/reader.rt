@@ -1,13 +1,13 @@
 ghost use Rattle.std.specs.Prelude.{◌≡◌, ℕ, List, Option};
 ghost use Rattle.mlr_event.specs.declared.event.Event.{Event as SpecEvent};
 ghost use Rattle.mlr_world.specs.Taken.{Take};
-ghost use Rattle.read_files.specs.Given.{Behind};
-ghost use Rattle.read_files.specs.Standing.{TurnCause};
+ghost use Rattle.read_files.specs.Takes.{After};
+ghost use Rattle.read_files.specs.Represents.{TurnCause};
 ghost use Rattle.serial_core.specs.Command.{Origin};
 ghost use Rattle.verbs_seq.specs.Seq.{IsSoundSeq};
-ghost use Rattle.verbs_seq.specs.Standing.{StandsAt};
+ghost use Rattle.verbs_seq.specs.Represents.{RepresentsAt};
 ghost use Rattle.verbs_seq.specs.declared.seq_spec.SeqSpec.{SeqSpec};
-ghost use Rattle.serial_core.specs.Reading.{Counts, Read, ReaderStands};
+ghost use Rattle.serial_core.specs.Reading.{Counts, Read, ReaderRepresents};
 
 use mlr_event::{Event, Events};
 use mlr_world::Inputs;
@@ -29,9 +29,17 @@ pub enum Reader {
 impl Reader {
     /// Makes one read of fewer than 65,536 bytes, or takes the next numbers, and puts behind `out` what that fixes.
     pub fn turn<I: Inputs>(&mut self, inputs: &mut I, out: &mut Events) -> ReadTurn
-        requires { (origin : Origin) × (before : Option (List Take)) × (given : List Take) × (read : List SpecEvent) × ReaderStands origin given read self.old × Behind before given (I.contents inputs.old) (I.taken inputs.old) (I.open_name inputs.old) }
-        ensures read { (origin : Origin) (before : Option (List Take)) (given : List Take) (read : List SpecEvent) → ReaderStands origin given read self.old → Behind before given (I.contents inputs.old) (I.taken inputs.old) (I.open_name inputs.old)
-            → Read result origin before given read self.new (I.contents inputs.old) (I.taken inputs.new) (I.open_name inputs.new) out.old out.new }
+        requires { (origin : Origin) × (before : Option (List Take)) × (given : List Take)
+            × (read : List SpecEvent) × ReaderRepresents origin given read self.old
+            × After before given (I.contents inputs.old) (I.taken inputs.old)
+            (I.open_name inputs.old) }
+        ensures read { (origin : Origin) (before : Option (List Take)) (given : List Take)
+            (read : List SpecEvent)
+            → ReaderRepresents origin given read self.old
+            → After before given (I.contents inputs.old) (I.taken inputs.old)
+            (I.open_name inputs.old)
+            → Read result origin before given read self.new (I.contents inputs.old)
+            (I.taken inputs.new) (I.open_name inputs.new) out.old out.new }
         ensures contents { I.contents inputs.new ≡ I.contents inputs.old }
         ensures cause { TurnCause result (I.faults inputs.old) (I.faults inputs.new) }
     {
@@ -45,8 +53,9 @@ impl Reader {
 
 /// Puts the next numbers behind `out`, and the end behind the last.
 fn next_numbers(numbers: &mut SeqSource, out: &mut Events) -> ReadTurn
-    requires { (seq : SeqSpec) × (given : ℕ) × IsSoundSeq seq × StandsAt seq given numbers.old }
-    ensures { (seq : SeqSpec) (given : ℕ) → IsSoundSeq seq → StandsAt seq given numbers.old → Counts result seq given numbers.new out.old out.new }
+    requires { (seq : SeqSpec) × (given : ℕ) × IsSoundSeq seq × RepresentsAt seq given numbers.old }
+    ensures { (seq : SeqSpec) (given : ℕ) → IsSoundSeq seq → RepresentsAt seq given numbers.old
+        → Counts result seq given numbers.new out.old out.new }
 {
     match numbers.fill(NUMBERS_AT_ONCE, out) {
         Ok(true) => ReadTurn::Went,

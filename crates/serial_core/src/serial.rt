@@ -4,17 +4,17 @@ ghost use Rattle.mlr_event.specs.declared.names.InputName.{InputName};
 ghost use Rattle.mlr_event.specs.declared.names.Target.TheVariants.{Stdout};
 ghost use Rattle.mlr_world.specs.Counts.{Counted, Rose};
 ghost use Rattle.mlr_world.specs.Taken.{Take};
-ghost use Rattle.read_files.specs.Given.{Behind};
+ghost use Rattle.read_files.specs.Takes.{After};
 ghost use Rattle.serial_core.specs.Command.{Command};
 ghost use Rattle.mlr_event.specs.Verb.{is_list};
 ghost use Rattle.writers.specs.declared.options.WriteOpts.{WriteOpts as Options};
-ghost use Rattle.outlet.specs.Standing.{StandsFor};
+ghost use Rattle.outlet.specs.Represents.{Represents};
 ghost use Rattle.chain_core.specs.Chain.{chain};
-ghost use Rattle.chain_core.specs.Standing.{StandsFor as Chained, verbs_in};
-ghost use Rattle.serial_core.specs.Reading.{ReaderStands};
+ghost use Rattle.chain_core.specs.Represents.{Represents as Chained, verbs_in};
+ghost use Rattle.serial_core.specs.Reading.{ReaderRepresents};
 ghost use Rattle.serial_core.specs.Answer.{has_failed};
 ghost use Rattle.serial_core.specs.Run.{Completes, HoldsAll, Run};
-ghost use Rattle.serial_core.specs.Standing.{Begins, CanPass, InputCause, Passed, Ran, SerialStands, Settled, TurnCounts, Wrote, behind, turn_failed, write_failed};
+ghost use Rattle.serial_core.specs.Represents.{Begins, CanPass, InputCause, Passed, Ran, SerialRepresents, Settled, TurnCounts, Wrote, following, turn_failed, write_failed};
 
 use crate::answer::Ended;
 use crate::reader::Reader;
@@ -62,7 +62,10 @@ impl<S: Step + Drop> Serial<S> {
     /// A run that begins: what the verbs have made of nothing is in `made`, and nothing was read or written. It takes no
     /// memory.
     pub fn new(reader: Reader, stages: Chain<S>, made: Events, outlet: Outlet) -> Self
-        ensures { (command : Command) → ReaderStands command.origin [] [] reader → verbs_in S.verb stages ≡ command.verbs → Chained S.verb S.stands [] stages → made ≡ chain command.verbs [] → StandsFor command.write [] outlet → Begins S.verb S.stands command result }
+        ensures { (command : Command) → ReaderRepresents command.origin [] [] reader
+            → verbs_in S.verb stages ≡ command.verbs → Chained S.verb S.represents [] stages
+            → made ≡ chain command.verbs [] → Represents command.write [] outlet
+            → Begins S.verb S.represents command result }
     {
         Serial {
             reader,
@@ -74,12 +77,23 @@ impl<S: Step + Drop> Serial<S> {
 
     /// Makes at most one read, of fewer than 65,536 bytes, and writes all text that is fixed then.
     pub fn turn<I: Inputs, O: Outputs>(&mut self, inputs: &mut I, outputs: &mut O) -> SerialTurn
-        requires { (command : Command) × (before : Option (List Take)) × (given : List Take) × (read : List SpecEvent) × (shown : List SpecEvent) × SerialStands S.verb S.stands command given read shown self.old × Behind before given (I.contents inputs.old) (I.taken inputs.old) (I.open_name inputs.old) }
-        ensures ran { (command : Command) (before : Option (List Take)) (given : List Take) (read shown : List SpecEvent) → SerialStands S.verb S.stands command given read shown self.old → Behind before given (I.contents inputs.old) (I.taken inputs.old) (I.open_name inputs.old)
-            → Ran result S.verb S.stands command before given read shown self.new (I.contents inputs.old) (I.taken inputs.new) (I.open_name inputs.new) (O.held outputs.old) (O.held outputs.new) }
+        requires { (command : Command) × (before : Option (List Take)) × (given : List Take)
+            × (read : List SpecEvent) × (shown : List SpecEvent)
+            × SerialRepresents S.verb S.represents command given read shown self.old
+            × After before given (I.contents inputs.old) (I.taken inputs.old)
+            (I.open_name inputs.old) }
+        ensures ran { (command : Command) (before : Option (List Take)) (given : List Take)
+            (read shown : List SpecEvent)
+            → SerialRepresents S.verb S.represents command given read shown self.old
+            → After before given (I.contents inputs.old) (I.taken inputs.old)
+            (I.open_name inputs.old)
+            → Ran result S.verb S.represents command before given read shown self.new
+            (I.contents inputs.old) (I.taken inputs.new) (I.open_name inputs.new)
+            (O.held outputs.old) (O.held outputs.new) }
         ensures contents { I.contents inputs.new ≡ I.contents inputs.old }
         ensures cause { TurnCounts result (I.faults inputs.old) (I.faults inputs.new) }
-        ensures counts { Counted (turn_failed result) (O.faults outputs.old) (O.faults outputs.new) Stdout }
+        ensures counts { Counted (turn_failed result) (O.faults outputs.old) (O.faults outputs.new)
+            Stdout }
         ensures shortages { O.shortages outputs.old ≤ O.shortages outputs.new }
     {
         chain_laws();
@@ -93,15 +107,20 @@ impl<S: Step + Drop> Serial<S> {
 
     /// Goes on from turn to turn until the run is over.
     pub fn run<I: Inputs, O: Outputs>(&mut self, inputs: &mut I, outputs: &mut O) -> Ended
-        requires { (command : Command) × Begins S.verb S.stands command self.old }
-        ensures run { (command : Command) → Begins S.verb S.stands command self.old → Run result command (I.contents inputs.old) (I.taken inputs.old) (I.taken inputs.new) (I.open_name inputs.new) (O.held outputs.old) (O.held outputs.new) }
+        requires { (command : Command) × Begins S.verb S.represents command self.old }
+        ensures run { (command : Command) → Begins S.verb S.represents command self.old
+            → Run result command (I.contents inputs.old) (I.taken inputs.old) (I.taken inputs.new)
+            (I.open_name inputs.new) (O.held outputs.old) (O.held outputs.new) }
         ensures contents { I.contents inputs.new ≡ I.contents inputs.old }
         ensures cause { InputCause result (I.faults inputs.old) (I.faults inputs.new) }
-        ensures counts { Counted (has_failed result) (O.faults outputs.old) (O.faults outputs.new) Stdout }
+        ensures counts { Counted (has_failed result) (O.faults outputs.old) (O.faults outputs.new)
+            Stdout }
         ensures shortages { O.shortages outputs.old ≤ O.shortages outputs.new }
         // Where no call fails, the answer is that of all that the inputs hold.
-        ensures completes { (command : Command) → Begins S.verb S.stands command self.old → (holds : HoldsAll command (I.contents inputs.old) (I.taken inputs.old))
-            → ((name : InputName) → ¬ Rose (I.faults inputs.old name) (I.faults inputs.new name)) → ¬ Rose (O.faults outputs.old Stdout) (O.faults outputs.new Stdout)
+        ensures completes { (command : Command) → Begins S.verb S.represents command self.old
+            → (holds : HoldsAll command (I.contents inputs.old) (I.taken inputs.old))
+            → ((name : InputName) → ¬ Rose (I.faults inputs.old name) (I.faults inputs.new name))
+            → ¬ Rose (O.faults outputs.old Stdout) (O.faults outputs.new Stdout)
             → Completes result command holds.whole (O.held outputs.old) (O.held outputs.new) }
     {
         chain_laws();
@@ -117,12 +136,22 @@ impl<S: Step + Drop> Serial<S> {
 
     /// Makes a read, and writes all text that is fixed then. Nothing is at hand.
     fn read<I: Inputs, O: Outputs>(&mut self, inputs: &mut I, outputs: &mut O) -> SerialTurn
-        requires { (command : Command) × (before : Option (List Take)) × (given : List Take) × (read : List SpecEvent) × Settled S.verb S.stands command given read self.old × Behind before given (I.contents inputs.old) (I.taken inputs.old) (I.open_name inputs.old) }
-        ensures ran { (command : Command) (before : Option (List Take)) (given : List Take) (read : List SpecEvent) → Settled S.verb S.stands command given read self.old → Behind before given (I.contents inputs.old) (I.taken inputs.old) (I.open_name inputs.old)
-            → Ran result S.verb S.stands command before given read (chain command.verbs read) self.new (I.contents inputs.old) (I.taken inputs.new) (I.open_name inputs.new) (O.held outputs.old) (O.held outputs.new) }
+        requires { (command : Command) × (before : Option (List Take)) × (given : List Take)
+            × (read : List SpecEvent) × Settled S.verb S.represents command given read self.old
+            × After before given (I.contents inputs.old) (I.taken inputs.old)
+            (I.open_name inputs.old) }
+        ensures ran { (command : Command) (before : Option (List Take)) (given : List Take)
+            (read : List SpecEvent)
+            → Settled S.verb S.represents command given read self.old
+            → After before given (I.contents inputs.old) (I.taken inputs.old)
+            (I.open_name inputs.old)
+            → Ran result S.verb S.represents command before given read (chain command.verbs read)
+            self.new (I.contents inputs.old) (I.taken inputs.new) (I.open_name inputs.new)
+            (O.held outputs.old) (O.held outputs.new) }
         ensures contents { I.contents inputs.new ≡ I.contents inputs.old }
         ensures cause { TurnCounts result (I.faults inputs.old) (I.faults inputs.new) }
-        ensures counts { Counted (turn_failed result) (O.faults outputs.old) (O.faults outputs.new) Stdout }
+        ensures counts { Counted (turn_failed result) (O.faults outputs.old) (O.faults outputs.new)
+            Stdout }
         ensures shortages { O.shortages outputs.old ≤ O.shortages outputs.new }
     {
         chain_laws();
@@ -132,18 +161,22 @@ impl<S: Step + Drop> Serial<S> {
             ReadTurn::NoMemory => SerialTurn::Over(Ended::NoMemory),
             read => match self.pass(outputs) {
                 Some(ended) => SerialTurn::Over(ended),
-                None => behind(read),
+                None => following(read),
             },
         }
     }
 
     /// Takes what was read through the verbs, writes what they make of it, and says how the run ended, if it did.
     fn pass<O: Outputs>(&mut self, outputs: &mut O) -> Option<Ended>
-        requires { (opts : Options) × (read : List SpecEvent) × CanPass S.verb S.stands opts read self.old }
-        ensures passed { (opts : Options) (read : List SpecEvent) → CanPass S.verb S.stands opts read self.old
-            → Passed result S.verb S.stands opts (verbs_in S.verb self.old.stages) read self.old.events self.new (O.held outputs.old) (O.held outputs.new) }
+        requires { (opts : Options) × (read : List SpecEvent)
+            × CanPass S.verb S.represents opts read self.old }
+        ensures passed { (opts : Options) (read : List SpecEvent)
+            → CanPass S.verb S.represents opts read self.old
+            → Passed result S.verb S.represents opts (verbs_in S.verb self.old.stages) read
+            self.old.events self.new (O.held outputs.old) (O.held outputs.new) }
         ensures reader { self.new.reader ≡ self.old.reader }
-        ensures counts { Counted (write_failed result) (O.faults outputs.old) (O.faults outputs.new) Stdout }
+        ensures counts { Counted (write_failed result) (O.faults outputs.old) (O.faults outputs.new)
+            Stdout }
         ensures shortages { O.shortages outputs.old ≤ O.shortages outputs.new }
     {
         chain_laws();
@@ -156,13 +189,19 @@ impl<S: Step + Drop> Serial<S> {
 
     /// Writes what is at hand, and says how the run ended, if it did.
     fn write<O: Outputs>(&mut self, outputs: &mut O) -> Option<Ended>
-        requires { (opts : Options) × (shown : List SpecEvent) × StandsFor opts shown self.old.outlet × (is_list (shown ++ self.old.events) ≡ true) }
-        ensures wrote { (opts : Options) (shown : List SpecEvent) → StandsFor opts shown self.old.outlet → is_list (shown ++ self.old.events) ≡ true → Wrote result opts shown self.old.events (O.held outputs.old) (O.held outputs.new) }
-        ensures stands { (opts : Options) (shown : List SpecEvent) → StandsFor opts shown self.old.outlet → is_list (shown ++ self.old.events) ≡ true → result ≡ None → StandsFor opts (shown ++ self.old.events) self.new.outlet }
+        requires { (opts : Options) × (shown : List SpecEvent)
+            × Represents opts shown self.old.outlet × (is_list (shown ++ self.old.events) ≡ true) }
+        ensures wrote { (opts : Options) (shown : List SpecEvent)
+            → Represents opts shown self.old.outlet → is_list (shown ++ self.old.events) ≡ true
+            → Wrote result opts shown self.old.events (O.held outputs.old) (O.held outputs.new) }
+        ensures represents { (opts : Options) (shown : List SpecEvent)
+            → Represents opts shown self.old.outlet → is_list (shown ++ self.old.events) ≡ true
+            → result ≡ None → Represents opts (shown ++ self.old.events) self.new.outlet }
         ensures emptied { result ≡ None → self.new.events ≡ [] }
         ensures reader { self.new.reader ≡ self.old.reader }
         ensures stages { self.new.stages ≡ self.old.stages }
-        ensures counts { Counted (write_failed result) (O.faults outputs.old) (O.faults outputs.new) Stdout }
+        ensures counts { Counted (write_failed result) (O.faults outputs.old) (O.faults outputs.new)
+            Stdout }
         ensures shortages { O.shortages outputs.old ≤ O.shortages outputs.new }
     {
         match self.outlet.take_all(&mut self.events, outputs) {
@@ -176,8 +215,8 @@ impl<S: Step + Drop> Serial<S> {
 }
 
 /// The answer behind a read, where what was written has no end and no fault.
-fn behind(read: ReadTurn) -> SerialTurn
-    ensures { result ≡ behind read }
+fn following(read: ReadTurn) -> SerialTurn
+    ensures { result ≡ following read }
 {
     match read {
         ReadTurn::Went => SerialTurn::Went,

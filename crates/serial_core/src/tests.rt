@@ -1,8 +1,8 @@
 //! Runs over inputs and outputs in memory, with a verb that passes what it gets, or one that the first record closes.
 ghost use Rattle.std.specs.Prelude.{◌≡◌, ◌∷◌, [], IfOk};
 ghost use Rattle.serial_core.specs.Command.{Origin};
-ghost use Rattle.serial_core.specs.Reading.{ReaderStands};
-ghost use Rattle.serial_core.specs.Standing.{Begins};
+ghost use Rattle.serial_core.specs.Reading.{ReaderRepresents};
+ghost use Rattle.serial_core.specs.Represents.{Begins};
 
 use crate::first_record::FirstRecord;
 use crate::{Ended, Reader, Serial};
@@ -56,9 +56,15 @@ fn run_of<S: Step + Drop>(
     verb: S,
     write: &WriteOpts,
 ) -> Result<Serial<S>, NoMemory>
-    requires stands { S.stands verb [] }
+    requires represents { S.represents verb [] }
     requires first { (S.verb verb).first ≡ [] }
-    ensures { IfOk result (λ made. (origin : Origin) → ReaderStands origin [] [] reader → Begins S.verb S.stands (record { origin = origin; verbs = S.verb verb ∷ []; write = write.now }) made) }
+    ensures { IfOk result (λ made. (origin : Origin) → ReaderRepresents origin [] [] reader
+        → Begins S.verb S.represents (record {
+          origin = origin;
+          verbs = S.verb verb
+              ∷ [];
+          write = write.now;
+        }) made) }
 {
     let mut stages = Chain::new(alloc);
     let mut made = Events::new(alloc);
@@ -114,7 +120,7 @@ fn run_files<S: Step + Drop>(
     verb: S,
     outputs: &mut MemOutputs,
 ) -> Result<Ended, NoMemory>
-    requires stands { S.stands verb [] }
+    requires represents { S.represents verb [] }
     requires first { (S.verb verb).first ≡ [] }
 {
     let opts = csv(alloc)?;

@@ -65,7 +65,10 @@ fn change_field<C: Change>(
     place: usize,
 ) -> Result<(), NoMemory>
     requires { place < length fields.old }
-    ensures changed { OnOk result ((pair : List ℕ × Tree) → fields.new ≡ set fields.old place (changed_field (C.takes change.old) (C.image change.old) (slice_index_or fields.old place pair))) }
+    ensures changed { OnOk result ((pair : List ℕ × Tree)
+        → fields.new ≡ set fields.old place
+        (changed_field (C.takes change.old) (C.image change.old)
+        (slice_index_or fields.old place pair))) }
     ensures takes { C.takes change.new ≡ C.takes change.old }
     ensures image { C.image change.new ≡ C.image change.old }
 {

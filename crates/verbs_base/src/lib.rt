@@ -2,11 +2,11 @@
 #![tactic(auto)]
 
 mod change;
+mod field_choice;
 mod string;
-mod taken;
 #[cfg(test)]
 mod tests;
 
 pub use change::{Change, change_from, change_record};
+pub use field_choice::{first_taken, is_taken};
 pub use string::string_of;
-pub use taken::{first_taken, is_taken};

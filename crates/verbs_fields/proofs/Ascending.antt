@@ -39,13 +39,13 @@ before-chain a b c h g =
 
 -- of two names that aren't equal one comes before the other
 decided : (o : Ordering) → is_lt (ordering_reverse o) ≡ false → is_eq o ≡ false → is_lt o ≡ true
-decided Less not_behind apart = refl
-decided Equal not_behind apart = absurd (true≢false apart)
-decided Greater not_behind apart = absurd (true≢false not_behind)
+decided Less not_after apart = refl
+decided Equal not_after apart = absurd (true≢false apart)
+decided Greater not_after apart = absurd (true≢false not_after)
 
 before-apart : (a b : List ℕ) → bytes_eq a b ≡ false → is_before b a ≡ false → is_before a b ≡ true
-before-apart a b apart behind =
-    decided (slice_cmp nat_cmp a b) (ap is_lt (sym (nat_list_cmp_total.antisymm b a)) ∙ behind) (is_eq-slice_cmp a b ∙ apart)
+before-apart a b apart following =
+    decided (slice_cmp nat_cmp a b) (ap is_lt (sym (nat_list_cmp_total.antisymm b a)) ∙ following) (is_eq-slice_cmp a b ∙ apart)
 
 -- what stands in a list
 abbrev In : {A : Type 0} → A → List A → Type 0
@@ -139,8 +139,8 @@ by_name-in : (pairs : List Pair) (z : Pair) → In z pairs → In z (by_name pai
 by_name-in [] z h = h
 by_name-in (p ∷ pairs) z h = inserted-in p (by_name pairs) z (elim h [ inl same ↦ inl same | inr there ↦ inr (by_name-in pairs z there) ])
 
-ascends-behind : (p q : Pair) (pairs : List Pair) → Ascends (q ∷ pairs) → Ascends (insert_by_name p pairs) → is_before q.0 p.0 ≡ true → Ascends (q ∷ insert_by_name p pairs)
-ascends-behind p q pairs up rest is = (
+ascends-following : (p q : Pair) (pairs : List Pair) → Ascends (q ∷ pairs) → Ascends (insert_by_name p pairs) → is_before q.0 p.0 ≡ true → Ascends (q ∷ insert_by_name p pairs)
+ascends-following p q pairs up rest is = (
   (λ z h. elim (in-inserted p pairs z h) [
     | inl same ↦ subst (λ w. is_before q.0 w.0 ≡ true) (sym same) is
     | inr there ↦ up.0 z there
@@ -161,7 +161,7 @@ ascends-inserted : (p : Pair) (pairs : List Pair) → Ascends pairs → ((z : Pa
 ascends-inserted p [] up apart = ((λ z h. absurd h), tt)
 ascends-inserted p (q ∷ pairs) up apart =
     cond_both (is_before q.0 p.0) (q ∷ insert_by_name p pairs) (p ∷ q ∷ pairs) Ascends
-    (λ is. ascends-behind p q pairs up (ascends-inserted p pairs up.1 (λ z h. apart z (inr h))) is)
+    (λ is. ascends-following p q pairs up (ascends-inserted p pairs up.1 (λ z h. apart z (inr h))) is)
     (λ isnt. ascends-here p q pairs up (before-apart p.0 q.0 (apart q (inl refl)) isnt))
 
 -- a name that none has isn't that of a pair in the list
@@ -192,10 +192,10 @@ module _ {A : Type 0} (pair_of : A → Pair) where
         (λ z h. (
             let at = in-map pair_of xs z h in
             let place = in-contains xs at.0 at.1 in
-            let behind : precedes at.0 x ≡ false =
+            let following : precedes at.0 x ≡ false =
             ap (λ y. precedes y x) (sym place.2) ∙ far 0 (suc place.0) at.0 (omega arith) (omega (arith, place.1)) in
             before-apart (pair_of x).0 z.0 (apart-in (pair_of x).0 (map pair_of xs) z (not-true _ parts.0) h)
-            (ap (λ w. is_before w.0 (pair_of x).0) at.2 ∙ behind)
+            (ap (λ w. is_before w.0 (pair_of x).0) at.2 ∙ following)
             )),
         ascends-far xs (λ i j d order below. far (suc i) (suc j) d (omega arith) (omega arith)) parts.1,
       )

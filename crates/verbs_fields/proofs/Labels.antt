@@ -42,12 +42,12 @@ are_distinct-drop (suc n) (p ∷ pairs) distinct =
 
 pub are_distinct-labelled : (names : List (List ℕ)) (pairs : List (List ℕ × Tree)) → are_distinct names ≡ true → are_distinct (keys_of pairs) ≡ true → are_distinct (keys_of (labelled names pairs)) ≡ true
 are_distinct-labelled names pairs once distinct =
-    let front = zip names (values_of pairs) in
-    let behind = drop (length names) pairs in
-    ap are_distinct (map-append (λ (pair : List ℕ × Tree). pair.0) front (dropped names behind))
-    ∙ are_distinct-append (keys_of front) (keys_of (dropped names behind)) (are_distinct-zip names (values_of pairs) once)
-    (are_distinct-filter (λ pair. not (is_among names pair.0)) behind (are_distinct-drop (length names) pairs distinct)) (λ key among.
-    elim (cases_Bool (is_among names key)) as (λ _. is_among (keys_of (dropped names behind)) key ≡ false) [
-      | inl is ↦ dropped-named names behind key is
+    let prefix = zip names (values_of pairs) in
+    let following = drop (length names) pairs in
+    ap are_distinct (map-append (λ (pair : List ℕ × Tree). pair.0) prefix (dropped names following))
+    ∙ are_distinct-append (keys_of prefix) (keys_of (dropped names following)) (are_distinct-zip names (values_of pairs) once)
+    (are_distinct-filter (λ pair. not (is_among names pair.0)) following (are_distinct-drop (length names) pairs distinct)) (λ key among.
+    elim (cases_Bool (is_among names key)) as (λ _. is_among (keys_of (dropped names following)) key ≡ false) [
+      | inl is ↦ dropped-named names following key is
       | inr isnt ↦ absurd (true≢false (sym among ∙ any-zip (bytes_eq key) names (values_of pairs) isnt))
     ])

@@ -1,6 +1,7 @@
 -- Another text in place of the spaces of a record.
 use Rattle.std.specs.Prelude.{ℕ, Bool, true, false, ◌&&◌, ◌||◌, ◌==◌, if◌then◌else◌, List, [], ◌∷◌, map}
 use Rattle.std.specs.List.{list_any, flat_map}
+use Rattle.mlr_spec.specs.Ascii.{space}
 use Rattle.mlr_spec.specs.Tree.{Tree, string}
 use Rattle.mlr_spec.specs.Pairs.{put_each}
 use Rattle.mlr_spec.specs.Infer.{tree_of_data}
@@ -9,11 +10,11 @@ use Rattle.verbs_fields.specs.declared.spaces.UnspacePart.{UnspacePart}
 use Rattle.verbs_fields.specs.declared.spaces.UnspacePart.TheVariants.{Both, Keys, Values}
 
 abbrev pub has_space : List ℕ → Bool
-has_space text = list_any (λ b. b == 32) text
+has_space text = list_any (λ b. b == space) text
 
 -- a byte, or the other text in place of a space
 abbrev pub unspaced_byte : List ℕ → ℕ → List ℕ
-unspaced_byte other b = if b == 32 then other else b ∷ []
+unspaced_byte other b = if b == space then other else b ∷ []
 
 abbrev pub unspaced_text : List ℕ → List ℕ → List ℕ
 unspaced_text other text = flat_map (unspaced_byte other) text

@@ -7,7 +7,7 @@ ghost use Rattle.mlr_value.specs.Value.{tree_of};
 ghost use Rattle.mlr_record.specs.Fields.{pair_of, pairs_of};
 ghost use Rattle.verbs_fields.specs.Choosing.{dropped, is_empty, is_sparse, kept, picked, put_once, sparse, templated};
 
-use crate::taking::{take_field, take_named};
+use crate::extraction::{take_field, take_named};
 use mlr_event::Names;
 use mlr_event::rows::TakenNames;
 use mlr_record::{Field, Record};
@@ -84,8 +84,11 @@ fn put_named(
     fields: &mut Vec<Field>,
     into: &mut Record,
 ) -> Result<(), NoMemory>
-    ensures into { OnOk result (into.new ≡ put_once name.now (unwrap_or (value_at name.now (pairs_of fields.old.items)) (text_value text.now)) into.old) }
-    ensures others { OnOk result ((other : List ℕ) → bytes_eq name.now other ≡ false → value_at other (pairs_of fields.new.items) ≡ value_at other (pairs_of fields.old.items)) }
+    ensures into { OnOk result (into.new ≡ put_once name.now
+        (unwrap_or (value_at name.now (pairs_of fields.old.items)) (text_value text.now))
+        into.old) }
+    ensures others { OnOk result ((other : List ℕ) → bytes_eq name.now other ≡ false
+        → value_at other (pairs_of fields.new.items) ≡ value_at other (pairs_of fields.old.items)) }
 {
     if into.has(name) {
         return Ok(());

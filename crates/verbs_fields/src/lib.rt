@@ -6,6 +6,7 @@ mod choosing;
 mod choosing_tests;
 #[cfg(test)]
 mod copies_tests;
+mod extraction;
 mod having;
 mod naming;
 #[cfg(test)]
@@ -19,7 +20,6 @@ mod sorting;
 mod spaces;
 #[cfg(test)]
 mod spaces_tests;
-mod taking;
 
 pub use choosing::{drop_named, keep_named, pick_named, sparsify, template};
 pub use having::{all_defined, any_defined, has_all, has_no_others};

@@ -69,7 +69,8 @@ fn put_labelled(
     fields: Vec<Field>,
     into: &mut Vec<Field>,
 ) -> Result<(), NoMemory>
-    ensures { OnOk result (pairs_of into.new.items ≡ pairs_of into.old.items ++ labelled names.now (pairs_of fields.items)) }
+    ensures { OnOk result (pairs_of into.new.items
+        ≡ pairs_of into.old.items ++ labelled names.now (pairs_of fields.items)) }
 {
     let mut left = names;
     for field in fields {
@@ -90,7 +91,8 @@ fn put_labelled(
 
 /// Puts a field last, unless it is named.
 fn push_other(names: &[Bytes], field: Field, into: &mut Vec<Field>) -> Result<(), NoMemory>
-    ensures { OnOk result (pairs_of into.new.items ≡ pairs_of into.old.items ++ dropped names.now (pair_of field ∷ [])) }
+    ensures { OnOk result (pairs_of into.new.items
+        ≡ pairs_of into.old.items ++ dropped names.now (pair_of field ∷ [])) }
 {
     if !is_among(names, field.name.as_slice()) {
         into.push(field)?;
@@ -147,7 +149,8 @@ fn put_in_turn(
     into: &mut Record,
 ) -> Result<(), NoMemory>
     requires { into.old ≡ [] }
-    ensures { OnOk result (into.new ≡ put_each [] (in_turn last.now (values_of (pairs_of fields.items)))) }
+    ensures { OnOk result (into.new ≡ put_each []
+        (in_turn last.now (values_of (pairs_of fields.items)))) }
 {
     let mut fields = fields.into_iter();
     while let Some(key) = fields.next() {

@@ -1,7 +1,7 @@
 ghost use Rattle.std.specs.Prelude.{◌≡◌, IfOk};
 ghost use Rattle.verbs_fields.specs.Ordering.{named_first, named_last};
 
-use crate::taking::take_named;
+use crate::extraction::take_named;
 use mlr_event::Names;
 use mlr_record::Record;
 use mlr_spec::NoMemory;

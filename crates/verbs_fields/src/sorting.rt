@@ -44,7 +44,8 @@ fn sort_by_name(fields: &mut Vec<Field>)
 
 /// The fields with their maps in order.
 fn deep_fields(alloc: Global, fields: Vec<Field>) -> Result<Vec<Field>, NoMemory>
-    ensures { IfOk result (λ made. pairs_of made.items ≡ deep_pairs (fields_of (pairs_of fields.items))) }
+    ensures { IfOk result (λ made. pairs_of made.items
+        ≡ deep_pairs (fields_of (pairs_of fields.items))) }
 {
     let mut made = Vec::with_capacity(alloc, fields.len())?;
     push_fields(alloc, fields, &mut made)?;
@@ -53,7 +54,8 @@ fn deep_fields(alloc: Global, fields: Vec<Field>) -> Result<Vec<Field>, NoMemory
 
 /// Puts the fields with their maps in order behind others.
 fn push_fields(alloc: Global, fields: Vec<Field>, into: &mut Vec<Field>) -> Result<(), NoMemory>
-    ensures { OnOk result (pairs_of into.new.items ≡ pairs_of into.old.items ++ deep_pairs (fields_of (pairs_of fields.items))) }
+    ensures { OnOk result (pairs_of into.new.items
+        ≡ pairs_of into.old.items ++ deep_pairs (fields_of (pairs_of fields.items))) }
 {
     for field in fields {
         let Field { name, value } = field;
@@ -96,7 +98,8 @@ fn sorted_value(alloc: Global, value: &Value) -> Result<Value, NoMemory>
 /// Puts copies of the pairs with their maps in order behind others.
 #[cycle(sorted)]
 fn push_pairs(alloc: Global, map: &MapValue, into: &mut Vec<Field>) -> Result<(), NoMemory>
-    ensures { OnOk result (pairs_of into.new.items ≡ pairs_of into.old.items ++ deep_pairs (fields_of map.now)) }
+    ensures { OnOk result (pairs_of into.new.items
+        ≡ pairs_of into.old.items ++ deep_pairs (fields_of map.now)) }
 {
     for place in 0..map.len() {
         let (key, value) = map.entry(place);

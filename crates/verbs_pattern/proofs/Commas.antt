@@ -17,10 +17,10 @@ joined-push : (texts : List (List ℕ)) (text : List ℕ) → joined (44 ∷ [])
 joined-push [] text = refl
 joined-push (a ∷ []) text = refl
 joined-push (a ∷ b ∷ texts) text =
-    let front = a ++ 44 ∷ [] in
+    let prefix = a ++ 44 ∷ [] in
     let rest = joined (44 ∷ []) (b ∷ texts) in
-    ap (λ x. front ++ x) (joined-push (b ∷ texts) text)
-    ∙ sym (append_assoc front (rest ++ 44 ∷ []) text) ∙ ap (λ x. x ++ text) (sym (append_assoc front rest (44 ∷ [])))
+    ap (λ x. prefix ++ x) (joined-push (b ∷ texts) text)
+    ∙ sym (append_assoc prefix (rest ++ 44 ∷ []) text) ∙ ap (λ x. x ++ text) (sym (append_assoc prefix rest (44 ∷ [])))
 
 any_before : {A : Type 0} (f : A → List ℕ) (n : ℕ) (xs : List A) → n < length xs → are_any (map f (take n xs)) ≡ nat_lt 0 n
 any_before f n [] below = absurd (omega (arith, below))

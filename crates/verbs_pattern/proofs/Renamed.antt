@@ -94,8 +94,8 @@ module _ (new_name : List ℕ → List ℕ) where
       swapped false false = refl
 
   -- a name behind a field isn't its own
-  behind-other : (p : Pair) (todo : List Pair) (key : List ℕ) → is_among (keys_of todo) p.0 ≡ false → is_among (keys_of todo) key ≡ true → bytes_eq key p.0 ≡ false
-  behind-other p todo key absent among =
+  following-other : (p : Pair) (todo : List Pair) (key : List ℕ) → is_among (keys_of todo) p.0 ≡ false → is_among (keys_of todo) key ≡ true → bytes_eq key p.0 ≡ false
+  following-other p todo key absent among =
       elim (cases_Bool (bytes_eq key p.0)) as (λ _. bytes_eq key p.0 ≡ false) [
         | inl same ↦ absurd (true≢false (sym (subst (λ k. is_among (keys_of todo) k ≡ true) ((bytes_eq-Decides key p.0).0 same) among) ∙ absent))
         | inr other ↦ other
@@ -140,10 +140,10 @@ module _ (new_name : List ℕ → List ℕ) where
                   let absent = last-absent (new_name p.0) (moved before) (sym (is_given (new_name p.0)) ∙ ap (is_among given) is ∙ free) in
                   cond-true (bytes_eq (new_name p.0) p.0) keeps renames same
                   ∙ ap (λ l. renamed_from new_name l made todo)
-                  (ap₂ (λ front name. front ++ (name, p.1) ∷ []) (sym (removed-absent (new_name p.0) done absent)) (sym is) ∙ moved-more before p)
+                  (ap₂ (λ prefix name. prefix ++ (name, p.1) ∷ []) (sym (removed-absent (new_name p.0) done absent)) (sym is) ∙ moved-more before p)
                   ∙ renamed-on longer made (new_name p.0 ∷ given) todo parts.1 more
                   (λ key among. later key among
-                  ∙ sym (ap (λ t. t || is_among given key) (ap (bytes_eq key) is ∙ behind-other p todo key (not-true _ parts.0) among)))
+                  ∙ sym (ap (λ t. t || is_among given key) (ap (bytes_eq key) is ∙ following-other p todo key (not-true _ parts.0) among)))
                   ∙ end
               | inr other ↦
                   cond-false (bytes_eq (new_name p.0) p.0) keeps renames other

@@ -44,78 +44,78 @@ still-absent test key (p ∷ pairs) absent =
     (λ _. parts.1) (λ _. or_from _ _ parts.0 (still-absent test key pairs parts.1))
 
 -- what distinct keys say of those before and behind one of them
-absent-behind : (key : List ℕ) (front : List Pair) (p : Pair) (back : List Pair) → list_any (bytes_eq key) (keys_of (front ++ p ∷ back)) ≡ false →
+absent-following : (key : List ℕ) (prefix : List Pair) (p : Pair) (back : List Pair) → list_any (bytes_eq key) (keys_of (prefix ++ p ∷ back)) ≡ false →
     list_any (bytes_eq key) (keys_of back) ≡ false
-absent-behind key [] p back absent = (or_parts (bytes_eq key p.0) (list_any (bytes_eq key) (keys_of back)) absent).1
-absent-behind key (q ∷ front) p back absent =
-    absent-behind key front p back (or_parts (bytes_eq key q.0) (list_any (bytes_eq key) (keys_of (front ++ p ∷ back))) absent).1
+absent-following key [] p back absent = (or_parts (bytes_eq key p.0) (list_any (bytes_eq key) (keys_of back)) absent).1
+absent-following key (q ∷ prefix) p back absent =
+    absent-following key prefix p back (or_parts (bytes_eq key q.0) (list_any (bytes_eq key) (keys_of (prefix ++ p ∷ back))) absent).1
 
-other-there : (key : List ℕ) (front : List Pair) (p : Pair) (back : List Pair) → list_any (bytes_eq key) (keys_of (front ++ p ∷ back)) ≡ false → bytes_eq key p.0 ≡ false
+other-there : (key : List ℕ) (prefix : List Pair) (p : Pair) (back : List Pair) → list_any (bytes_eq key) (keys_of (prefix ++ p ∷ back)) ≡ false → bytes_eq key p.0 ≡ false
 other-there key [] p back absent = (or_parts (bytes_eq key p.0) (list_any (bytes_eq key) (keys_of back)) absent).0
-other-there key (q ∷ front) p back absent =
-    other-there key front p back (or_parts (bytes_eq key q.0) (list_any (bytes_eq key) (keys_of (front ++ p ∷ back))) absent).1
+other-there key (q ∷ prefix) p back absent =
+    other-there key prefix p back (or_parts (bytes_eq key q.0) (list_any (bytes_eq key) (keys_of (prefix ++ p ∷ back))) absent).1
 
-absent-before : (front : List Pair) (p : Pair) (back : List Pair) → are_distinct (keys_of (front ++ p ∷ back)) ≡ true →
-    list_any (λ key. bytes_eq key p.0) (keys_of front) ≡ false
+absent-before : (prefix : List Pair) (p : Pair) (back : List Pair) → are_distinct (keys_of (prefix ++ p ∷ back)) ≡ true →
+    list_any (λ key. bytes_eq key p.0) (keys_of prefix) ≡ false
 absent-before [] p back distinct = refl
-absent-before (q ∷ front) p back distinct =
-    let parts = and_parts (not (list_any (bytes_eq q.0) (keys_of (front ++ p ∷ back)))) (are_distinct (keys_of (front ++ p ∷ back))) distinct in
-    or_from _ _ (other-there q.0 front p back (not-true _ parts.0)) (absent-before front p back parts.1)
+absent-before (q ∷ prefix) p back distinct =
+    let parts = and_parts (not (list_any (bytes_eq q.0) (keys_of (prefix ++ p ∷ back)))) (are_distinct (keys_of (prefix ++ p ∷ back))) distinct in
+    or_from _ _ (other-there q.0 prefix p back (not-true _ parts.0)) (absent-before prefix p back parts.1)
 
-distinct-behind : (front : List Pair) (p : Pair) (back : List Pair) → are_distinct (keys_of (front ++ p ∷ back)) ≡ true → are_distinct (keys_of back) ≡ true
-distinct-behind [] p back distinct = (and_parts (not (list_any (bytes_eq p.0) (keys_of back))) (are_distinct (keys_of back)) distinct).1
-distinct-behind (q ∷ front) p back distinct =
-    distinct-behind front p back
-    (and_parts (not (list_any (bytes_eq q.0) (keys_of (front ++ p ∷ back)))) (are_distinct (keys_of (front ++ p ∷ back))) distinct).1
+distinct-following : (prefix : List Pair) (p : Pair) (back : List Pair) → are_distinct (keys_of (prefix ++ p ∷ back)) ≡ true → are_distinct (keys_of back) ≡ true
+distinct-following [] p back distinct = (and_parts (not (list_any (bytes_eq p.0) (keys_of back))) (are_distinct (keys_of back)) distinct).1
+distinct-following (q ∷ prefix) p back distinct =
+    distinct-following prefix p back
+    (and_parts (not (list_any (bytes_eq q.0) (keys_of (prefix ++ p ∷ back)))) (are_distinct (keys_of (prefix ++ p ∷ back))) distinct).1
 
 -- a renaming, seen from the field that is renamed
-removed-around : (key : List ℕ) (front : List Pair) (p : Pair) (back : List Pair) → are_distinct (keys_of (front ++ p ∷ back)) ≡ true →
-    bytes_eq p.0 key ≡ false → remove_at key (front ++ p ∷ back) ≡ remove_at key front ++ p ∷ remove_at key back
+removed-around : (key : List ℕ) (prefix : List Pair) (p : Pair) (back : List Pair) → are_distinct (keys_of (prefix ++ p ∷ back)) ≡ true →
+    bytes_eq p.0 key ≡ false → remove_at key (prefix ++ p ∷ back) ≡ remove_at key prefix ++ p ∷ remove_at key back
 removed-around key [] p back distinct other = cond-false (bytes_eq p.0 key) back (p ∷ remove_at key back) other
-removed-around key (q ∷ front) p back distinct other =
-    let parts = and_parts (not (list_any (bytes_eq q.0) (keys_of (front ++ p ∷ back)))) (are_distinct (keys_of (front ++ p ∷ back))) distinct in
-    elim (cases_Bool (bytes_eq q.0 key)) as (λ _. remove_at key ((q ∷ front) ++ p ∷ back) ≡ remove_at key (q ∷ front) ++ p ∷ remove_at key back) [
+removed-around key (q ∷ prefix) p back distinct other =
+    let parts = and_parts (not (list_any (bytes_eq q.0) (keys_of (prefix ++ p ∷ back)))) (are_distinct (keys_of (prefix ++ p ∷ back))) distinct in
+    elim (cases_Bool (bytes_eq q.0 key)) as (λ _. remove_at key ((q ∷ prefix) ++ p ∷ back) ≡ remove_at key (q ∷ prefix) ++ p ∷ remove_at key back) [
       | inl here ↦
           let is : q.0 ≡ key = (bytes_eq-Decides q.0 key).0 here in
-          let behind = absent-behind key front p back (subst (λ k. list_any (bytes_eq k) (keys_of (front ++ p ∷ back)) ≡ false) is (not-true _ parts.0)) in
-          cond-true (bytes_eq q.0 key) (front ++ p ∷ back) (q ∷ remove_at key (front ++ p ∷ back)) here
-          ∙ ap (λ l. front ++ p ∷ l) (sym (removed-absent key back behind))
-          ∙ sym (ap (λ l. l ++ p ∷ remove_at key back) (cond-true (bytes_eq q.0 key) front (q ∷ remove_at key front) here))
+          let following = absent-following key prefix p back (subst (λ k. list_any (bytes_eq k) (keys_of (prefix ++ p ∷ back)) ≡ false) is (not-true _ parts.0)) in
+          cond-true (bytes_eq q.0 key) (prefix ++ p ∷ back) (q ∷ remove_at key (prefix ++ p ∷ back)) here
+          ∙ ap (λ l. prefix ++ p ∷ l) (sym (removed-absent key back following))
+          ∙ sym (ap (λ l. l ++ p ∷ remove_at key back) (cond-true (bytes_eq q.0 key) prefix (q ∷ remove_at key prefix) here))
       | inr off ↦
-          cond-false (bytes_eq q.0 key) (front ++ p ∷ back) (q ∷ remove_at key (front ++ p ∷ back)) off
-          ∙ ap (λ l. q ∷ l) (removed-around key front p back parts.1 other)
-          ∙ sym (ap (λ l. l ++ p ∷ remove_at key back) (cond-false (bytes_eq q.0 key) front (q ∷ remove_at key front) off))
+          cond-false (bytes_eq q.0 key) (prefix ++ p ∷ back) (q ∷ remove_at key (prefix ++ p ∷ back)) off
+          ∙ ap (λ l. q ∷ l) (removed-around key prefix p back parts.1 other)
+          ∙ sym (ap (λ l. l ++ p ∷ remove_at key back) (cond-false (bytes_eq q.0 key) prefix (q ∷ remove_at key prefix) off))
     ]
 
-named-there : (new : List ℕ) (front : List Pair) (p : Pair) (back : List Pair) → list_any (λ key. bytes_eq key p.0) (keys_of front) ≡ false →
-    with_name p.0 new (front ++ p ∷ back) ≡ front ++ (new, p.1) ∷ back
+named-there : (new : List ℕ) (prefix : List Pair) (p : Pair) (back : List Pair) → list_any (λ key. bytes_eq key p.0) (keys_of prefix) ≡ false →
+    with_name p.0 new (prefix ++ p ∷ back) ≡ prefix ++ (new, p.1) ∷ back
 named-there new [] p back absent = cond-true (bytes_eq p.0 p.0) ((new, p.1) ∷ back) (p ∷ with_name p.0 new back) (same_name p.0)
-named-there new (q ∷ front) p back absent =
-    let parts = or_parts (bytes_eq q.0 p.0) (list_any (λ key. bytes_eq key p.0) (keys_of front)) absent in
-    cond-false (bytes_eq q.0 p.0) ((new, q.1) ∷ (front ++ p ∷ back)) (q ∷ with_name p.0 new (front ++ p ∷ back)) parts.0
-    ∙ ap (λ l. q ∷ l) (named-there new front p back parts.1)
+named-there new (q ∷ prefix) p back absent =
+    let parts = or_parts (bytes_eq q.0 p.0) (list_any (λ key. bytes_eq key p.0) (keys_of prefix)) absent in
+    cond-false (bytes_eq q.0 p.0) ((new, q.1) ∷ (prefix ++ p ∷ back)) (q ∷ with_name p.0 new (prefix ++ p ∷ back)) parts.0
+    ∙ ap (λ l. q ∷ l) (named-there new prefix p back parts.1)
 
-is-there : (front : List Pair) (p : Pair) (back : List Pair) → is_none (value_at p.0 (front ++ p ∷ back)) ≡ false
+is-there : (prefix : List Pair) (p : Pair) (back : List Pair) → is_none (value_at p.0 (prefix ++ p ∷ back)) ≡ false
 is-there [] p back = ap is_none (cond-true (bytes_eq p.0 p.0) (Some p.1) (value_at p.0 back) (same_name p.0))
-is-there (q ∷ front) p back =
-    cond_both (bytes_eq q.0 p.0) (Some q.1) (value_at p.0 (front ++ p ∷ back)) (λ o. is_none o ≡ false) (λ _. refl) (λ _. is-there front p back)
+is-there (q ∷ prefix) p back =
+    cond_both (bytes_eq q.0 p.0) (Some q.1) (value_at p.0 (prefix ++ p ∷ back)) (λ o. is_none o ≡ false) (λ _. refl) (λ _. is-there prefix p back)
 
-renamed-around : (new : List ℕ) (front : List Pair) (p : Pair) (back : List Pair) → are_distinct (keys_of (front ++ p ∷ back)) ≡ true →
-    bytes_eq p.0 new ≡ false → rename_at p.0 new (front ++ p ∷ back) ≡ remove_at new front ++ (new, p.1) ∷ remove_at new back
-renamed-around new front p back distinct other =
-    cond-false (bytes_eq p.0 new || is_none (value_at p.0 (front ++ p ∷ back))) (front ++ p ∷ back) (with_name p.0 new (remove_at new (front ++ p ∷ back)))
-    (or_from _ _ other (is-there front p back))
-    ∙ ap (with_name p.0 new) (removed-around new front p back distinct other)
-    ∙ named-there new (remove_at new front) p (remove_at new back) (still-absent (λ key. bytes_eq key p.0) new front (absent-before front p back distinct))
+renamed-around : (new : List ℕ) (prefix : List Pair) (p : Pair) (back : List Pair) → are_distinct (keys_of (prefix ++ p ∷ back)) ≡ true →
+    bytes_eq p.0 new ≡ false → rename_at p.0 new (prefix ++ p ∷ back) ≡ remove_at new prefix ++ (new, p.1) ∷ remove_at new back
+renamed-around new prefix p back distinct other =
+    cond-false (bytes_eq p.0 new || is_none (value_at p.0 (prefix ++ p ∷ back))) (prefix ++ p ∷ back) (with_name p.0 new (remove_at new (prefix ++ p ∷ back)))
+    (or_from _ _ other (is-there prefix p back))
+    ∙ ap (with_name p.0 new) (removed-around new prefix p back distinct other)
+    ∙ named-there new (remove_at new prefix) p (remove_at new back) (still-absent (λ key. bytes_eq key p.0) new prefix (absent-before prefix p back distinct))
 
 -- a list around one of its elements
-take-around : {A : Type 0} (front : List A) (x : A) (back : List A) → take (suc (length front)) (front ++ x ∷ back) ≡ front ++ x ∷ []
+take-around : {A : Type 0} (prefix : List A) (x : A) (back : List A) → take (suc (length prefix)) (prefix ++ x ∷ back) ≡ prefix ++ x ∷ []
 take-around [] x back = refl
-take-around (y ∷ front) x back = ap (λ l. y ∷ l) (take-around front x back)
+take-around (y ∷ prefix) x back = ap (λ l. y ∷ l) (take-around prefix x back)
 
-drop-around : {A : Type 0} (front : List A) (x : A) (back : List A) → drop (suc (length front)) (front ++ x ∷ back) ≡ back
+drop-around : {A : Type 0} (prefix : List A) (x : A) (back : List A) → drop (suc (length prefix)) (prefix ++ x ∷ back) ≡ back
 drop-around [] x back = refl
-drop-around (y ∷ front) x back = drop-around front x back
+drop-around (y ∷ prefix) x back = drop-around prefix x back
 
 around : {A : Type 0} (xs : List A) (i : ℕ) (d : A) → i < length xs → xs ≡ take i xs ++ get_or xs i d ∷ drop (i + 1) xs
 around xs i d below = sym (halves xs i) ∙ ap (λ l. take i xs ++ l) (drop_more xs i d below)
@@ -133,14 +133,14 @@ pub renamed-at : (place next : ℕ) (old new : List ℕ) (before after : List Pa
     × (drop next after ≡ remove_at new (drop (place + 1) before))
 renamed-at place next old new before after pair below distinct is other renamed next_is =
     let p : Pair = get_or before place pair in
-    let front = remove_at new (take place before) in
+    let prefix = remove_at new (take place before) in
     let back = remove_at new (drop (place + 1) before) in
     let whole = around before place pair below in
-    let end : next ≡ suc (length front) = next_is ∙ add-one (length front) in
-    let made : after ≡ front ++ (new, p.1) ∷ back = renamed
+    let end : next ≡ suc (length prefix) = next_is ∙ add-one (length prefix) in
+    let made : after ≡ prefix ++ (new, p.1) ∷ back = renamed
     ∙ ap₂ (λ o l. rename_at o new l) is whole
     ∙ renamed-around new (take place before) p (drop (place + 1) before) (subst (λ l. are_distinct (keys_of l) ≡ true) whole distinct) (bytes_eq-swap p.0 new ∙ other) in
-    (ap₂ take end made ∙ take-around front (new, p.1) back, ap₂ drop end made ∙ drop-around front (new, p.1) back)
+    (ap₂ take end made ∙ take-around prefix (new, p.1) back, ap₂ drop end made ∙ drop-around prefix (new, p.1) back)
 
 -- what stands before a place when another field of the new name is taken out
 module _ (key : List ℕ) where
@@ -186,16 +186,16 @@ module _ (key : List ℕ) where
     | inr past ↦ ltb-false (position_or_len has_key pairs) (length pairs) past
   ]
 
-  pub behind-near : (pairs : List Pair) (place k : ℕ) → place < length pairs → place_at key pairs ≡ Some k → k < place → place ≡ length (remove_at key (take place pairs)) + 1
-  behind-near pairs place k below found before =
+  pub following-near : (pairs : List Pair) (place k : ℕ) → place < length pairs → place_at key pairs ≡ Some k → k < place → place ≡ length (remove_at key (take place pairs)) + 1
+  following-near pairs place k below found before =
       sym (add-one (length (remove_at key (take place pairs))) ∙ near pairs place (omega (arith, below)) (omega (arith, found-at pairs k found, before)))
 
-  pub behind-far : (pairs : List Pair) (place k : ℕ) → place < length pairs → place_at key pairs ≡ Some k → place ≤ k → place + 1 ≡ length (remove_at key (take place pairs)) + 1
-  behind-far pairs place k below found later =
+  pub following-far : (pairs : List Pair) (place k : ℕ) → place < length pairs → place_at key pairs ≡ Some k → place ≤ k → place + 1 ≡ length (remove_at key (take place pairs)) + 1
+  following-far pairs place k below found later =
       sym (ap (λ n. n + 1) (far pairs place (omega (arith, below)) (omega (arith, found-at pairs k found, later))))
 
-  pub behind-none : (pairs : List Pair) (place : ℕ) → place < length pairs → place_at key pairs ≡ None → place + 1 ≡ length (remove_at key (take place pairs)) + 1
-  behind-none pairs place below none =
+  pub following-none : (pairs : List Pair) (place : ℕ) → place < length pairs → place_at key pairs ≡ None → place + 1 ≡ length (remove_at key (take place pairs)) + 1
+  following-none pairs place below none =
       sym (ap (λ n. n + 1) (far pairs place (omega (arith, below)) (omega (arith, found-nowhere pairs none, below))))
 
 module _ (rename : List ℕ → List ℕ) where
@@ -237,17 +237,17 @@ module _ (rename : List ℕ → List ℕ) where
       drop next after ≡ remove_at new (drop (place + 1) before) → GoesOn rename place before next after
   step-renames place next new before after pair below distinct is other done left =
       let p : Pair = get_or before place pair in
-      let front = take place before in
+      let prefix = take place before in
       let back = drop (place + 1) before in
       let there = drop_more before place pair below in
-      let behind = distinct-behind front p back (subst (λ l. are_distinct (keys_of l) ≡ true) (around before place pair below) distinct) in
-      let moved : List ℕ → List Pair = λ name. remove_at name front ++ (name, p.1) ∷ [] in (
+      let following = distinct-following prefix p back (subst (λ l. are_distinct (keys_of l) ≡ true) (around before place pair below) distinct) in
+      let moved : List ℕ → List Pair = λ name. remove_at name prefix ++ (name, p.1) ∷ [] in (
         ap₂ (λ d t. renamed_from rename d [] t) done left
-            ∙ sym (gone (moved new) [] new back behind)
+            ∙ sym (gone (moved new) [] new back following)
             ∙ ap (λ name. renamed_from rename (moved name) (name ∷ []) back) is
-            ∙ sym (cond-false (bytes_eq (rename p.0) p.0) (renamed_from rename (front ++ p ∷ []) [] back) (renamed_from rename (moved (rename p.0)) (rename p.0 ∷ []) back)
+            ∙ sym (cond-false (bytes_eq (rename p.0) p.0) (renamed_from rename (prefix ++ p ∷ []) [] back) (renamed_from rename (moved (rename p.0)) (rename p.0 ∷ []) back)
             (subst (λ name. bytes_eq name p.0 ≡ false) is other))
-            ∙ ap (renamed_from rename front []) (sym there),
+            ∙ ap (renamed_from rename prefix []) (sym there),
         omega (arith, below, length-drop next after, ap length left, removed-length new back, length-drop (place + 1) before),
       )
 
@@ -256,11 +256,11 @@ module _ (rename : List ℕ → List ℕ) where
       GoesOn rename place before (place + 1) before
   step-keeps place before pair below same =
       let p : Pair = get_or before place pair in
-      let front = take place before in
+      let prefix = take place before in
       let back = drop (place + 1) before in (
         ap (λ d. renamed_from rename d [] back) (take_more before place pair below)
-            ∙ sym (cond-true (bytes_eq (rename p.0) p.0) (renamed_from rename (front ++ p ∷ []) [] back)
-            (renamed_from rename (remove_at (rename p.0) front ++ (rename p.0, p.1) ∷ []) (rename p.0 ∷ []) back) same)
-            ∙ ap (renamed_from rename front []) (sym (drop_more before place pair below)),
+            ∙ sym (cond-true (bytes_eq (rename p.0) p.0) (renamed_from rename (prefix ++ p ∷ []) [] back)
+            (renamed_from rename (remove_at (rename p.0) prefix ++ (rename p.0, p.1) ∷ []) (rename p.0 ∷ []) back) same)
+            ∙ ap (renamed_from rename prefix []) (sym (drop_more before place pair below)),
         omega (arith, below),
       )

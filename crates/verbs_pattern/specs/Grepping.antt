@@ -1,5 +1,6 @@
 -- Which records pass by their text.
 use Rattle.std.specs.Prelude.{ℕ, Bool, not, List, [], ◌∷◌, if◌then◌else◌}
+use Rattle.mlr_spec.specs.Ascii.{comma, equals_sign}
 use Rattle.regex.specs.Patterns.{Re}
 use Rattle.mlr_spec.specs.Tree.{Tree}
 use Rattle.text_forms.specs.Dkvp.{dkvp_text}
@@ -7,7 +8,7 @@ use Rattle.verbs_pattern.specs.Matching.{has_match}
 
 -- the fields of a record as `name=value`, with commas between them
 abbrev pub record_text : List (List ℕ × Tree) → List ℕ
-record_text pairs = dkvp_text (44 ∷ []) (61 ∷ []) pairs
+record_text pairs = dkvp_text (comma ∷ []) (equals_sign ∷ []) pairs
 
 -- the pattern matches somewhere in the record's text, or, for the others, nowhere
 abbrev pub passes_grep : Bool → Re → List (List ℕ × Tree) → Bool

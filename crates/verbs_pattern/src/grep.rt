@@ -38,7 +38,8 @@ impl Grep {
     pub fn copy(&self, _: Global) -> Result<Self, NoMemory>
         ensures either_case { IfOk result (λ copy. copy.either_case ≡ self.now.either_case) }
         ensures others { IfOk result (λ copy. copy.others ≡ self.now.others) }
-        ensures pattern { IfOk result (λ copy. regex_pattern (arc_value copy.pattern) ≡ regex_pattern (arc_value self.now.pattern)) }
+        ensures pattern { IfOk result (λ copy. regex_pattern (arc_value copy.pattern)
+            ≡ regex_pattern (arc_value self.now.pattern)) }
     {
         Ok(Grep {
             either_case: self.either_case,
@@ -49,7 +50,8 @@ impl Grep {
 }
 
 fn text_matches(alloc: Global, pattern: &Pattern, fields: &Record) -> Result<bool, NoMemory>
-    ensures { IfOk result (λ found. found ≡ has_match (regex_pattern pattern.now) (record_text fields.now)) }
+    ensures { IfOk result (λ found. found ≡ has_match (regex_pattern pattern.now)
+        (record_text fields.now)) }
 {
     let mut text = Bytes::new(alloc);
     append_dkvp(fields, &mut text)?;

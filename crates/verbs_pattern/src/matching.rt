@@ -21,7 +21,8 @@ pub fn keep_matching(
     complement: bool,
     fields: Record,
 ) -> Result<Record, NoMemory>
-    ensures { IfOk result (λ made. made ≡ kept_matching (patterns_in patterns.now) complement fields) }
+    ensures { IfOk result (λ made. made ≡ kept_matching (patterns_in patterns.now) complement
+        fields) }
 {
     let mut matchers = matchers_of(alloc, patterns.as_slice())?;
     let fields = fields.into_fields();
@@ -87,7 +88,8 @@ fn any_matches(matchers: &mut [Matcher<'_>], text: &[u8]) -> bool
 
 fn is_matched_by(matchers: &mut [Matcher<'_>], place: usize, text: &[u8]) -> bool
     requires { place < length matchers.old }
-    ensures found { (re : Re) → result ≡ has_match (slice_index_or (map matcher_pattern matchers.old) place re) text.now }
+    ensures found { (re : Re)
+        → result ≡ has_match (slice_index_or (map matcher_pattern matchers.old) place re) text.now }
     ensures same { map matcher_pattern matchers.new ≡ map matcher_pattern matchers.old }
 {
     matchers[place].is_match(text)
@@ -106,7 +108,8 @@ pub fn all_names_match(alloc: Global, pattern: &Pattern, fields: &Record) -> Res
 }
 
 fn matches_all_names(matcher: &mut Matcher<'_>, fields: &Record) -> bool
-    ensures { result ≡ list_all (λ pair. has_match (matcher_pattern matcher.old) pair.0) fields.now }
+    ensures { result ≡ list_all (λ pair. has_match (matcher_pattern matcher.old) pair.0)
+        fields.now }
 {
     for place in 0..fields.len() {
         if !matcher.is_match(fields.entry(place).0) {

@@ -29,7 +29,8 @@ impl RenamePatterns {
     /// pattern, and for names that change.
     pub fn take(&self, alloc: Global, mut fields: Record) -> Result<Record, NoMemory>
         ensures { IfOk result (λ made. made ≡ renamed_by_each self.now.which
-            (map (λ rule. (regex_pattern (arc_value rule.0), rule.1)) self.now.pairs.items) fields) }
+            (map (λ rule. (regex_pattern (arc_value rule.0), rule.1)) self.now.pairs.items)
+            fields) }
     {
         rename_by_each(alloc, self.pairs.as_slice(), self.which, &mut fields)?;
         Ok(fields)
@@ -75,7 +76,8 @@ fn rename_by(
     which: Which,
     fields: &mut Record,
 ) -> Result<(), NoMemory>
-    ensures { OnOk result (fields.new ≡ renamed_by which (regex_pattern pattern.now) by.now fields.old) }
+    ensures { OnOk result (fields.new ≡ renamed_by which (regex_pattern pattern.now) by.now
+        fields.old) }
 {
     let mut matcher = pattern.matcher(alloc)?;
     rename_all(alloc, &mut matcher, by, which, fields)
@@ -88,7 +90,8 @@ fn rename_all(
     which: Which,
     fields: &mut Record,
 ) -> Result<(), NoMemory>
-    ensures { OnOk result (fields.new ≡ renamed_by which (matcher_pattern matcher.old) by.now fields.old) }
+    ensures { OnOk result (fields.new ≡ renamed_by which (matcher_pattern matcher.old) by.now
+        fields.old) }
 {
     let mut place = 0;
     while place < fields.len() {
@@ -109,8 +112,8 @@ fn rename_at(
     requires within { place < length fields.old }
     requires room { place + 1 < 2 ^ 64 }
     requires distinct { are_distinct (keys_of fields.old) ≡ true }
-    ensures goes_on { IfOk result (λ next. GoesOn (new_name which (matcher_pattern matcher.old) by.now)
-        place fields.old next fields.new) }
+    ensures goes_on { IfOk result (λ next. GoesOn (new_name which (matcher_pattern matcher.old)
+        by.now) place fields.old next fields.new) }
     ensures same { matcher_pattern matcher.new ≡ matcher_pattern matcher.old }
 {
     let name = fields.entry(place).0;
@@ -130,7 +133,8 @@ fn changed_name(
 ) -> Result<Option<Bytes>, NoMemory>
     ensures made { IfOk result (λ made. MatchOption made
         (bytes_eq (new_name which (matcher_pattern matcher.old) by.now name.now) name.now ≡ true)
-        (λ new. (new ≡ new_name which (matcher_pattern matcher.old) by.now name.now) × (bytes_eq new name.now ≡ false))) }
+        (λ new. (new ≡ new_name which (matcher_pattern matcher.old) by.now name.now)
+        × (bytes_eq new name.now ≡ false))) }
     ensures same { matcher_pattern matcher.new ≡ matcher_pattern matcher.old }
 {
     let Some(new) = replaced_if_found(alloc, matcher, name, by, which)? else {
@@ -152,17 +156,18 @@ fn rename_to(
     requires within { place < length fields.old }
     requires room { place + 1 < 2 ^ 64 }
     requires distinct { are_distinct (keys_of fields.old) ≡ true }
-    requires other { (pair : List ℕ × Tree) → bytes_eq new.now (slice_index_or fields.old place pair).0 ≡ false }
+    requires other { (pair : List ℕ × Tree)
+        → bytes_eq new.now (slice_index_or fields.old place pair).0 ≡ false }
     ensures { IfOk result (λ next. IsRenamedAt place new.now fields.old next fields.new) }
 {
-    let next = place_behind(fields, place, new);
+    let next = place_after(fields, place, new);
     let old = Bytes::copy_of(alloc, fields.entry(place).0)?;
     fields.rename(old.as_slice(), new)?;
     Ok(next)
 }
 
 /// The place behind this one, once another field of the new name is taken out.
-fn place_behind(fields: &Record, place: usize, new: &[u8]) -> usize
+fn place_after(fields: &Record, place: usize, new: &[u8]) -> usize
     requires within { place < length fields.now }
     requires room { place + 1 < 2 ^ 64 }
     ensures { result ≡ length (remove_at new.now (take place fields.now)) + 1 }

@@ -22,7 +22,8 @@ pub struct Ssub {
 impl Ssub {
     /// The record with these values changed in place. It takes memory for texts that change.
     pub fn take(&self, alloc: Global, fields: Record) -> Result<Record, NoMemory>
-        ensures { IfOk result (λ made. made ≡ changed_fields self.now.fields (ssub_of self.now.old self.now.by) fields) }
+        ensures { IfOk result (λ made. made ≡ changed_fields self.now.fields
+            (ssub_of self.now.old self.now.by) fields) }
     {
         change_record(self, alloc, fields)
     }

@@ -38,7 +38,8 @@ impl Sub {
     /// A copy, which shares the pattern. It takes memory for the names, and for a text of more than 16 bytes.
     pub fn copy(&self, alloc: Global) -> Result<Self, NoMemory>
         ensures fields { IfOk result (λ copy. copy.fields ≡ self.now.fields) }
-        ensures pattern { IfOk result (λ copy. regex_pattern (arc_value copy.pattern) ≡ regex_pattern (arc_value self.now.pattern)) }
+        ensures pattern { IfOk result (λ copy. regex_pattern (arc_value copy.pattern)
+            ≡ regex_pattern (arc_value self.now.pattern)) }
         ensures by { IfOk result (λ copy. copy.by ≡ self.now.by) }
     {
         Ok(Sub {
@@ -71,7 +72,8 @@ impl Gsub {
     /// A copy, which shares the pattern. It takes memory for the names, and for a text of more than 16 bytes.
     pub fn copy(&self, alloc: Global) -> Result<Self, NoMemory>
         ensures fields { IfOk result (λ copy. copy.fields ≡ self.now.fields) }
-        ensures pattern { IfOk result (λ copy. regex_pattern (arc_value copy.pattern) ≡ regex_pattern (arc_value self.now.pattern)) }
+        ensures pattern { IfOk result (λ copy. regex_pattern (arc_value copy.pattern)
+            ≡ regex_pattern (arc_value self.now.pattern)) }
         ensures by { IfOk result (λ copy. copy.by ≡ self.now.by) }
     {
         Ok(Gsub {
@@ -91,7 +93,8 @@ fn sub_fields(
     which: Which,
     from: Record,
 ) -> Result<Record, NoMemory>
-    ensures { IfOk result (λ made. made ≡ changed_fields fields.now (sub_of which (regex_pattern pattern.now) by.now) from) }
+    ensures { IfOk result (λ made. made ≡ changed_fields fields.now
+        (sub_of which (regex_pattern pattern.now) by.now) from) }
 {
     let names = names_of(fields);
     let first = first_taken(names, &from);
@@ -125,7 +128,8 @@ impl Change for Substitution<'_> {
 
     ghost takes = { λ verb name. is_taken (option_map (λ names. names.now) verb.names) name };
 
-    ghost image = { λ verb value. sub_of verb.which (matcher_pattern verb.matcher) verb.by.now value };
+    ghost image = { λ verb value. sub_of verb.which (matcher_pattern verb.matcher) verb.by.now
+        value };
 
     fn takes(&self, name: &[u8]) -> bool {
         is_taken(self.names, name)

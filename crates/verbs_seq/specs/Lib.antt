@@ -1,3 +1,3 @@
 pub mod Seq
-pub mod Standing
-pub mod Trying
+pub mod Represents
+pub mod TestSource

@@ -52,7 +52,8 @@ impl SeqSpec {
     /// How many whole steps lie between the start and the stop.
     pub(crate) fn steps(&self) -> u64
         requires { self.now.step ≢ pos 0 }
-        ensures { result ≡ unsigned_abs (self.now.stop -ℤ self.now.start) / unsigned_abs self.now.step }
+        ensures { result ≡ unsigned_abs (self.now.stop -ℤ self.now.start) / unsigned_abs
+            self.now.step }
     {
         self.stop.abs_diff(self.start) / self.step.unsigned_abs()
     }

@@ -1,6 +1,6 @@
 ghost use Rattle.std.specs.Prelude.{◌≡◌, ◌+◌, ◌-◌, ◌^◌, ◌<◌, ◌≤◌, ◌++◌, ◌∷◌, [], ℕ, min, nat_lt, IfOk, OnOk};
 ghost use Rattle.verbs_seq.specs.Seq.{IsSoundSeq, count_between, number_from, seq_context, seq_count, seq_event, seq_events};
-ghost use Rattle.verbs_seq.specs.Standing.{StandsAt};
+ghost use Rattle.verbs_seq.specs.Represents.{RepresentsAt};
 ghost use Rattle.verbs_seq.specs.declared.seq_spec.SeqSpec.{SeqSpec as Options};
 
 use crate::seq_spec::SeqSpec;
@@ -25,7 +25,7 @@ impl SeqSource {
     /// A source that has given nothing. It takes no memory.
     pub fn new(alloc: Global, seq: SeqSpec) -> Result<Self, NoMemory>
         requires { IsSoundSeq seq }
-        ensures { IfOk result (λ made. StandsAt seq 0 made) }
+        ensures { IfOk result (λ made. RepresentsAt seq 0 made) }
     {
         let count = count_of(&seq);
         Ok(SeqSource {
@@ -40,10 +40,16 @@ impl SeqSource {
     /// takes memory for each record.
     pub fn fill(&mut self, max: u64, out: &mut Events) -> Result<bool, NoMemory>
         requires some { 0 < max }
-        requires stands { (seq : Options) × (given : ℕ) × IsSoundSeq seq × StandsAt seq given self.old }
-        ensures stands { OnOk result ((seq : Options) (given : ℕ) → StandsAt seq given self.old → StandsAt seq (given + min max (seq_count seq - given)) self.new) }
-        ensures adds { OnOk result ((seq : Options) (given : ℕ) → StandsAt seq given self.old → out.new ≡ out.old ++ seq_events seq given (min max (seq_count seq - given))) }
-        ensures more { IfOk result (λ more. (seq : Options) (given : ℕ) → StandsAt seq given self.old → more ≡ nat_lt (given + min max (seq_count seq - given)) (seq_count seq)) }
+        requires represents { (seq : Options) × (given : ℕ) × IsSoundSeq seq
+            × RepresentsAt seq given self.old }
+        ensures represents { OnOk result ((seq : Options) (given : ℕ)
+            → RepresentsAt seq given self.old
+            → RepresentsAt seq (given + min max (seq_count seq - given)) self.new) }
+        ensures adds { OnOk result ((seq : Options) (given : ℕ) → RepresentsAt seq given self.old
+            → out.new ≡ out.old ++ seq_events seq given (min max (seq_count seq - given))) }
+        ensures more { IfOk result (λ more. (seq : Options) (given : ℕ)
+            → RepresentsAt seq given self.old
+            → more ≡ nat_lt (given + min max (seq_count seq - given)) (seq_count seq)) }
     {
         let some = max.min(self.count - self.given);
         push_numbers(self.alloc, &self.seq, self.given, some, out)?;
@@ -53,7 +59,8 @@ impl SeqSource {
 
     /// The context of the last record that was given, or the zero context. It takes no memory.
     pub fn ctx(&self) -> Ctx
-        ensures { (seq : Options) (given : ℕ) → StandsAt seq given self.now → result ≡ seq_context given }
+        ensures { (seq : Options) (given : ℕ) → RepresentsAt seq given self.now
+            → result ≡ seq_context given }
     {
         Ctx {
             nr: self.given,

@@ -2,7 +2,7 @@
 //! doesn't end; measured, not proved.
 ghost use Rattle.std.specs.Prelude.{◌<◌, OnOk};
 ghost use Rattle.verbs_seq.specs.Seq.{IsSoundSeq};
-ghost use Rattle.verbs_seq.specs.Trying.{CanFill};
+ghost use Rattle.verbs_seq.specs.TestSource.{CanFill};
 
 use crate::{SeqSource, SeqSpec};
 use mlr_event::{Ctx, Event, Events};
@@ -29,7 +29,7 @@ fn counting(alloc: Global, start: i64, stop: i64, step: i64) -> Result<SeqSpec, 
 /// Gives the next records.
 fn fill_more(source: &mut SeqSource, max: u64, out: &mut Events) -> Result<bool, NoMemory>
     requires some { 0 < max }
-    requires stands { CanFill source.old }
+    requires represents { CanFill source.old }
     ensures { OnOk result (CanFill source.new) }
 {
     source.fill(max, out)

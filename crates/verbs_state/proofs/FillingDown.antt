@@ -15,7 +15,7 @@ use Rattle.mlr_value.specs.Value.{tree_of}
 use Rattle.mlr_value.specs.declared.value.Value.{Value}
 use Rattle.verbs_fields.specs.Choosing.{is_empty}
 use Rattle.verbs_state.specs.declared.options.FillDown.{FillDown}
-use Rattle.verbs_state.specs.FillingDown.{KeepsLast, filled, is_wanting, last_standing, standing}
+use Rattle.verbs_state.specs.FillingDown.{KeepsLast, filled, is_wanting, last_carried, carried}
 use Rattle.verbs_state.specs.Streaming.{Fields, last}
 use Rattle.verbs_state.proofs.Lasts.{last-push}
 
@@ -26,10 +26,10 @@ last-found h xs x = elim (cases_Option (h x)) as (λ _. last (xs ++ filter_map h
 ]
 
 -- what stands in the last of more records, or else before
-pub last_standing-push : (blank : Bool) (name : List ℕ) (before : List Fields) (fields : Fields)
-    → last_standing blank name (before ++ fields ∷ []) ≡ option_or (standing blank name fields) (last_standing blank name before)
-last_standing-push blank name before fields =
-    ap last (filter_map-append (standing blank name) before (fields ∷ [])) ∙ last-found (standing blank name) (filter_map (standing blank name) before) fields
+pub last_carried-push : (blank : Bool) (name : List ℕ) (before : List Fields) (fields : Fields)
+    → last_carried blank name (before ++ fields ∷ []) ≡ option_or (carried blank name fields) (last_carried blank name before)
+last_carried-push blank name before fields =
+    ap last (filter_map-append (carried blank name) before (fields ∷ [])) ∙ last-found (carried blank name) (filter_map (carried blank name) before) fields
 
 value_at-put : (key : List ℕ) (value : Tree) (pairs : Fields) → value_at key (put_at key value pairs) ≡ Some value
 value_at-put key value [] = rw (bytes_eq-Decides key key).1 refl
@@ -61,8 +61,8 @@ abbrev filled_with : Option Tree → Bool → List ℕ → Fields → Fields
 filled_with kept wants name fields = elim kept [ Some value ↦ cond wants (put_at name value fields) fields | None ↦ fields ]
 
 -- a field that wants a value has none that stands
-none-standing : (blank : Bool) (name : List ℕ) (fields : Fields) → is_wanting blank name fields ≡ true → standing blank name fields ≡ None
-none-standing blank name fields wants = by_found (value_at name fields) wants
+none-carried : (blank : Bool) (name : List ℕ) (fields : Fields) → is_wanting blank name fields ≡ true → carried blank name fields ≡ None
+none-carried blank name fields wants = by_found (value_at name fields) wants
   where
     by_found : (found : Option Tree) → elim found [ Some value ↦ blank && is_empty value | None ↦ not blank ] ≡ true → stood blank found ≡ None
     by_found None wants = refl
@@ -70,44 +70,44 @@ none-standing blank name fields wants = by_found (value_at name fields) wants
 
 module _ (blank : Bool) (before : List Fields) where
   -- what will stand last under a name, as a record shows it that is filled in part
-  abbrev stands_next : Fields → List ℕ → Option Tree
-  stands_next fields name = option_or (standing blank name fields) (last_standing blank name before)
+  abbrev represents_next : Fields → List ℕ → Option Tree
+  represents_next fields name = option_or (carried blank name fields) (last_carried blank name before)
 
-  put-here : (name : List ℕ) (value : Tree) (fields : Fields) → last_standing blank name before ≡ Some value → standing blank name fields ≡ None
-      → stands_next (put_at name value fields) name ≡ stands_next fields name
+  put-here : (name : List ℕ) (value : Tree) (fields : Fields) → last_carried blank name before ≡ Some value → carried blank name fields ≡ None
+      → represents_next (put_at name value fields) name ≡ represents_next fields name
   put-here name value fields kept none =
       ap₂ (λ found last. option_or (stood blank found) last) (value_at-put name value fields) kept
       ∙ again (blank && is_empty value) value
       ∙ sym (ap₂ option_or none kept)
 
-  put-stands : (name : List ℕ) (value : Tree) (fields : Fields) (other : List ℕ) → last_standing blank name before ≡ Some value → standing blank name fields ≡ None
-      → stands_next (put_at name value fields) other ≡ stands_next fields other
-  put-stands name value fields other kept none = elim (cases_Bool (bytes_eq name other)) as (λ _. stands_next (put_at name value fields) other ≡ stands_next fields other) [
-    | inl same ↦ subst (λ n. stands_next (put_at name value fields) n ≡ stands_next fields n) ((bytes_eq-Decides name other).0 same) (put-here name value fields kept none)
-    | inr apart ↦ ap (λ found. option_or (stood blank found) (last_standing blank other before)) (value_at-put-other name other value fields apart)
+  put-represents : (name : List ℕ) (value : Tree) (fields : Fields) (other : List ℕ) → last_carried blank name before ≡ Some value → carried blank name fields ≡ None
+      → represents_next (put_at name value fields) other ≡ represents_next fields other
+  put-represents name value fields other kept none = elim (cases_Bool (bytes_eq name other)) as (λ _. represents_next (put_at name value fields) other ≡ represents_next fields other) [
+    | inl same ↦ subst (λ n. represents_next (put_at name value fields) n ≡ represents_next fields n) ((bytes_eq-Decides name other).0 same) (put-here name value fields kept none)
+    | inr apart ↦ ap (λ found. option_or (stood blank found) (last_carried blank other before)) (value_at-put-other name other value fields apart)
   ]
 
   -- filling a field leaves what will stand last under each name
-  pub stands-filled : (name : List ℕ) (fields : Fields) (other : List ℕ)
-      → option_or (standing blank other (filled blank before fields name)) (last_standing blank other before) ≡ option_or (standing blank other fields) (last_standing blank other before)
-  stands-filled name fields other = elim (cases_Option (last_standing blank name before)) as (λ _. stands_next (filled blank before fields name) other ≡ stands_next fields other) [
-    | inl none ↦ ap (λ kept. stands_next (filled_with kept (is_wanting blank name fields) name fields) other) none
+  pub represents-filled : (name : List ℕ) (fields : Fields) (other : List ℕ)
+      → option_or (carried blank other (filled blank before fields name)) (last_carried blank other before) ≡ option_or (carried blank other fields) (last_carried blank other before)
+  represents-filled name fields other = elim (cases_Option (last_carried blank name before)) as (λ _. represents_next (filled blank before fields name) other ≡ represents_next fields other) [
+    | inl none ↦ ap (λ kept. represents_next (filled_with kept (is_wanting blank name fields) name fields) other) none
     | inr kept ↦
-        ap (λ last. stands_next (filled_with last (is_wanting blank name fields) name fields) other) kept.1
-        ∙ elim (cases_Bool (is_wanting blank name fields)) as (λ _. stands_next (cond (is_wanting blank name fields) (put_at name kept.0 fields) fields) other ≡ stands_next fields other) [
+        ap (λ last. represents_next (filled_with last (is_wanting blank name fields) name fields) other) kept.1
+        ∙ elim (cases_Bool (is_wanting blank name fields)) as (λ _. represents_next (cond (is_wanting blank name fields) (put_at name kept.0 fields) fields) other ≡ represents_next fields other) [
           | inl wants ↦
-              ap (λ t. stands_next (cond t (put_at name kept.0 fields) fields) other) wants
-              ∙ put-stands name kept.0 fields other kept.1 (none-standing blank name fields wants)
-          | inr full ↦ ap (λ t. stands_next (cond t (put_at name kept.0 fields) fields) other) full
+              ap (λ t. represents_next (cond t (put_at name kept.0 fields) fields) other) wants
+              ∙ put-represents name kept.0 fields other kept.1 (none-carried blank name fields wants)
+          | inr full ↦ ap (λ t. represents_next (cond t (put_at name kept.0 fields) fields) other) full
         ]
   ]
 
 -- the first names of those that are to be filled are done
 pub record Filling (options : FillDown) (before : List Fields) (first : Fields) (place : ℕ) (kept : List (Option Value)) (fields : Fields) : Type 0 where
   pub filled : fields ≡ fold (filled options.blank before) first (take place options.names)
-  pub done : map (option_map tree_of) (take place kept) ≡ map (λ name. last_standing options.blank name (before ++ first ∷ [])) (take place options.names)
-  pub left : map (option_map tree_of) (drop place kept) ≡ map (λ name. last_standing options.blank name before) (drop place options.names)
-  pub stands : (name : List ℕ) → option_or (standing options.blank name fields) (last_standing options.blank name before) ≡ last_standing options.blank name (before ++ first ∷ [])
+  pub done : map (option_map tree_of) (take place kept) ≡ map (λ name. last_carried options.blank name (before ++ first ∷ [])) (take place options.names)
+  pub left : map (option_map tree_of) (drop place kept) ≡ map (λ name. last_carried options.blank name before) (drop place options.names)
+  pub represents : (name : List ℕ) → option_or (carried options.blank name fields) (last_carried options.blank name before) ≡ last_carried options.blank name (before ++ first ∷ [])
 
 module _ (options : FillDown) (before : List Fields) (first : Fields) where
   pub filling-none : (kept : List (Option Value)) → KeepsLast options kept before → Filling options before first 0 kept first
@@ -115,30 +115,30 @@ module _ (options : FillDown) (before : List Fields) (first : Fields) where
     filled = refl;
     done = refl;
     left = keeps;
-    stands = λ name. sym (last_standing-push options.blank name before first);
+    represents = λ name. sym (last_carried-push options.blank name before first);
   }
 
   module _ (place : ℕ) (name : List ℕ) (kept : List (Option Value)) (fields : Fields) (any : Option Value)
       (named : name ≡ get_or options.names place name) (below : place < length options.names) (room : place < length kept)
       (so_far : Filling options before first place kept fields) where
-    split : option_map tree_of (get_or kept place any) ∷ map (option_map tree_of) (drop (place + 1) kept) ≡ last_standing options.blank name before ∷ map (λ n. last_standing options.blank n before) (drop (place + 1) options.names)
+    split : option_map tree_of (get_or kept place any) ∷ map (option_map tree_of) (drop (place + 1) kept) ≡ last_carried options.blank name before ∷ map (λ n. last_carried options.blank n before) (drop (place + 1) options.names)
     split =
         sym (ap (map (option_map tree_of)) (drop_more kept place any room))
         ∙ so_far.left
-        ∙ ap (map (λ n. last_standing options.blank n before)) (drop_more options.names place name below)
-        ∙ ap (λ n. last_standing options.blank n before ∷ map (λ n. last_standing options.blank n before) (drop (place + 1) options.names)) (sym named)
+        ∙ ap (map (λ n. last_carried options.blank n before)) (drop_more options.names place name below)
+        ∙ ap (λ n. last_carried options.blank n before ∷ map (λ n. last_carried options.blank n before) (drop (place + 1) options.names)) (sym named)
 
-    pub filling-old : option_map tree_of (get_or kept place any) ≡ last_standing options.blank name before
+    pub filling-old : option_map tree_of (get_or kept place any) ≡ last_carried options.blank name before
     filling-old = let e = split in cc
 
     names-more : take (place + 1) options.names ≡ take place options.names ++ name ∷ []
     names-more = take_more options.names place name below ∙ ap (λ n. take place options.names ++ n ∷ []) (sym named)
 
-    pub filling-more : (new : Option Value) (after : Fields) → after ≡ filled options.blank before fields name → option_map tree_of new ≡ option_or (standing options.blank name fields) (option_map tree_of (get_or kept place any))
+    pub filling-more : (new : Option Value) (after : Fields) → after ≡ filled options.blank before fields name → option_map tree_of new ≡ option_or (carried options.blank name fields) (option_map tree_of (get_or kept place any))
         → Filling options before first (place + 1) (set kept place new) after
     filling-more new after gives keeps =
-        let now : option_map tree_of new ≡ last_standing options.blank name (before ++ first ∷ []) =
-        keeps ∙ ap (option_or (standing options.blank name fields)) filling-old ∙ so_far.stands name in
+        let now : option_map tree_of new ≡ last_carried options.blank name (before ++ first ∷ []) =
+        keeps ∙ ap (option_or (carried options.blank name fields)) filling-old ∙ so_far.represents name in
         record {
           filled =
               gives
@@ -149,10 +149,10 @@ module _ (options : FillDown) (before : List Fields) (first : Fields) where
               ap (map (option_map tree_of)) (take_more_set kept place new room)
               ∙ map-append (option_map tree_of) (take place kept) (new ∷ [])
               ∙ ap₂ (λ xs x. xs ++ x ∷ []) so_far.done now
-              ∙ sym (map-append (λ n. last_standing options.blank n (before ++ first ∷ [])) (take place options.names) (name ∷ []))
-              ∙ ap (map (λ n. last_standing options.blank n (before ++ first ∷ []))) (sym names-more);
+              ∙ sym (map-append (λ n. last_carried options.blank n (before ++ first ∷ [])) (take place options.names) (name ∷ []))
+              ∙ ap (map (λ n. last_carried options.blank n (before ++ first ∷ []))) (sym names-more);
           left = ap (map (option_map tree_of)) (drop-set-lt (place + 1) kept place new (omega arith)) ∙ (let e = split in cc);
-          stands = λ other. rw gives (stands-filled options.blank before name fields other) ∙ so_far.stands other;
+          represents = λ other. rw gives (represents-filled options.blank before name fields other) ∙ so_far.represents other;
         }
 
   pub filling-done : (place : ℕ) (kept : List (Option Value)) (fields : Fields) → length options.names ≤ place → length kept ≡ length options.names → Filling options before first place kept fields
@@ -161,10 +161,10 @@ module _ (options : FillDown) (before : List Fields) (first : Fields) where
       let names = take_all place options.names ended in
       let all = take_all place kept (omega arith) in (
         so_far.filled ∙ ap (fold (filled options.blank before) first) names,
-        ap (map (option_map tree_of)) (sym all) ∙ so_far.done ∙ ap (map (λ name. last_standing options.blank name (before ++ first ∷ []))) names,
+        ap (map (option_map tree_of)) (sym all) ∙ so_far.done ∙ ap (map (λ name. last_carried options.blank name (before ++ first ∷ []))) names,
       )
 
 -- before all records nothing is kept
-pub keeps-none : (options : FillDown) (names : List (List ℕ)) → map (option_map tree_of) (replicate (length names) None) ≡ map (λ name. last_standing options.blank name []) names
+pub keeps-none : (options : FillDown) (names : List (List ℕ)) → map (option_map tree_of) (replicate (length names) None) ≡ map (λ name. last_carried options.blank name []) names
 keeps-none options [] = refl
 keeps-none options (name ∷ names) = ap (λ kept. None ∷ kept) (keeps-none options names)

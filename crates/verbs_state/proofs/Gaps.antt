@@ -6,7 +6,7 @@ use Rattle.mlr_groups.specs.Grouping.{texts_of}
 use Rattle.mlr_groups.specs.Keys.{key_of}
 use Rattle.mlr_groups.proofs.KeyTexts.{key-eq}
 use Rattle.verbs_state.specs.declared.options.Gap.TheVariants as gap
-use Rattle.verbs_state.specs.Gaps.{IsLastKey, StandsBehind, is_apart}
+use Rattle.verbs_state.specs.Gaps.{IsLastKey, RepresentsAfter, is_apart}
 use Rattle.verbs_state.specs.Streaming.{Fields, last}
 use Rattle.verbs_state.proofs.Lasts.{last-push}
 
@@ -19,8 +19,8 @@ module _ (names : List (List ℕ)) (fields : Fields) (key : List ℕ) (is : key 
   last_key-push before = subst (IsKeyOf names key) (sym (last-push before fields)) is
 
   -- behind a record there is a gap where the key changes
-  pub apart-changed : (before : List Fields) (count : ℕ) (old : List ℕ) → StandsBehind (gap.Groups names) count old before → 0 < count
+  pub apart-changed : (before : List Fields) (count : ℕ) (old : List ℕ) → RepresentsAfter (gap.Groups names) count old before → 0 < count
       → not (bytes_eq old key) ≡ is_apart (gap.Groups names) before fields
-  apart-changed [] count old stands some = absurd (omega (arith, stands.1))
-  apart-changed (first ∷ before) count old stands some =
-      ap not (ap₂ bytes_eq stands.2 is ∙ key-eq (texts_of names (unwrap_or (last before) first)) (texts_of names fields))
+  apart-changed [] count old represents some = absurd (omega (arith, represents.1))
+  apart-changed (first ∷ before) count old represents some =
+      ap not (ap₂ bytes_eq represents.2 is ∙ key-eq (texts_of names (unwrap_or (last before) first)) (texts_of names fields))

@@ -12,15 +12,15 @@ use Rattle.verbs_state.specs.Streaming.{Fields, Streaming, last}
 
 -- the value under a name that a later record may take: with `-a` none that is empty, since an empty field is filled
 -- itself, and what it is filled with stands in an earlier record
-abbrev pub standing : Bool → List ℕ → Fields → Option Tree
-standing blank name fields = elim (value_at name fields) [
+abbrev pub carried : Bool → List ℕ → Fields → Option Tree
+carried blank name fields = elim (value_at name fields) [
   | Some value ↦ (if blank && is_empty value then None else Some value)
   | None ↦ None
 ]
 
 -- the last value that stood there
-abbrev pub last_standing : Bool → List ℕ → List Fields → Option Tree
-last_standing blank name before = last (filter_map (standing blank name) before)
+abbrev pub last_carried : Bool → List ℕ → List Fields → Option Tree
+last_carried blank name before = last (filter_map (carried blank name) before)
 
 -- whether the field is to be filled: it is absent, or with `-a` present and empty
 abbrev pub is_wanting : Bool → List ℕ → Fields → Bool
@@ -28,7 +28,7 @@ is_wanting blank name fields = elim (value_at name fields) [ Some value ↦ blan
 
 -- one field filled, in its place or last
 abbrev pub filled : Bool → List Fields → Fields → List ℕ → Fields
-filled blank before fields name = elim (last_standing blank name before) [
+filled blank before fields name = elim (last_carried blank name before) [
   | Some value ↦ (if is_wanting blank name fields then put_at name value fields else fields)
   | None ↦ fields
 ]
@@ -41,4 +41,4 @@ fill_down options = record { gives = fill_down_gives options; closed = λ before
 
 -- what is kept: for each name the last value that stood there
 abbrev pub KeepsLast : FillDown → List (Option Value) → List Fields → Type 0
-KeepsLast options kept before = map (option_map tree_of) kept ≡ map (λ name. last_standing options.blank name before) options.names
+KeepsLast options kept before = map (option_map tree_of) kept ≡ map (λ name. last_carried options.blank name before) options.names

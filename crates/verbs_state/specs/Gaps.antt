@@ -29,5 +29,5 @@ IsLastKey (gap.Count count) key before = Unit {0}
 IsLastKey (gap.Groups names) key before = elim (last before) [ Some earlier ↦ key ≡ key_of (texts_of names earlier) | None ↦ Unit {0} ]
 
 -- what is kept: the count of the records, and the key of the last
-abbrev pub StandsBehind : Gap → ℕ → List ℕ → List Fields → Type 0
-StandsBehind options count key before = IsSoundGap options × (count ≡ capped (length before)) × IsLastKey options key before
+abbrev pub RepresentsAfter : Gap → ℕ → List ℕ → List Fields → Type 0
+RepresentsAfter options count key before = IsSoundGap options × (count ≡ capped (length before)) × IsLastKey options key before

@@ -27,14 +27,14 @@ verb-orderly streaming = record {
 }
 
 pub verb-closes : (streaming : Streaming) → StaysShut streaming → StaysClosed (verb_of streaming)
-verb-closes streaming shuts before behind is = (
-  λ fields ctx. ap (rows ctx) (ap (λ b. streaming.gives b fields) (flat_map-append record_in before behind) ∙ shuts (records_in before) (records_in behind) fields is),
+verb-closes streaming shuts before following is = (
+  λ fields ctx. ap (rows ctx) (ap (λ b. streaming.gives b fields) (flat_map-append record_in before following) ∙ shuts (records_in before) (records_in following) fields is),
   λ ctx. refl,
 )
 
 -- a verb that never closes
 pub never-shuts : (gives : List Fields → Fields → List Fields) → StaysShut (record { gives = gives; closed = λ before. false })
-never-shuts gives before behind fields is = absurd (let e : false ≡ true = is in cc)
+never-shuts gives before following fields is = absurd (let e : false ≡ true = is in cc)
 
 pub each-shuts : (gives : Fields → List Fields) → StaysShut (each gives)
 each-shuts gives = never-shuts (λ before. gives)

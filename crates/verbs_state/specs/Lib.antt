@@ -1,7 +1,7 @@
 pub mod Streaming
 pub mod Laws
 pub mod Counting
-pub mod CountingStanding
+pub mod CountingRepresents
 pub mod FillingDown
 pub mod Gaps
 pub mod Regularizing

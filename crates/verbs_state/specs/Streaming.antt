@@ -49,7 +49,7 @@ verb_of streaming = record {
 
 -- a verb that is closed gives nothing more
 abbrev pub StaysShut : Streaming → Type 0
-StaysShut streaming = (before behind : List Fields) (fields : Fields) → streaming.closed before ≡ true → streaming.gives (before ++ behind) fields ≡ []
+StaysShut streaming = (before following : List Fields) (fields : Fields) → streaming.closed before ≡ true → streaming.gives (before ++ following) fields ≡ []
 
 -- a verb that keeps no state, and never closes
 abbrev pub each : (Fields → List Fields) → Streaming

@@ -39,7 +39,7 @@ impl CatVerb {
     /// The verb of these options, which was given nothing.
     pub fn new(alloc: Global, options: Cat) -> Result<Self, NoMemory>
         ensures meaning { IfOk result (λ made. ⟦<CatVerb as Stream>⟧.meaning made ≡ cat options) }
-        ensures stands { IfOk result (λ made. ⟦<CatVerb as Stream>⟧.stands made []) }
+        ensures represents { IfOk result (λ made. ⟦<CatVerb as Stream>⟧.represents made []) }
     {
         let names = grouping_names(alloc, &options.groups)?;
         Ok(CatVerb {
@@ -54,8 +54,9 @@ impl DecimateVerb {
     /// The verb of these options, which was given nothing.
     pub fn new(alloc: Global, options: Decimate) -> Result<Self, NoMemory>
         requires { IsSoundDecimate options }
-        ensures meaning { IfOk result (λ made. ⟦<DecimateVerb as Stream>⟧.meaning made ≡ decimate options) }
-        ensures stands { IfOk result (λ made. ⟦<DecimateVerb as Stream>⟧.stands made []) }
+        ensures meaning { IfOk result (λ made. ⟦<DecimateVerb as Stream>⟧.meaning made
+            ≡ decimate options) }
+        ensures represents { IfOk result (λ made. ⟦<DecimateVerb as Stream>⟧.represents made []) }
     {
         let names = grouping_names(alloc, &options.groups)?;
         Ok(DecimateVerb {
@@ -69,7 +70,7 @@ impl HeadVerb {
     /// The verb of these options, which was given nothing.
     pub fn new(alloc: Global, options: Head) -> Result<Self, NoMemory>
         ensures meaning { IfOk result (λ made. ⟦<HeadVerb as Stream>⟧.meaning made ≡ head options) }
-        ensures stands { IfOk result (λ made. ⟦<HeadVerb as Stream>⟧.stands made []) }
+        ensures represents { IfOk result (λ made. ⟦<HeadVerb as Stream>⟧.represents made []) }
     {
         let names = grouping_names(alloc, &options.groups)?;
         Ok(HeadVerb {
@@ -82,12 +83,12 @@ impl HeadVerb {
 
 impl Stream for CatVerb {
     ghost use Rattle.verbs_state.specs.Counting.{cat};
-    ghost use Rattle.verbs_state.specs.CountingStanding.{CatStands};
+    ghost use Rattle.verbs_state.specs.CountingRepresents.{CatRepresents};
     ghost use Rattle.verbs_state.specs.Laws.{never-shuts};
 
     ghost meaning = { λ s. cat s.options };
 
-    ghost stands = { CatStands };
+    ghost represents = { CatRepresents };
 
     ghost shuts = { λ s. never-shuts (cat s.options).gives };
 
@@ -108,12 +109,12 @@ impl Stream for CatVerb {
 
 impl Stream for DecimateVerb {
     ghost use Rattle.verbs_state.specs.Counting.{decimate};
-    ghost use Rattle.verbs_state.specs.CountingStanding.{DecimateStands};
+    ghost use Rattle.verbs_state.specs.CountingRepresents.{DecimateRepresents};
     ghost use Rattle.verbs_state.specs.Laws.{never-shuts};
 
     ghost meaning = { λ s. decimate s.options };
 
-    ghost stands = { DecimateStands };
+    ghost represents = { DecimateRepresents };
 
     ghost shuts = { λ s. never-shuts (decimate s.options).gives };
 
@@ -131,11 +132,11 @@ impl Stream for DecimateVerb {
 
 impl Stream for HeadVerb {
     ghost use Rattle.verbs_state.specs.Counting.{head};
-    ghost use Rattle.verbs_state.specs.CountingStanding.{HeadStands, head-shuts};
+    ghost use Rattle.verbs_state.specs.CountingRepresents.{HeadRepresents, head-shuts};
 
     ghost meaning = { λ s. head s.options };
 
-    ghost stands = { HeadStands };
+    ghost represents = { HeadRepresents };
 
     ghost shuts = { λ s. head-shuts s.options };
 

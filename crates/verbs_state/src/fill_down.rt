@@ -2,7 +2,7 @@ ghost use Rattle.std.specs.Prelude.{◌≡◌, ◌++◌, ◌∷◌, [], List, No
 ghost use Rattle.std.specs.List.{fold};
 ghost use Rattle.std.specs.Option.{option_map, option_or};
 ghost use Rattle.mlr_value.specs.Value.{tree_of};
-ghost use Rattle.verbs_state.specs.FillingDown.{KeepsLast, fill_down, filled, is_wanting, last_standing, standing};
+ghost use Rattle.verbs_state.specs.FillingDown.{KeepsLast, fill_down, filled, is_wanting, last_carried, carried};
 ghost use Rattle.verbs_state.specs.Streaming.{Fields};
 
 use crate::options::FillDown;
@@ -25,8 +25,9 @@ pub struct FillDownVerb {
 impl FillDownVerb {
     /// The verb of these options, which was given nothing. It takes the room of a value for each name.
     pub fn new(alloc: Global, options: FillDown) -> Result<Self, NoMemory>
-        ensures meaning { IfOk result (λ made. ⟦<FillDownVerb as Stream>⟧.meaning made ≡ fill_down options) }
-        ensures stands { IfOk result (λ made. ⟦<FillDownVerb as Stream>⟧.stands made []) }
+        ensures meaning { IfOk result (λ made. ⟦<FillDownVerb as Stream>⟧.meaning made
+            ≡ fill_down options) }
+        ensures represents { IfOk result (λ made. ⟦<FillDownVerb as Stream>⟧.represents made []) }
     {
         let kept = no_values(alloc, options.names.len())?;
         Ok(FillDownVerb {
@@ -43,7 +44,7 @@ impl Stream for FillDownVerb {
 
     ghost meaning = { λ s. fill_down s.options };
 
-    ghost stands = { λ s before. KeepsLast s.options s.kept.items before };
+    ghost represents = { λ s before. KeepsLast s.options s.kept.items before };
 
     ghost shuts = { λ s. never-shuts (fill_down s.options).gives };
 
@@ -77,8 +78,10 @@ fn fill_each(
     fields: &mut Record,
 ) -> Result<(), NoMemory>
     requires { length kept.old ≡ length options.now.names }
-    ensures fields { OnOk result ((before : List Fields) → KeepsLast options.now kept.old before → fields.new ≡ fold (filled options.now.blank before) fields.old options.now.names) }
-    ensures kept { OnOk result ((before : List Fields) → KeepsLast options.now kept.old before → KeepsLast options.now kept.new (before ++ fields.old ∷ [])) }
+    ensures fields { OnOk result ((before : List Fields) → KeepsLast options.now kept.old before
+        → fields.new ≡ fold (filled options.now.blank before) fields.old options.now.names) }
+    ensures kept { OnOk result ((before : List Fields) → KeepsLast options.now kept.old before
+        → KeepsLast options.now kept.new (before ++ fields.old ∷ [])) }
     ensures length { length kept.new ≡ length kept.old }
 {
     for (place, name) in options.names.as_slice().iter().enumerate() {
@@ -102,8 +105,11 @@ fn fill(
     kept: &mut Option<Value>,
     fields: &mut Record,
 ) -> Result<(), NoMemory>
-    ensures fields { OnOk result ((before : List Fields) → option_map tree_of kept.old ≡ last_standing blank name.now before → fields.new ≡ filled blank before fields.old name.now) }
-    ensures kept { OnOk result (option_map tree_of kept.new ≡ option_or (standing blank name.now fields.old) (option_map tree_of kept.old)) }
+    ensures fields { OnOk result ((before : List Fields)
+        → option_map tree_of kept.old ≡ last_carried blank name.now before
+        → fields.new ≡ filled blank before fields.old name.now) }
+    ensures kept { OnOk result (option_map tree_of kept.new
+        ≡ option_or (carried blank name.now fields.old) (option_map tree_of kept.old)) }
 {
     if !keep(alloc, blank, name, fields, kept)? {
         return Ok(());
@@ -123,7 +129,8 @@ fn keep(
     kept: &mut Option<Value>,
 ) -> Result<bool, NoMemory>
     ensures wants { IfOk result (λ wants. wants ≡ is_wanting blank name.now fields.now) }
-    ensures kept { OnOk result (option_map tree_of kept.new ≡ option_or (standing blank name.now fields.now) (option_map tree_of kept.old)) }
+    ensures kept { OnOk result (option_map tree_of kept.new
+        ≡ option_or (carried blank name.now fields.now) (option_map tree_of kept.old)) }
     ensures wanting { IfOk result (λ wants. wants ≡ true → kept.new ≡ kept.old) }
 {
     match fields.get(name) {

@@ -2,7 +2,7 @@ ghost use Rattle.std.specs.Prelude.{◌≡◌, ◌++◌, ◌∷◌, ◌+◌, [],
 ghost use Rattle.std.specs.Str.{bytes_eq};
 ghost use Rattle.mlr_groups.specs.Grouping.{texts_of};
 ghost use Rattle.mlr_groups.specs.Keys.{key_of};
-ghost use Rattle.verbs_state.specs.Gaps.{IsLastKey, IsSoundGap, StandsBehind, gap_of, is_apart};
+ghost use Rattle.verbs_state.specs.Gaps.{IsLastKey, IsSoundGap, RepresentsAfter, gap_of, is_apart};
 ghost use Rattle.verbs_state.specs.Streaming.{Fields, rows};
 
 use crate::options::Gap;
@@ -30,7 +30,7 @@ impl GapVerb {
     pub fn new(alloc: Global, options: Gap) -> Self
         requires { IsSoundGap options }
         ensures meaning { ⟦<GapVerb as Stream>⟧.meaning result ≡ gap_of options }
-        ensures stands { ⟦<GapVerb as Stream>⟧.stands result [] }
+        ensures represents { ⟦<GapVerb as Stream>⟧.represents result [] }
     {
         GapVerb {
             alloc,
@@ -43,12 +43,12 @@ impl GapVerb {
 }
 
 impl Stream for GapVerb {
-    ghost use Rattle.verbs_state.specs.Gaps.{StandsBehind, gap_of};
+    ghost use Rattle.verbs_state.specs.Gaps.{RepresentsAfter, gap_of};
     ghost use Rattle.verbs_state.specs.Laws.{never-shuts};
 
     ghost meaning = { λ s. gap_of s.options };
 
-    ghost stands = { λ s before. StandsBehind s.options s.count s.key before };
+    ghost represents = { λ s before. RepresentsAfter s.options s.count s.key before };
 
     ghost shuts = { λ s. never-shuts (gap_of s.options).gives };
 
@@ -56,7 +56,7 @@ impl Stream for GapVerb {
         let (key, room) = (&mut self.key, &mut self.room);
         let apart = is_apart(self.alloc, &self.options, self.count, &fields, key, room)?;
         self.count = next_count(self.count);
-        push_behind(self.alloc, apart, fields, ctx, out)
+        push_after(self.alloc, apart, fields, ctx, out)
     }
 
     fn is_shut(&self) -> bool {
@@ -74,9 +74,12 @@ fn is_apart(
     key: &mut Bytes,
     room: &mut Bytes,
 ) -> Result<bool, NoMemory>
-    requires { (before : List Fields) × StandsBehind options.now count key.old before }
-    ensures apart { IfOk result (λ apart. (before : List Fields) → StandsBehind options.now count key.old before → apart ≡ is_apart options.now before fields.now) }
-    ensures key { OnOk result ((before : List Fields) → IsLastKey options.now key.new (before ++ fields.now ∷ [])) }
+    requires { (before : List Fields) × RepresentsAfter options.now count key.old before }
+    ensures apart { IfOk result (λ apart. (before : List Fields)
+        → RepresentsAfter options.now count key.old before
+        → apart ≡ is_apart options.now before fields.now) }
+    ensures key { OnOk result ((before : List Fields)
+        → IsLastKey options.now key.new (before ++ fields.now ∷ [])) }
 {
     match options {
         Gap::Count(each) => Ok(count > 0 && count % *each == 0),
@@ -88,14 +91,15 @@ fn is_apart(
 }
 
 /// Puts a record behind `out`, and one without fields before it if they stand apart.
-fn push_behind(
+fn push_after(
     alloc: Global,
     apart: bool,
     fields: Record,
     ctx: Ctx,
     out: &mut Events,
 ) -> Result<(), NoMemory>
-    ensures { OnOk result (out.new ≡ out.old ++ rows ctx (if apart then [] ∷ fields ∷ [] else fields ∷ [])) }
+    ensures { OnOk result (out.new ≡ out.old
+        ++ rows ctx (if apart then [] ∷ fields ∷ [] else fields ∷ [])) }
 {
     if apart {
         out.push(Event::Rec(Record::of_fields(alloc, Vec::new(alloc)), ctx))?;

@@ -30,7 +30,7 @@ impl RegularizeVerb {
     /// The verb that was given nothing. It takes no memory.
     pub fn new(alloc: Global) -> Self
         ensures meaning { ⟦<RegularizeVerb as Stream>⟧.meaning result ≡ regularize }
-        ensures stands { ⟦<RegularizeVerb as Stream>⟧.stands result [] }
+        ensures represents { ⟦<RegularizeVerb as Stream>⟧.represents result [] }
     {
         RegularizeVerb {
             alloc,
@@ -48,7 +48,7 @@ impl Stream for RegularizeVerb {
 
     ghost meaning = { λ s. regularize };
 
-    ghost stands = { λ s before. KeepsFirsts s.sets s.orders.items before };
+    ghost represents = { λ s before. KeepsFirsts s.sets s.orders.items before };
 
     ghost shuts = { λ s. never-shuts regularize.gives };
 
@@ -73,8 +73,11 @@ fn regular(
     key: &mut Bytes,
 ) -> Result<Record, NoMemory>
     requires { (before : List Fields) × KeepsFirsts sets.old orders.old.items before }
-    ensures made { IfOk result (λ made. (before : List Fields) → KeepsFirsts sets.old orders.old.items before → made ≡ regular before fields) }
-    ensures keeps { OnOk result ((before : List Fields) → KeepsFirsts sets.old orders.old.items before → KeepsFirsts sets.new orders.new.items (before ++ fields ∷ [])) }
+    ensures made { IfOk result (λ made. (before : List Fields)
+        → KeepsFirsts sets.old orders.old.items before → made ≡ regular before fields) }
+    ensures keeps { OnOk result ((before : List Fields)
+        → KeepsFirsts sets.old orders.old.items before
+        → KeepsFirsts sets.new orders.new.items (before ++ fields ∷ [])) }
 {
     if has_order(orders, *last, &fields) {
         return Ok(fields);
@@ -131,8 +134,13 @@ fn enter(
 ) -> Result<usize, NoMemory>
     requires { (before : List Fields) × KeepsFirsts sets.old orders.old.items before }
     ensures place { IfOk result (λ place. place < length orders.new.items) }
-    ensures order { IfOk result (λ place. (before : List Fields) (order : List (List ℕ)) → KeepsFirsts sets.old orders.old.items before → regular before fields.now ≡ picked (slice_index_or orders.new.items place order) fields.now) }
-    ensures keeps { OnOk result ((before : List Fields) → KeepsFirsts sets.old orders.old.items before → KeepsFirsts sets.new orders.new.items (before ++ fields.now ∷ [])) }
+    ensures order { IfOk result (λ place. (before : List Fields) (order : List (List ℕ))
+        → KeepsFirsts sets.old orders.old.items before
+        → regular before fields.now ≡ picked (slice_index_or orders.new.items place order)
+        fields.now) }
+    ensures keeps { OnOk result ((before : List Fields)
+        → KeepsFirsts sets.old orders.old.items before
+        → KeepsFirsts sets.new orders.new.items (before ++ fields.now ∷ [])) }
 {
     key.clear();
     append_sorted(alloc, fields, key)?;
@@ -189,7 +197,8 @@ fn borrowed_names(alloc: Global, fields: &Record) -> Result<Vec<&[u8]>, NoMemory
 /// Puts names of which no two are equal into byte order.
 fn sort(names: &mut Vec<&[u8]>)
     requires { are_distinct (map (λ name. name.now) names.old.items) ≡ true }
-    ensures { map (λ name. name.now) names.new.items ≡ sorted_names (map (λ name. name.now) names.old.items) }
+    ensures { map (λ name. name.now) names.new.items
+        ≡ sorted_names (map (λ name. name.now) names.old.items) }
 {
     names.sort_unstable_by(|left, right| left.cmp(right));
 }

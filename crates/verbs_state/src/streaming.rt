@@ -14,18 +14,21 @@ pub trait Stream {
     ghost meaning: { Self → Streaming };
 
     /// It was given these records.
-    ghost stands: { Self → List Fields → Type 0 };
+    ghost represents: { Self → List Fields → Type 0 };
 
     /// Takes a record, and puts behind `out` those that it gives, with its context.
     fn take(&mut self, fields: Record, ctx: Ctx, out: &mut Events) -> Result<(), NoMemory>
-        requires { (before : List Fields) × stands self.old before }
+        requires { (before : List Fields) × represents self.old before }
         ensures meaning { meaning self.new ≡ meaning self.old }
-        ensures stands { OnOk result ((before : List Fields) → stands self.old before → stands self.new (before ++ fields ∷ [])) }
-        ensures gives { OnOk result ((before : List Fields) → stands self.old before → out.new ≡ out.old ++ rows ctx ((meaning self.old).gives before fields)) };
+        ensures represents { OnOk result ((before : List Fields) → represents self.old before
+            → represents self.new (before ++ fields ∷ [])) }
+        ensures gives { OnOk result ((before : List Fields) → represents self.old before
+            → out.new ≡ out.old ++ rows ctx ((meaning self.old).gives before fields)) };
 
     /// Whether more records give nothing. It takes no memory.
     fn is_shut(&self) -> bool
-        ensures { (before : List Fields) → stands self.now before → result ≡ (meaning self.now).closed before };
+        ensures { (before : List Fields) → represents self.now before
+            → result ≡ (meaning self.now).closed before };
 
     /// Once it is closed it gives nothing more.
     ghost shuts: { (s : Self) → StaysShut (meaning s) };
@@ -33,10 +36,13 @@ pub trait Stream {
 
 /// Takes an event: a record goes to the verb, and everything else passes.
 pub fn step<S: Stream>(verb: &mut S, event: Event, out: &mut Events) -> Result<(), NoMemory>
-    requires { (given : List SpecEvent) × S.stands verb.old (records_in given) }
+    requires { (given : List SpecEvent) × S.represents verb.old (records_in given) }
     ensures meaning { S.meaning verb.new ≡ S.meaning verb.old }
-    ensures stands { OnOk result ((given : List SpecEvent) → S.stands verb.old (records_in given) → S.stands verb.new (records_in (given ++ event ∷ []))) }
-    ensures gives { OnOk result ((given : List SpecEvent) → S.stands verb.old (records_in given) → out.new ≡ out.old ++ gives (verb_of (S.meaning verb.old)) given event) }
+    ensures represents { OnOk result ((given : List SpecEvent)
+        → S.represents verb.old (records_in given)
+        → S.represents verb.new (records_in (given ++ event ∷ []))) }
+    ensures gives { OnOk result ((given : List SpecEvent) → S.represents verb.old (records_in given)
+        → out.new ≡ out.old ++ gives (verb_of (S.meaning verb.old)) given event) }
 {
     match event {
         Event::Rec(fields, ctx) => verb.take(fields, ctx, out),

@@ -59,8 +59,8 @@ fn step_record<S: Stream>(
     nr: u64,
     out: &mut Events,
 ) -> Result<(), NoMemory>
-    requires { (given : List SpecEvent) × S.stands verb.old (records_in given) }
-    ensures { OnOk result ((given : List SpecEvent) × S.stands verb.new (records_in given)) }
+    requires { (given : List SpecEvent) × S.represents verb.old (records_in given) }
+    ensures { OnOk result ((given : List SpecEvent) × S.represents verb.new (records_in given)) }
 {
     let at = Ctx {
         nr,
@@ -72,7 +72,7 @@ fn step_record<S: Stream>(
 
 /// What the verb makes of records, a line for each, and of a text that follows them.
 fn tried<S: Stream + Drop>(alloc: Global, verb: S, lines: &str) -> Result<Bytes, NoMemory>
-    requires { S.stands verb [] }
+    requires { S.represents verb [] }
 {
     let mut verb = verb;
     let mut out = Events::new(alloc);
@@ -92,8 +92,8 @@ fn step_lines<S: Stream>(
     lines: &str,
     out: &mut Events,
 ) -> Result<(), NoMemory>
-    requires { (given : List SpecEvent) × S.stands verb.old (records_in given) }
-    ensures { OnOk result ((given : List SpecEvent) × S.stands verb.new (records_in given)) }
+    requires { (given : List SpecEvent) × S.represents verb.old (records_in given) }
+    ensures { OnOk result ((given : List SpecEvent) × S.represents verb.new (records_in given)) }
 {
     for (nr, line) in lines.split('\n').enumerate() {
         step_record(verb, record_of(alloc, line)?, nr as u64, out)?;

@@ -1,9 +1,9 @@
 -- What a streaming verb means, and how far it has come, by what it keeps.
 use Rattle.std.specs.Prelude.{List}
 use Rattle.verbs_state.specs.Counting.{cat, decimate, head}
-use Rattle.verbs_state.specs.CountingStanding.{CatStands, DecimateStands, HeadStands, head-shuts}
+use Rattle.verbs_state.specs.CountingRepresents.{CatRepresents, DecimateRepresents, HeadRepresents, head-shuts}
 use Rattle.verbs_state.specs.FillingDown.{KeepsLast, fill_down}
-use Rattle.verbs_state.specs.Gaps.{StandsBehind, gap_of}
+use Rattle.verbs_state.specs.Gaps.{RepresentsAfter, gap_of}
 use Rattle.verbs_state.specs.Laws.{never-shuts}
 use Rattle.verbs_state.specs.Regularizing.{KeepsFirsts, regularize}
 use Rattle.verbs_state.specs.Streaming.{Fields, StaysShut, Streaming, each}
@@ -20,14 +20,14 @@ meaning_of (kind.Gap verb) = gap_of verb.options
 meaning_of (kind.Head verb) = head verb.options
 meaning_of (kind.Regularize verb) = regularize
 
-abbrev pub Stands : Kind → List Fields → Type 0
-Stands (kind.Each verb) before = IsSound verb.spec
-Stands (kind.Cat verb) before = CatStands verb before
-Stands (kind.Decimate verb) before = DecimateStands verb before
-Stands (kind.FillDown verb) before = KeepsLast verb.options verb.kept.items before
-Stands (kind.Gap verb) before = StandsBehind verb.options verb.count verb.key before
-Stands (kind.Head verb) before = HeadStands verb before
-Stands (kind.Regularize verb) before = KeepsFirsts verb.sets verb.orders.items before
+abbrev pub Represents : Kind → List Fields → Type 0
+Represents (kind.Each verb) before = IsSound verb.spec
+Represents (kind.Cat verb) before = CatRepresents verb before
+Represents (kind.Decimate verb) before = DecimateRepresents verb before
+Represents (kind.FillDown verb) before = KeepsLast verb.options verb.kept.items before
+Represents (kind.Gap verb) before = RepresentsAfter verb.options verb.count verb.key before
+Represents (kind.Head verb) before = HeadRepresents verb before
+Represents (kind.Regularize verb) before = KeepsFirsts verb.sets verb.orders.items before
 
 pub kind-shuts : (k : Kind) → StaysShut (meaning_of k)
 kind-shuts (kind.Each verb) = never-shuts (each (each_of verb.spec)).gives

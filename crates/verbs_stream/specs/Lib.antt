@@ -1,4 +1,4 @@
 pub mod Kinds
-pub mod Trying
+pub mod TestVerb
 pub mod Each
 pub mod Copies

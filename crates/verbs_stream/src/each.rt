@@ -1,4 +1,4 @@
-use crate::give::give;
+use crate::outcome::give;
 use crate::spec::Spec;
 use mlr_event::{Ctx, Events};
 use mlr_record::Record;
@@ -20,7 +20,7 @@ impl Stream for Each {
 
     ghost meaning = { λ s. each (each_of s.spec) };
 
-    ghost stands = { λ s before. IsSound s.spec };
+    ghost represents = { λ s before. IsSound s.spec };
 
     ghost shuts = { λ s. never-shuts (each (each_of s.spec)).gives };
 

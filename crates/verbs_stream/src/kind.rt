@@ -20,11 +20,11 @@ pub enum Kind {
 }
 
 impl Stream for Kind {
-    ghost use Rattle.verbs_stream.specs.Kinds.{Stands, kind-shuts, meaning_of};
+    ghost use Rattle.verbs_stream.specs.Kinds.{Represents, kind-shuts, meaning_of};
 
     ghost meaning = { meaning_of };
 
-    ghost stands = { Stands };
+    ghost represents = { Represents };
 
     ghost shuts = { kind-shuts };
 

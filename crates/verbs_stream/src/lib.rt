@@ -4,9 +4,9 @@
 
 mod copies;
 mod each;
-mod give;
 mod kind;
 mod options;
+mod outcome;
 mod repeat;
 mod spec;
 #[cfg(test)]

@@ -22,7 +22,8 @@ pub(crate) fn passing(passes: bool, fields: Record) -> Option<Record>
 
 /// The fields that `cut` leaves.
 pub(crate) fn cut_fields(cut: &Cut, alloc: Global, fields: Record) -> Result<Record, NoMemory>
-    ensures { IfOk result (λ made. made ≡ cut_of cut.now.fields cut.now.ordered cut.now.complement fields) }
+    ensures { IfOk result (λ made. made ≡ cut_of cut.now.fields cut.now.ordered cut.now.complement
+        fields) }
 {
     match &cut.fields {
         CutFields::Names(names) if cut.complement => Ok(drop_named(names, fields)),
@@ -63,7 +64,8 @@ pub(crate) fn rename_fields(
 
 /// The named fields first, or last.
 pub(crate) fn reorder_fields(reorder: &Reorder, fields: Record) -> Result<Record, NoMemory>
-    ensures { IfOk result (λ made. made ≡ (if reorder.now.last then named_last reorder.now.names fields else named_first reorder.now.names fields)) }
+    ensures { IfOk result (λ made. made ≡ (if reorder.now.last
+        then named_last reorder.now.names fields else named_first reorder.now.names fields)) }
 {
     if reorder.last {
         reorder_last(&reorder.names, fields)

@@ -210,8 +210,9 @@ impl Spec {
     /// The verb of these options, which was given nothing.
     pub(crate) fn kind(self, alloc: Global) -> Result<Kind, NoMemory>
         requires { IsSound self }
-        ensures meaning { IfOk result (λ made. ⟦<Kind as Stream>⟧.meaning made ≡ streaming_of self) }
-        ensures stands { IfOk result (λ made. ⟦<Kind as Stream>⟧.stands made []) }
+        ensures meaning { IfOk result (λ made. ⟦<Kind as Stream>⟧.meaning made
+            ≡ streaming_of self) }
+        ensures represents { IfOk result (λ made. ⟦<Kind as Stream>⟧.represents made []) }
     {
         match self {
             Spec::Cat(options) => Ok(Kind::Cat(CatVerb::new(alloc, options)?)),

@@ -1,7 +1,7 @@
 //! What verbs make of records that are texts, and a verb in another thread.
 ghost use Rattle.std.specs.Prelude.{[], OnOk};
 ghost use Rattle.verbs_stream.specs.Each.{IsSound};
-ghost use Rattle.verbs_stream.specs.Trying.{CanStep};
+ghost use Rattle.verbs_stream.specs.TestVerb.{CanStep};
 
 use crate::test_rows::{COUNTS, FIELDS, ORDERS, RECORDS, Row, VALUES};
 use crate::test_verbs::{Verb, spec_of};
@@ -64,8 +64,8 @@ fn step_record<S: Step + Drop>(
     nr: u64,
     out: &mut Events,
 ) -> Result<(), NoMemory>
-    requires { CanStep S.stands verb.old }
-    ensures { OnOk result (CanStep S.stands verb.new) }
+    requires { CanStep S.represents verb.old }
+    ensures { OnOk result (CanStep S.represents verb.new) }
 {
     let at = Ctx {
         nr,
@@ -82,8 +82,8 @@ fn step_lines<S: Step + Drop>(
     lines: &str,
     out: &mut Events,
 ) -> Result<(), NoMemory>
-    requires { CanStep S.stands verb.old }
-    ensures { OnOk result (CanStep S.stands verb.new) }
+    requires { CanStep S.represents verb.old }
+    ensures { OnOk result (CanStep S.represents verb.new) }
 {
     for (nr, line) in lines.split('\n').enumerate() {
         step_record(verb, record_of(alloc, line)?, nr as u64, out)?;
@@ -94,7 +94,7 @@ fn step_lines<S: Step + Drop>(
 /// What a verb makes of records, a line for each, and of the end. It is generic, as the frame of a function that holds a
 /// `StreamVerb` is too large a value for the prover.
 fn shown_run<S: Step + Drop>(alloc: Global, verb: S, lines: &str) -> Result<Bytes, NoMemory>
-    requires { S.stands verb [] }
+    requires { S.represents verb [] }
 {
     let mut verb = verb;
     let mut out = Events::new(alloc);

@@ -27,8 +27,9 @@ impl StreamVerb {
     /// The verb of these options, which was given nothing. It takes memory for what the verb keeps.
     pub fn new(alloc: Global, spec: Spec) -> Result<Self, NoMemory>
         requires { IsSound spec }
-        ensures verb { IfOk result (λ made. ⟦<StreamVerb as Step>⟧.verb made ≡ verb_of (streaming_of spec)) }
-        ensures stands { IfOk result (λ made. ⟦<StreamVerb as Step>⟧.stands made []) }
+        ensures verb { IfOk result (λ made. ⟦<StreamVerb as Step>⟧.verb made
+            ≡ verb_of (streaming_of spec)) }
+        ensures represents { IfOk result (λ made. ⟦<StreamVerb as Step>⟧.represents made []) }
     {
         Ok(StreamVerb {
             verb: spec.kind(alloc)?,
@@ -39,8 +40,9 @@ impl StreamVerb {
     /// The verb of a copy of these options, which was given nothing. It takes memory for the copy too.
     pub fn of(alloc: Global, spec: &Spec) -> Result<Self, NoMemory>
         requires { IsSound spec.now }
-        ensures verb { IfOk result (λ made. ⟦<StreamVerb as Step>⟧.verb made ≡ verb_of (streaming_of spec.now)) }
-        ensures stands { IfOk result (λ made. ⟦<StreamVerb as Step>⟧.stands made []) }
+        ensures verb { IfOk result (λ made. ⟦<StreamVerb as Step>⟧.verb made
+            ≡ verb_of (streaming_of spec.now)) }
+        ensures represents { IfOk result (λ made. ⟦<StreamVerb as Step>⟧.represents made []) }
     {
         match spec.copy(alloc) {
             Ok(copy) => StreamVerb::new(alloc, copy),
@@ -54,11 +56,11 @@ impl Step for StreamVerb {
     ghost use Rattle.mlr_event.specs.Models.{never-both};
     ghost use Rattle.verbs_state.specs.Laws.{verb-closes, verb-orderly, verb-quiet};
     ghost use Rattle.verbs_state.specs.Streaming.{records_in, verb_of};
-    ghost use Rattle.verbs_stream.specs.Kinds.{Stands, kind-shuts, meaning_of};
+    ghost use Rattle.verbs_stream.specs.Kinds.{Represents, kind-shuts, meaning_of};
 
     ghost verb = { λ s. verb_of (meaning_of s.verb) };
 
-    ghost stands = { λ s given. (s.broken ≡ false) × Stands s.verb (records_in given) };
+    ghost represents = { λ s given. (s.broken ≡ false) × Represents s.verb (records_in given) };
 
     ghost broken = { λ s. s.broken ≡ true };
 

@@ -16,8 +16,8 @@ module _ {V : Type 0} where
   abbrev has : List ℕ → List (List ℕ × V) → Bool
   has key pairs = list_any (λ pair. bytes_eq pair.0 key) pairs
 
-  has-behind : (key : List ℕ) (p : List ℕ × V) (before after : List (List ℕ × V)) → (has key before ≡ true → has key after ≡ true) → has key (p ∷ before) ≡ true → has key (p ∷ after) ≡ true
-  has-behind key p before after kept h =
+  has-following : (key : List ℕ) (p : List ℕ × V) (before after : List (List ℕ × V)) → (has key before ≡ true → has key after ≡ true) → has key (p ∷ before) ≡ true → has key (p ∷ after) ≡ true
+  has-following key p before after kept h =
       elim (cases_Bool (bytes_eq p.0 key)) as (λ _. has key (p ∷ after) ≡ true) [
         | inl here ↦ ap (λ t. t || has key after) here
         | inr later ↦ ap (λ t. t || has key after) later ∙ kept (sym (ap (λ t. t || has key before) later) ∙ h)
@@ -28,7 +28,7 @@ module _ {V : Type 0} where
   has-put key other value (p ∷ pairs) h =
       elim (cases_Bool (bytes_eq p.0 other)) as (λ _. has key (put_at other value (p ∷ pairs)) ≡ true) [
         | inl same ↦ ap (λ t. has key (cond t ((p.0, value) ∷ pairs) (p ∷ put_at other value pairs))) same ∙ h
-        | inr differs ↦ ap (λ t. has key (cond t ((p.0, value) ∷ pairs) (p ∷ put_at other value pairs))) differs ∙ has-behind key p pairs (put_at other value pairs) (has-put key other value pairs) h
+        | inr differs ↦ ap (λ t. has key (cond t ((p.0, value) ∷ pairs) (p ∷ put_at other value pairs))) differs ∙ has-following key p pairs (put_at other value pairs) (has-put key other value pairs) h
       ]
 
   -- a key that was put is there

@@ -104,7 +104,8 @@ fn put_flattened(
     fields: Vec<Field>,
     into: &mut Record,
 ) -> Result<(), NoMemory>
-    ensures { OnOk result (into.new ≡ put_each into.old (flat_map (flattened_field separator.now (is_among names.now)) (pairs_of fields.items))) }
+    ensures { OnOk result (into.new ≡ put_each into.old
+        (flat_map (flattened_field separator.now (is_among names.now)) (pairs_of fields.items))) }
 {
     for field in fields {
         put_field(alloc, names, separator, field, into)?;
@@ -120,7 +121,8 @@ fn put_field(
     field: Field,
     into: &mut Record,
 ) -> Result<(), NoMemory>
-    ensures { OnOk result (into.new ≡ put_each into.old (flattened_field separator.now (is_among names.now) (pair_of field))) }
+    ensures { OnOk result (into.new ≡ put_each into.old
+        (flattened_field separator.now (is_among names.now) (pair_of field))) }
 {
     if is_flattened(names, field.name.as_slice(), &field.value) {
         put_leaves(alloc, separator, field, into)
@@ -137,7 +139,8 @@ fn put_leaves(
     field: Field,
     into: &mut Record,
 ) -> Result<(), NoMemory>
-    ensures { OnOk result (into.new ≡ put_each into.old (leaves_of separator.now (pair_of field).0 (pair_of field).1)) }
+    ensures { OnOk result (into.new ≡ put_each into.old
+        (leaves_of separator.now (pair_of field).0 (pair_of field).1)) }
 {
     let mut leaves = Record::new(alloc)?;
     let Field { name, value } = field;

@@ -7,6 +7,8 @@ ghost use Rattle.verbs_values.specs.Json.{decoded};
 /// What a text is decoded to, by the grammar alone: its value, and error where it has none. The function does nothing:
 /// its clauses are laws of the definitions.
 pub fn decoded_law()
-    ensures value { (text : List ℕ) (value : Tree) → IsJson plain text value → decoded text ≡ value }
-    ensures none { (text : List ℕ) → ((value : Tree) → IsJson plain text value → ⊥) → decoded text ≡ error }
+    ensures value { (text : List ℕ) (value : Tree) → IsJson plain text value
+        → decoded text ≡ value }
+    ensures none { (text : List ℕ) → ((value : Tree) → IsJson plain text value → ⊥)
+        → decoded text ≡ error }
 {}

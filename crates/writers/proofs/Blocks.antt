@@ -12,7 +12,7 @@ use Rattle.writers.specs.Joined.{separated}
 use Rattle.writers.specs.Pprint.{are_some, block, block_end, block_ended, pprint_after, pprint_record}
 use Rattle.writers.specs.Run.{Run, start}
 use Rattle.writers.specs.Runs.{Record, all_but_last, filled, runs_of, tables, with_first}
-use Rattle.writers.proofs.Runs.{first-begins, joined-is, joined_behind, same_texts-is, same_texts-self}
+use Rattle.writers.proofs.Runs.{first-begins, joined-is, joined_after, same_texts-is, same_texts-self}
 use Rattle.writers.proofs.Wholes.{last_text, whole}
 
 -- the open run and the runs behind it, the first of which may go on with it
@@ -80,46 +80,46 @@ module _ (opts : WriteOpts) (ended : Bool) where
   abbrev written_by : Run → List Record → List ℕ
   written_by run rs = whole (λ run r. pprint_record opts run r) (λ run r. pprint_after run r) (last_text Pprint opts ended) run rs
 
-  abbrev blocks_behind : Bool → List (List Record) → List ℕ
-  blocks_behind any runs = joined_behind (10 ∷ []) any (map (block opts) (filled runs))
+  abbrev blocks_after : Bool → List (List Record) → List ℕ
+  blocks_after any runs = joined_after (10 ∷ []) any (map (block opts) (filled runs))
 
   -- the block that is open, before others
-  block-first : (run : Run) (more : List (List Record)) → blocks_behind run.any (run.rows ∷ more) ≡ block_end opts run ++ blocks_behind (run.any || are_some run.rows) more
+  block-first : (run : Run) (more : List (List Record)) → blocks_after run.any (run.rows ∷ more) ≡ block_end opts run ++ blocks_after (run.any || are_some run.rows) more
   block-first run more = by run.rows
     where
-      by : (rows : List Record) → blocks_behind run.any (rows ∷ more)
-          ≡ (if are_some rows then separated (10 ∷ []) run.any ++ block opts rows else []) ++ blocks_behind (run.any || are_some rows) more
-      by [] = ap (λ any. blocks_behind any more) (sym (or-false run.any))
+      by : (rows : List Record) → blocks_after run.any (rows ∷ more)
+          ≡ (if are_some rows then separated (10 ∷ []) run.any ++ block opts rows else []) ++ blocks_after (run.any || are_some rows) more
+      by [] = ap (λ any. blocks_after any more) (sym (or-false run.any))
       by (first ∷ rows) =
           let gap = separated (10 ∷ []) run.any in
-          sym (append_assoc gap (block opts (first ∷ rows)) (blocks_behind true more))
-          ∙ ap (λ any. (gap ++ block opts (first ∷ rows)) ++ blocks_behind any more) (sym (or-true run.any))
+          sym (append_assoc gap (block opts (first ∷ rows)) (blocks_after true more))
+          ∙ ap (λ any. (gap ++ block opts (first ∷ rows)) ++ blocks_after any more) (sym (or-true run.any))
 
   abbrev Known : List Record → Type 0
-  Known rs = (run : Run) → written_by run rs ≡ blocks_behind run.any (seen ended (with_open run.keys run.rows (runs_of rs)))
+  Known rs = (run : Run) → written_by run rs ≡ blocks_after run.any (seen ended (with_open run.keys run.rows (runs_of rs)))
 
   -- the end closes the last block
   known-none : Known []
   known-none run = by ended
     where
-      by : (test : Bool) → (if test then block_end opts run else []) ≡ blocks_behind run.any (seen test (run.rows ∷ []))
+      by : (test : Bool) → (if test then block_end opts run else []) ≡ blocks_after run.any (seen test (run.rows ∷ []))
       by true = sym (block-first run [] ∙ append-nil (block_end opts run))
       by false = refl
 
   -- a record that ends the open run, at runs that are known behind it
-  closes : (run : Run) (next : List Record) (more : List (List Record)) (text : List ℕ) → text ≡ blocks_behind (run.any || are_some run.rows) (seen ended (next ∷ more))
-      → block_end opts run ++ text ≡ blocks_behind run.any (seen ended (run.rows ∷ next ∷ more))
+  closes : (run : Run) (next : List Record) (more : List (List Record)) (text : List ℕ) → text ≡ blocks_after (run.any || are_some run.rows) (seen ended (next ∷ more))
+      → block_end opts run ++ text ≡ blocks_after run.any (seen ended (run.rows ∷ next ∷ more))
   closes run next more text is =
       ap (λ t. block_end opts run ++ t) is
       ∙ sym (block-first run (seen ended (next ∷ more)))
-      ∙ sym (ap (blocks_behind run.any) (seen-more ended run.rows next more))
+      ∙ sym (ap (blocks_after run.any) (seen-more ended run.rows next more))
 
   known-empty : (rs : List Record) → Known rs → Known ([] ∷ rs)
   known-empty rs known run =
       let runs = runs_of rs in
       let any = run.any || are_some run.rows in
       let opened : filled (seen ended (with_open [] [] runs)) ≡ filled (seen ended ([] ∷ runs)) = open-none ended runs in
-      closes run [] runs (written_by (block_ended run) rs) (known (block_ended run) ∙ ap (λ t. joined_behind (10 ∷ []) any (map (block opts) t)) opened)
+      closes run [] runs (written_by (block_ended run) rs) (known (block_ended run) ∙ ap (λ t. joined_after (10 ∷ []) any (map (block opts) t)) opened)
 
   module _ (field : List ℕ × Tree) (others : Record) (rs : List Record) (known : Known rs) where
     abbrev stepped : Run → Bool → List ℕ
@@ -127,19 +127,19 @@ module _ (opts : WriteOpts) (ended : Bool) where
         (if same then [] else block_end opts run)
         ++ written_by (let into : Run = if same then run else record (block_ended run) { keys = its field others } in record into { rows = into.rows ++ this field others ∷ [] }) rs
 
-    known-more : (run : Run) → stepped run (same_texts run.keys (its field others)) ≡ blocks_behind run.any (seen ended (with_open run.keys run.rows (with_first (this field others) (runs_of rs))))
+    known-more : (run : Run) → stepped run (same_texts run.keys (its field others)) ≡ blocks_after run.any (seen ended (with_open run.keys run.rows (with_first (this field others) (runs_of rs))))
     known-more run =
         let runs = runs_of rs in
         let r = this field others in
         let keys = its field others in
-        elim (cases_Bool (same_texts run.keys keys)) as (λ _. stepped run (same_texts run.keys keys) ≡ blocks_behind run.any (seen ended (with_open run.keys run.rows (with_first r runs)))) [
+        elim (cases_Bool (same_texts run.keys keys)) as (λ _. stepped run (same_texts run.keys keys) ≡ blocks_after run.any (seen ended (with_open run.keys run.rows (with_first r runs)))) [
           | inl same ↦
               let keys_are = same_texts-is run.keys keys same in
               ap (stepped run) same
               ∙ known (record run { rows = run.rows ++ r ∷ [] })
-              ∙ ap (λ k. blocks_behind run.any (seen ended (with_open k (run.rows ++ r ∷ []) runs))) keys_are
-              ∙ ap (λ t. blocks_behind run.any (seen ended t)) (open-first field others run.rows runs)
-              ∙ ap (λ k. blocks_behind run.any (seen ended (with_open k run.rows (with_first r runs)))) (sym keys_are)
+              ∙ ap (λ k. blocks_after run.any (seen ended (with_open k (run.rows ++ r ∷ []) runs))) keys_are
+              ∙ ap (λ t. blocks_after run.any (seen ended t)) (open-first field others run.rows runs)
+              ∙ ap (λ k. blocks_after run.any (seen ended (with_open k run.rows (with_first r runs)))) (sym keys_are)
           | inr other ↦
               let begins = first-begins r runs in
               let first = r ∷ begins.0 in
@@ -147,9 +147,9 @@ module _ (opts : WriteOpts) (ended : Bool) where
               let next : Run = record { any = any; mid = run.mid; keys = keys; rows = r ∷ [] } in
               ap (stepped run) other
               ∙ closes run first begins.1 (written_by next rs)
-              (known next ∙ ap (λ t. blocks_behind any (seen ended t))
+              (known next ∙ ap (λ t. blocks_after any (seen ended t))
               (open-first field others [] runs ∙ ap (with_open keys []) begins.2 ∙ open-own field others [] begins.0 begins.1))
-              ∙ sym (ap (λ t. blocks_behind run.any (seen ended t)) (ap (with_open run.keys run.rows) begins.2 ∙ open-other field others run.keys run.rows begins.0 begins.1 other))
+              ∙ sym (ap (λ t. blocks_after run.any (seen ended t)) (ap (with_open run.keys run.rows) begins.2 ∙ open-other field others run.keys run.rows begins.0 begins.1 other))
         ]
 
   known-all : (rs : List Record) → Known rs
@@ -160,5 +160,5 @@ module _ (opts : WriteOpts) (ended : Bool) where
   pub pprint-blocks : (rs : List Record) → written_by start rs ≡ tables (block opts) (seen ended (runs_of rs))
   pprint-blocks rs =
       known-all rs start
-      ∙ ap (λ t. joined_behind (10 ∷ []) false (map (block opts) t)) (open-none ended (runs_of rs) ∙ seen-none ended (runs_of rs))
+      ∙ ap (λ t. joined_after (10 ∷ []) false (map (block opts) t)) (open-none ended (runs_of rs) ∙ seen-none ended (runs_of rs))
       ∙ sym (joined-is (10 ∷ []) (map (block opts) (filled (seen ended (runs_of rs)))))

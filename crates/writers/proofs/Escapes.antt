@@ -33,13 +33,13 @@ still-some None = refl
 still-some (Some place) = refl
 
 -- a byte among others, at the front of a text or behind it
-among-all : (here special later behind : Bool) (found : Option ℕ) → behind ≡ (later || is_some found)
-    → (special || here || behind) ≡ (special || later || is_some (if here && true then Some 0 else option_map (λ place. place + 1) found))
-among-all true true later behind found is = refl
-among-all true false true behind found is = refl
-among-all true false false behind found is = refl
-among-all false true later behind found is = refl
-among-all false false later behind found is = is ∙ ap (λ t. later || t) (sym (still-some found))
+among-all : (here special later following : Bool) (found : Option ℕ) → following ≡ (later || is_some found)
+    → (special || here || following) ≡ (special || later || is_some (if here && true then Some 0 else option_map (λ place. place + 1) found))
+among-all true true later following found is = refl
+among-all true false true following found is = refl
+among-all true false false following found is = refl
+among-all false true later following found is = refl
+among-all false false later following found is = is ∙ ap (λ t. later || t) (sym (still-some found))
 
 -- a separator of one byte stands where the byte does
 one-byte : (test : ℕ → Bool) (s : ℕ) (text : List ℕ) → list_any (λ b. test b || b == s) text ≡ (list_any test text || is_some (place_in (s ∷ []) text))

@@ -13,7 +13,7 @@ use Rattle.writers.specs.declared.form.Part.TheVariants.{Keys, Values}
 use Rattle.writers.specs.Cells.{texts}
 use Rattle.writers.specs.Csv.{csv_line}
 use Rattle.writers.specs.Pprint.{block}
-use Rattle.writers.specs.Runs.{Record, all_but_last, line_end_behind, list_begun, list_of, runs_of, sheet, tables, wants_line_end, xtab_lines}
+use Rattle.writers.specs.Runs.{Record, all_but_last, line_end_after, list_begun, list_of, runs_of, sheet, tables, wants_line_end, xtab_lines}
 use Rattle.writers.specs.Written.{written}
 
 abbrev opts : Format → WriteOpts
@@ -149,5 +149,5 @@ json_none : (list_of (json_record Single) [] ≡ codes "[\n]\n") × (list_begun 
 json_none = (refl, refl)
 
 -- a line end is missing behind a record of a list, and a text or the end writes it
-line_ends : (line_end_behind bodies ≡ codes "\n") × (line_end_behind (bodies ++ Text [] ∷ []) ≡ []) × (wants_line_end bodies true ≡ false) × (wants_line_end [] true ≡ true)
+line_ends : (line_end_after bodies ≡ codes "\n") × (line_end_after (bodies ++ Text [] ∷ []) ≡ []) × (wants_line_end bodies true ≡ false) × (wants_line_end [] true ≡ true)
 line_ends = (refl, refl, refl, refl)

@@ -10,10 +10,10 @@ pub joined-push : (separator : List ℕ) (texts : List (List ℕ)) (text : List 
 joined-push separator [] text = refl
 joined-push separator (a ∷ []) text = refl
 joined-push separator (a ∷ b ∷ texts) text =
-    let front = a ++ separator in
+    let prefix = a ++ separator in
     let rest = joined separator (b ∷ texts) in
-    ap (λ x. front ++ x) (joined-push separator (b ∷ texts) text)
-    ∙ sym (append_assoc front (rest ++ separator) text) ∙ ap (λ x. x ++ text) (sym (append_assoc front rest separator))
+    ap (λ x. prefix ++ x) (joined-push separator (b ∷ texts) text)
+    ∙ sym (append_assoc prefix (rest ++ separator) text) ∙ ap (λ x. x ++ text) (sym (append_assoc prefix rest separator))
 
 pub are_any-map : {A B : Type 0} (f : A → B) (xs : List A) → are_any (map f xs) ≡ are_any xs
 are_any-map f [] = refl
@@ -28,11 +28,11 @@ are_any-take (suc n) (x ∷ xs) below = sym (lt-ltb 0 (suc n) (omega arith))
 pub joined-more : {A : Type 0} (separator : List ℕ) (f : A → List ℕ) (xs : List A) (n : ℕ) (d : A) → n < length xs
     → joined separator (map f (take (n + 1) xs)) ≡ joined separator (map f (take n xs)) ++ separated separator (nat_lt 0 n) ++ f (get_or xs n d)
 joined-more separator f xs n d below =
-    let front = map f (take n xs) in
+    let prefix = map f (take n xs) in
     ap (λ t. joined separator (map f t)) (take_more xs n d below)
     ∙ ap (joined separator) (map-append f (take n xs) (get_or xs n d ∷ []))
-    ∙ joined-push separator front (f (get_or xs n d))
-    ∙ ap (λ any. joined separator front ++ separated separator any ++ f (get_or xs n d)) (are_any-map f (take n xs) ∙ are_any-take n xs below)
+    ∙ joined-push separator prefix (f (get_or xs n d))
+    ∙ ap (λ any. joined separator prefix ++ separated separator any ++ f (get_or xs n d)) (are_any-map f (take n xs) ∙ are_any-take n xs below)
 
 pub joined-take : (separator : List ℕ) (texts : List (List ℕ)) (n : ℕ) (d : List ℕ) → n < length texts
     → joined separator (take (n + 1) texts) ≡ joined separator (take n texts) ++ separated separator (nat_lt 0 n) ++ get_or texts n d
@@ -42,9 +42,9 @@ joined-take separator texts n d below =
     ∙ ap (λ any. joined separator (take n texts) ++ separated separator any ++ get_or texts n d) (are_any-take n texts below)
 
 -- one more text behind those that were put
-pub joined-next : (separator : List ℕ) (into so_far before behind : List ℕ) (any : Bool) (text whole : List ℕ) → before ≡ (into ++ so_far) ++ separated separator any → behind ≡ before ++ text
-    → whole ≡ so_far ++ separated separator any ++ text → behind ≡ into ++ whole
-joined-next separator into so_far before behind any text whole before_is behind_is whole_is =
-    behind_is ∙ ap (λ t. t ++ text) (before_is ∙ append_assoc into so_far (separated separator any))
+pub joined-next : (separator : List ℕ) (into so_far before following : List ℕ) (any : Bool) (text whole : List ℕ) → before ≡ (into ++ so_far) ++ separated separator any → following ≡ before ++ text
+    → whole ≡ so_far ++ separated separator any ++ text → following ≡ into ++ whole
+joined-next separator into so_far before following any text whole before_is after_is whole_is =
+    after_is ∙ ap (λ t. t ++ text) (before_is ∙ append_assoc into so_far (separated separator any))
     ∙ append_assoc into (so_far ++ separated separator any) text
     ∙ ap (λ t. into ++ t) (sym whole_is)

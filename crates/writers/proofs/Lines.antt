@@ -5,7 +5,7 @@ use Rattle.writers.specs.Joined.{separated}
 use Rattle.writers.specs.Run.{Run, start}
 use Rattle.writers.specs.Runs.{Record, filled, tables, xtab_lines}
 use Rattle.writers.specs.Xtab.{xtab_record, xtab_after}
-use Rattle.writers.proofs.Runs.{joined-is, joined_behind}
+use Rattle.writers.proofs.Runs.{joined-is, joined_after}
 use Rattle.writers.proofs.Wholes.{whole}
 
 module _ (last : Run → List ℕ) (ends : (run : Run) → last run ≡ []) where
@@ -14,14 +14,14 @@ module _ (last : Run → List ℕ) (ends : (run : Run) → last run ≡ []) wher
   each-record line after [] run = ends run
   each-record line after (r ∷ rs) run = ap (λ t. line r ++ t) (each-record line after rs (after run r))
 
-  xtab-behind : (rs : List Record) (run : Run) → whole xtab_record xtab_after last run rs ≡ joined_behind (10 ∷ []) run.any (map xtab_lines (filled rs))
-  xtab-behind [] run = ends run
-  xtab-behind ([] ∷ rs) run = xtab-behind rs run
-  xtab-behind ((field ∷ r) ∷ rs) run =
+  xtab-following : (rs : List Record) (run : Run) → whole xtab_record xtab_after last run rs ≡ joined_after (10 ∷ []) run.any (map xtab_lines (filled rs))
+  xtab-following [] run = ends run
+  xtab-following ([] ∷ rs) run = xtab-following rs run
+  xtab-following ((field ∷ r) ∷ rs) run =
       let gap = separated (10 ∷ []) run.any in
       let lines = xtab_lines (field ∷ r) in
-      ap (λ t. (gap ++ lines) ++ t) (xtab-behind rs (record run { any = true }))
-      ∙ append_assoc gap lines (joined_behind (10 ∷ []) true (map xtab_lines (filled rs)))
+      ap (λ t. (gap ++ lines) ++ t) (xtab-following rs (record run { any = true }))
+      ∙ append_assoc gap lines (joined_after (10 ∷ []) true (map xtab_lines (filled rs)))
 
   pub xtab-records : (rs : List Record) → whole xtab_record xtab_after last start rs ≡ tables xtab_lines rs
-  xtab-records rs = xtab-behind rs start ∙ sym (joined-is (10 ∷ []) (map xtab_lines (filled rs)))
+  xtab-records rs = xtab-following rs start ∙ sym (joined-is (10 ∷ []) (map xtab_lines (filled rs)))

@@ -9,7 +9,7 @@ use Rattle.writers.specs.Json.{line_end_missing, list_lead, style_of}
 use Rattle.writers.specs.Run.{Run, start}
 use Rattle.writers.specs.Runs.{Record, list_begun, list_of}
 use Rattle.writers.proofs.Lines.{each-record}
-use Rattle.writers.proofs.Runs.{joined-first, joined_behind}
+use Rattle.writers.proofs.Runs.{joined-first, joined_after}
 use Rattle.writers.proofs.Wholes.{either, whole, whole_in}
 
 -- in a list or not
@@ -30,11 +30,11 @@ module _ (item : Record → List ℕ) where
   abbrev within : Run
   within = record start { any = true; mid = true }
 
-  list-more : (ended : Bool) (rs : List Record) → json_whole true ended within rs ≡ joined_behind (codes ",\n") true (map item rs) ++ end_in true ended within
+  list-more : (ended : Bool) (rs : List Record) → json_whole true ended within rs ≡ joined_after (codes ",\n") true (map item rs) ++ end_in true ended within
   list-more ended [] = refl
   list-more ended (r ∷ rs) =
       let lead = codes ",\n" in
-      let later = joined_behind lead true (map item rs) in
+      let later = joined_after lead true (map item rs) in
       let end = end_in true ended within in
       ap (λ t. (lead ++ item r) ++ t) (list-more ended rs)
       ∙ sym (append_assoc (lead ++ item r) later end) ∙ ap (λ t. t ++ end) (append_assoc lead (item r) later)
@@ -43,7 +43,7 @@ module _ (item : Record → List ℕ) where
       → json_whole true ended start (r ∷ rs) ≡ (codes "[\n" ++ joined (codes ",\n") (map item (r ∷ rs))) ++ end_in true ended within
   list-first ended r rs =
       let lead = codes "[\n" in
-      let later = joined_behind (codes ",\n") true (map item rs) in
+      let later = joined_after (codes ",\n") true (map item rs) in
       let end = end_in true ended within in
       ap (λ t. (lead ++ item r) ++ t) (list-more ended rs)
       ∙ sym (append_assoc (lead ++ item r) later end)

@@ -37,15 +37,15 @@ first-begins r ((next ∷ run) ∷ runs) = by (same_texts (texts Keys r) (texts 
     by false = ([], (next ∷ run) ∷ runs, refl)
 
 -- texts with a separator between each two, and before the first too if there was one before
-abbrev pub joined_behind : List ℕ → Bool → List (List ℕ) → List ℕ
-joined_behind separator any [] = []
-joined_behind separator any (text ∷ more) = separated separator any ++ (text ++ joined_behind separator true more)
+abbrev pub joined_after : List ℕ → Bool → List (List ℕ) → List ℕ
+joined_after separator any [] = []
+joined_after separator any (text ∷ more) = separated separator any ++ (text ++ joined_after separator true more)
 
-pub joined-first : (separator text : List ℕ) (more : List (List ℕ)) → joined separator (text ∷ more) ≡ text ++ joined_behind separator true more
+pub joined-first : (separator text : List ℕ) (more : List (List ℕ)) → joined separator (text ∷ more) ≡ text ++ joined_after separator true more
 joined-first separator text [] = sym (append-nil text)
 joined-first separator text (next ∷ more) =
-    ap (λ t. (text ++ separator) ++ t) (joined-first separator next more) ∙ append_assoc text separator (next ++ joined_behind separator true more)
+    ap (λ t. (text ++ separator) ++ t) (joined-first separator next more) ∙ append_assoc text separator (next ++ joined_after separator true more)
 
-pub joined-is : (separator : List ℕ) (texts : List (List ℕ)) → joined separator texts ≡ joined_behind separator false texts
+pub joined-is : (separator : List ℕ) (texts : List (List ℕ)) → joined separator texts ≡ joined_after separator false texts
 joined-is separator [] = refl
 joined-is separator (text ∷ more) = joined-first separator text more

@@ -54,9 +54,9 @@ last-part (Ok u) new old text want e same = e ∙ same
 last-part (Err e) new old text want at same = tt
 
 -- a line that would be empty
-pub line-empty : (into line before behind : List ℕ) → before ≡ into ++ line → length before ≡ length into → behind ≡ before ++ 34 ∷ 34 ∷ [] → behind ≡ into ++ never_empty line
-line-empty into [] before behind is none more = more ∙ ap (λ t. t ++ 34 ∷ 34 ∷ []) (is ∙ append-nil into)
-line-empty into (b ∷ line) before behind is none more = absurd (omega (arith, none, ap length is, length-append into (b ∷ line)))
+pub line-empty : (into line before following : List ℕ) → before ≡ into ++ line → length before ≡ length into → following ≡ before ++ 34 ∷ 34 ∷ [] → following ≡ into ++ never_empty line
+line-empty into [] before following is none more = more ∙ ap (λ t. t ++ 34 ∷ 34 ∷ []) (is ∙ append-nil into)
+line-empty into (b ∷ line) before following is none more = absurd (omega (arith, none, ap length is, length-append into (b ∷ line)))
 
 pub line-some : (into line before : List ℕ) → before ≡ into ++ line → (length before ≡ length into → ⊥) → before ≡ into ++ never_empty line
 line-some into [] before is some = absurd (some (ap length (is ∙ append-nil into)))

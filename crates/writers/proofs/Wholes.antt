@@ -6,7 +6,7 @@ use Rattle.writers.specs.declared.options.WriteOpts.{WriteOpts}
 use Rattle.writers.specs.Cells.{shaped}
 use Rattle.writers.specs.Run.{Run, start}
 use Rattle.writers.specs.Runs.{Record}
-use Rattle.writers.specs.Written.{end_text, given, record_after, record_text, run_behind, written}
+use Rattle.writers.specs.Written.{end_text, given, record_after, record_text, run_after, written}
 
 -- each record's text, and at last what the end adds
 abbrev pub whole : (Run → Record → List ℕ) → (Run → Record → Run) → (Run → List ℕ) → Run → List Record → List ℕ
@@ -21,12 +21,12 @@ abbrev pub whole_in : Format → WriteOpts → Bool → Run → List Record → 
 whole_in format opts ended run rs = whole (record_text format opts) (record_after format opts) (last_text format opts ended) run rs
 
 given-whole : (opts : WriteOpts) (ended : Bool) (run : Run) (rs : List Record)
-    → given opts run (map Rec rs) ++ last_text opts.format opts ended (run_behind opts run (map Rec rs)) ≡ whole_in opts.format opts ended run (map (shaped opts) rs)
+    → given opts run (map Rec rs) ++ last_text opts.format opts ended (run_after opts run (map Rec rs)) ≡ whole_in opts.format opts ended run (map (shaped opts) rs)
 given-whole opts ended run [] = refl
 given-whole opts ended run (r ∷ rs) =
     let text = record_text opts.format opts run (shaped opts r) in
     let later = record_after opts.format opts run (shaped opts r) in
-    append_assoc text (given opts later (map Rec rs)) (last_text opts.format opts ended (run_behind opts later (map Rec rs)))
+    append_assoc text (given opts later (map Rec rs)) (last_text opts.format opts ended (run_after opts later (map Rec rs)))
     ∙ ap (λ t. text ++ t) (given-whole opts ended later rs)
 
 pub written-whole : (format : Format) (opts : WriteOpts) → opts.format ≡ format → (rs : List Record) (ended : Bool)

@@ -1,6 +1,7 @@
 -- CSV, after RFC 4180.
 use Rattle.std.specs.Prelude.{ℕ, Bool, ◌||◌, ◌==◌, if◌then◌else◌, List, [], ◌∷◌, ◌++◌, map, is_some}
 use Rattle.std.specs.List.{flat_map, list_any}
+use Rattle.mlr_spec.specs.Ascii.{line_feed, carriage_return, quote_mark}
 use Rattle.mlr_spec.specs.Json.{joined}
 use Rattle.mlr_spec.specs.Split.{place_in}
 use Rattle.mlr_spec.specs.Tree.{Tree}
@@ -12,14 +13,14 @@ use Rattle.writers.specs.Run.{Run}
 
 -- in quotes, a quote is written twice
 abbrev pub csv_escaped : ℕ → List ℕ
-csv_escaped b = if b == 34 then 34 ∷ 34 ∷ [] else b ∷ []
+csv_escaped b = if b == quote_mark then quote_mark ∷ quote_mark ∷ [] else b ∷ []
 
 abbrev pub quoted : List ℕ → List ℕ
-quoted text = 34 ∷ flat_map csv_escaped text ++ 34 ∷ []
+quoted text = quote_mark ∷ flat_map csv_escaped text ++ quote_mark ∷ []
 
 -- a quote, LF or CR
 abbrev pub wants_quotes : ℕ → Bool
-wants_quotes b = b == 34 || b == 10 || b == 13
+wants_quotes b = b == quote_mark || b == line_feed || b == carriage_return
 
 -- a key or a value stands in quotes if it holds one of these or the separator, or if all do
 abbrev pub csv_field : WriteOpts → List ℕ → List ℕ
@@ -27,11 +28,11 @@ csv_field opts text = if opts.quote_all || list_any wants_quotes text || is_some
 
 -- a line that would be empty is two quotes
 abbrev pub never_empty : List ℕ → List ℕ
-never_empty [] = 34 ∷ 34 ∷ []
+never_empty [] = quote_mark ∷ quote_mark ∷ []
 never_empty (b ∷ line) = b ∷ line
 
 abbrev pub csv_line : WriteOpts → List (List ℕ) → List ℕ
-csv_line opts fields = never_empty (joined opts.ofs (map (csv_field opts) fields)) ++ 10 ∷ []
+csv_line opts fields = never_empty (joined opts.ofs (map (csv_field opts) fields)) ++ line_feed ∷ []
 
 abbrev pub csv_record : WriteOpts → Run → List (List ℕ × Tree) → List ℕ
 csv_record opts run r = headed opts.headerless run r (csv_line opts (texts Keys r)) (csv_line opts (texts Values r))

@@ -1,6 +1,7 @@
 -- JSON: all records as one list in brackets, or one behind another without. In the list no line end is written behind a
 -- record until it is known what follows.
 use Rattle.std.specs.Prelude.{ℕ, true, if◌then◌else◌, List, [], ◌∷◌, ◌++◌, codes}
+use Rattle.mlr_spec.specs.Ascii.{line_feed}
 use Rattle.mlr_spec.specs.declared.json.JsonStyle.{JsonStyle}
 use Rattle.mlr_spec.specs.declared.json.JsonStyle.TheVariants.{Stacked, Single}
 use Rattle.mlr_spec.specs.Json.{json_record}
@@ -17,14 +18,14 @@ list_lead run = if run.any then codes ",\n" else codes "[\n"
 
 abbrev pub json_written : WriteOpts → Run → List (List ℕ × Tree) → List ℕ
 json_written opts run r =
-    if opts.listwrap then list_lead run ++ json_record (style_of opts) r else json_record (style_of opts) r ++ 10 ∷ []
+    if opts.listwrap then list_lead run ++ json_record (style_of opts) r else json_record (style_of opts) r ++ line_feed ∷ []
 
 abbrev pub json_after : WriteOpts → Run → Run
 json_after opts run = record run { any = true; mid = opts.listwrap }
 
 -- the line end that is missing behind a record
 abbrev pub line_end_missing : Run → List ℕ
-line_end_missing run = if run.mid then 10 ∷ [] else []
+line_end_missing run = if run.mid then line_feed ∷ [] else []
 
 -- the end of the list, which begins here if there was no record
 abbrev pub json_end : WriteOpts → Run → List ℕ

@@ -15,5 +15,5 @@ pub mod Written
 pub mod Joined
 pub mod Rows
 pub mod Columns
-pub mod Standing
+pub mod Represents
 pub mod Runs

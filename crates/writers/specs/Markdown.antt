@@ -1,6 +1,7 @@
 -- Markdown tables: a header, a line of dashes and rows, all between bars; a bar in a cell stands behind a backslash.
 use Rattle.std.specs.Prelude.{ℕ, false, ◌==◌, if◌then◌else◌, List, [], ◌∷◌, ◌++◌, map, codes}
 use Rattle.std.specs.List.{flat_map}
+use Rattle.mlr_spec.specs.Ascii.{vertical_bar}
 use Rattle.mlr_spec.specs.Json.{joined}
 use Rattle.mlr_spec.specs.Tree.{Tree}
 use Rattle.writers.specs.declared.form.Part.TheVariants.{Keys, Values}
@@ -9,7 +10,7 @@ use Rattle.writers.specs.Headed.{headed}
 use Rattle.writers.specs.Run.{Run}
 
 abbrev pub bar_escaped : ℕ → List ℕ
-bar_escaped b = if b == 124 then codes "\\|" else b ∷ []
+bar_escaped b = if b == vertical_bar then codes "\\|" else b ∷ []
 
 abbrev pub bar_cell : List ℕ → List ℕ
 bar_cell text = flat_map bar_escaped text

@@ -2,20 +2,21 @@
 use Rattle.std.specs.Prelude.{ℕ, Bool, true, false, ◌||◌, max, if◌then◌else◌, List, [], ◌∷◌, ◌++◌, map, length, replicate, codes, Some, None, slice_get, slice_index, drop}
 use Rattle.writers.specs.Width.{code_points}
 use Rattle.std.specs.List.{flat_map, fold, range_with_len}
+use Rattle.mlr_spec.specs.Ascii.{line_feed, space, dash}
 use Rattle.mlr_spec.specs.Json.{joined}
 use Rattle.mlr_spec.specs.Tree.{Tree}
 use Rattle.writers.specs.declared.form.Part.{Part}
 use Rattle.writers.specs.declared.form.Part.TheVariants.{Keys, Values}
 use Rattle.writers.specs.declared.options.WriteOpts.{WriteOpts}
 use Rattle.writers.specs.Cells.{part_text, texts, same_texts}
-use Rattle.writers.specs.Headed.{behind_gap}
+use Rattle.writers.specs.Headed.{after_gap}
 use Rattle.writers.specs.Markdown.{between_bars}
 use Rattle.writers.specs.Run.{Run}
 use Rattle.writers.specs.Xtab.{padded}
 
 -- an empty key or value is shown as a dash
 abbrev pub shown : List ℕ → List ℕ
-shown [] = 45 ∷ []
+shown [] = dash ∷ []
 shown (b ∷ text) = b ∷ text
 
 -- how many code points a record shows in a column
@@ -41,11 +42,11 @@ padded_but_last widths (text ∷ next ∷ more) = padded (slice_index widths 0) 
 
 abbrev pub pprint_line : Bool → List ℕ → List (List ℕ) → List ℕ
 pprint_line true widths fields = between_bars (all_padded widths fields)
-pprint_line false widths fields = joined (32 ∷ []) (padded_but_last widths fields) ++ 10 ∷ []
+pprint_line false widths fields = joined (space ∷ []) (padded_but_last widths fields) ++ line_feed ∷ []
 
 -- a line of dashes, if there are bars
 abbrev pub dashes : Bool → List ℕ → List ℕ
-dashes true widths = codes "+-" ++ joined (codes "-+-") (map (λ width. replicate width 45) widths) ++ codes "-+\n"
+dashes true widths = codes "+-" ++ joined (codes "-+-") (map (λ width. replicate width dash) widths) ++ codes "-+\n"
 dashes false widths = []
 
 -- the header, with the line of dashes below it
@@ -68,7 +69,7 @@ are_some (first ∷ rows) = true
 
 -- the text of the block that is open, behind an empty line if it isn't the first; nothing where none is
 abbrev pub block_end : WriteOpts → Run → List ℕ
-block_end opts run = if are_some run.rows then behind_gap run (block opts run.rows) else []
+block_end opts run = if are_some run.rows then after_gap run (block opts run.rows) else []
 
 -- no block is open
 abbrev pub block_ended : Run → Run

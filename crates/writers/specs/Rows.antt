@@ -1,5 +1,6 @@
 -- The formats that are written by the same code: how a text, a line and a header are written in each.
 use Rattle.std.specs.Prelude.{ℕ, Bool, false, ◌==◌, ◌||◌, List, [], ◌∷◌, ◌++◌, map, codes}
+use Rattle.mlr_spec.specs.Ascii.{tab, line_feed, quote_mark, backslash, vertical_bar}
 use Rattle.mlr_spec.specs.Json.{joined, json_field}
 use Rattle.mlr_spec.specs.Tree.{Tree}
 use Rattle.writers.specs.declared.form.Part.TheVariants.{Keys, Values}
@@ -24,9 +25,9 @@ escaped_in row.Markdown b = bar_escaped b
 
 -- whether a byte is written otherwise than it stands
 abbrev pub is_escaped : RowStyle → ℕ → Bool
-is_escaped row.Csv b = b == 34
-is_escaped row.Tsv b = b == 9 || b == 10 || b == 92
-is_escaped row.Markdown b = b == 124
+is_escaped row.Csv b = b == quote_mark
+is_escaped row.Tsv b = b == tab || b == line_feed || b == backslash
+is_escaped row.Markdown b = b == vertical_bar
 
 abbrev pub field_in : RowStyle → WriteOpts → List ℕ → List ℕ
 field_in row.Csv opts text = csv_field opts text
@@ -64,4 +65,4 @@ field_text form.Dashes opts field = codes "---"
 
 -- a record as one line
 abbrev pub line_text : FieldForm → WriteOpts → List (List ℕ × Tree) → List ℕ
-line_text form opts r = joined opts.ofs (map (field_text form opts) r) ++ 10 ∷ []
+line_text form opts r = joined opts.ofs (map (field_text form opts) r) ++ line_feed ∷ []

@@ -1,6 +1,7 @@
 -- Records as runs of equal keys, and what each format writes of them as a whole.
 use Rattle.std.specs.Prelude.{ℕ, Bool, true, false, if◌then◌else◌, List, [], ◌∷◌, ◌++◌, map, codes}
 use Rattle.std.specs.List.{flat_map, filter}
+use Rattle.mlr_spec.specs.Ascii.{line_feed}
 use Rattle.mlr_event.specs.declared.event.Body.{Body}
 use Rattle.mlr_event.specs.declared.event.Body.TheVariants.{Rec, Text}
 use Rattle.mlr_spec.specs.Json.{joined}
@@ -38,7 +39,7 @@ filled lists = filter are_any lists
 
 -- the text of each that holds something, with an empty line between two
 abbrev pub tables : {A : Type 0} → (List A → List ℕ) → List (List A) → List ℕ
-tables table lists = joined (10 ∷ []) (map table (filled lists))
+tables table lists = joined (line_feed ∷ []) (map table (filled lists))
 
 -- CSV, TSV, Markdown: a table is the header of its first record and a row for each
 abbrev pub table_of : (Record → List ℕ) → (Record → List ℕ) → List Record → List ℕ
@@ -64,11 +65,11 @@ list_of item [] = codes "[\n]\n"
 list_of item (first ∷ more) = codes "[\n" ++ joined (codes ",\n") (map item (first ∷ more)) ++ codes "\n]\n"
 
 -- the line end that a list lacks where a record was last
-abbrev pub line_end_behind : List Body → List ℕ
-line_end_behind [] = []
-line_end_behind (Rec r ∷ []) = 10 ∷ []
-line_end_behind (Text text ∷ []) = []
-line_end_behind (body ∷ next ∷ bodies) = line_end_behind (next ∷ bodies)
+abbrev pub line_end_after : List Body → List ℕ
+line_end_after [] = []
+line_end_after (Rec r ∷ []) = line_feed ∷ []
+line_end_after (Text text ∷ []) = []
+line_end_after (body ∷ next ∷ bodies) = line_end_after (next ∷ bodies)
 
 -- whether that line end is written before what follows: before a text or the end, and not before another record
 abbrev pub wants_line_end : List Body → Bool → Bool

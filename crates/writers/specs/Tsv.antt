@@ -1,6 +1,7 @@
 -- TSV: tab, newline and backslash are written as `\t`, `\n` and `\\`.
 use Rattle.std.specs.Prelude.{ℕ, ◌==◌, if◌then◌else◌, List, [], ◌∷◌, ◌++◌, map, codes}
 use Rattle.std.specs.List.{flat_map}
+use Rattle.mlr_spec.specs.Ascii.{tab, line_feed, backslash}
 use Rattle.mlr_spec.specs.Json.{joined}
 use Rattle.mlr_spec.specs.Tree.{Tree}
 use Rattle.writers.specs.declared.form.Part.TheVariants.{Keys, Values}
@@ -11,15 +12,15 @@ use Rattle.writers.specs.Run.{Run}
 
 abbrev pub tsv_escaped : ℕ → List ℕ
 tsv_escaped b =
-    if b == 9 then codes "\\t" else (
-    if b == 10 then codes "\\n" else (
-    if b == 92 then codes "\\\\" else b ∷ []))
+    if b == tab then codes "\\t" else (
+    if b == line_feed then codes "\\n" else (
+    if b == backslash then codes "\\\\" else b ∷ []))
 
 abbrev pub tsv_field : List ℕ → List ℕ
 tsv_field text = flat_map tsv_escaped text
 
 abbrev pub tsv_line : WriteOpts → List (List ℕ) → List ℕ
-tsv_line opts fields = joined opts.ofs (map tsv_field fields) ++ 10 ∷ []
+tsv_line opts fields = joined opts.ofs (map tsv_field fields) ++ line_feed ∷ []
 
 abbrev pub tsv_record : WriteOpts → Run → List (List ℕ × Tree) → List ℕ
 tsv_record opts run r = headed opts.headerless run r (tsv_line opts (texts Keys r)) (tsv_line opts (texts Values r))

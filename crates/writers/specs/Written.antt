@@ -68,11 +68,11 @@ abbrev pub given : WriteOpts → Run → List Body → List ℕ
 given opts run [] = []
 given opts run (body ∷ bodies) = gives opts run body ++ given opts (after opts run body) bodies
 
-abbrev pub run_behind : WriteOpts → Run → List Body → Run
-run_behind opts run [] = run
-run_behind opts run (body ∷ bodies) = run_behind opts (after opts run body) bodies
+abbrev pub run_after : WriteOpts → Run → List Body → Run
+run_after opts run [] = run
+run_after opts run (body ∷ bodies) = run_after opts (after opts run body) bodies
 
 -- what is written of these records and texts, before the end or with it
 abbrev pub written : WriteOpts → List Body → Bool → List ℕ
 written opts bodies ended =
-    given opts start bodies ++ (if ended then end_text opts.format opts (run_behind opts start bodies) else [])
+    given opts start bodies ++ (if ended then end_text opts.format opts (run_after opts start bodies) else [])

@@ -41,7 +41,8 @@ fn append_csv(opts: &WriteOpts, text: &[u8], out: &mut Bytes) -> Result<(), NoMe
 /// Whether a quote, LF, CR or the separator stands in the text.
 #[inline]
 fn is_special(separator: &[u8], text: &[u8]) -> bool
-    ensures { result ≡ (list_any wants_quotes text.now || is_some (place_in separator.now text.now)) }
+    ensures { result ≡ (list_any wants_quotes text.now
+        || is_some (place_in separator.now text.now)) }
 {
     if separator.len() == 1 {
         has_special_or(separator[0], text)

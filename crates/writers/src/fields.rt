@@ -39,7 +39,8 @@ pub(crate) fn append_fields(
     scratch: &mut Bytes,
     out: &mut Bytes,
 ) -> Result<(), NoMemory>
-    ensures { OnOk result (out.new ≡ out.old ++ joined separator.now (map (field_text form opts.now) fields.now)) }
+    ensures { OnOk result (out.new ≡ out.old
+        ++ joined separator.now (map (field_text form opts.now) fields.now)) }
 {
     for place in 0..fields.len() {
         append_separator(separator, place > 0, out)?;
@@ -82,7 +83,8 @@ fn append_form(
     scratch: &mut Bytes,
     out: &mut Bytes,
 ) -> Result<(), NoMemory>
-    ensures { OnOk result (out.new ≡ out.old ++ field_text form opts.now (key.now, tree_of value.now)) }
+    ensures { OnOk result (out.new ≡ out.old
+        ++ field_text form opts.now (key.now, tree_of value.now)) }
 {
     match form {
         FieldForm::Pair => append_pair(opts, key, value, out),
@@ -95,7 +97,8 @@ fn append_form(
 }
 
 fn append_pair(opts: &WriteOpts, key: &[u8], value: &Value, out: &mut Bytes) -> Result<(), NoMemory>
-    ensures { OnOk result (out.new ≡ out.old ++ pair_text opts.now.ops (key.now, tree_of value.now)) }
+    ensures { OnOk result (out.new ≡ out.old
+        ++ pair_text opts.now.ops (key.now, tree_of value.now)) }
 {
     out.append(key)?;
     append_mark(opts.ops.as_slice(), out)?;
@@ -111,7 +114,8 @@ fn append_value(
     scratch: &mut Bytes,
     out: &mut Bytes,
 ) -> Result<(), NoMemory>
-    ensures { OnOk result (out.new ≡ out.old ++ field_in style opts.now (shown (tree_of value.now))) }
+    ensures { OnOk result (out.new ≡ out.old
+        ++ field_in style opts.now (shown (tree_of value.now))) }
 {
     match held_text(value) {
         Some(text) => append_field(style, opts, text, out),

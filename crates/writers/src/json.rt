@@ -1,7 +1,7 @@
 ghost use Rattle.std.specs.Prelude.{◌≡◌, ◌++◌, [], OnOk};
 ghost use Rattle.mlr_spec.specs.Json.{json_record};
 ghost use Rattle.writers.specs.Json.{json_after, json_end, json_written, line_end_missing, list_lead, style_of};
-ghost use Rattle.writers.specs.Standing.{run_of};
+ghost use Rattle.writers.specs.Represents.{run_of};
 
 use crate::WriteOpts;
 use crate::fields::append_fields;
@@ -20,7 +20,8 @@ pub(crate) fn append_json(
     out: &mut Bytes,
 ) -> Result<(), NoMemory>
     ensures run { OnOk result (run_of state.new ≡ json_after opts.now (run_of state.old)) }
-    ensures text { OnOk result (out.new ≡ out.old ++ json_written opts.now (run_of state.old) fields.now) }
+    ensures text { OnOk result (out.new ≡ out.old
+        ++ json_written opts.now (run_of state.old) fields.now) }
 {
     let style = style_of(opts);
     if opts.listwrap {

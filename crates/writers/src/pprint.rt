@@ -7,7 +7,7 @@ ghost use Rattle.writers.specs.declared.form.Part.TheVariants.{Keys, Values};
 ghost use Rattle.writers.specs.Cells.{part_text, texts};
 ghost use Rattle.writers.specs.Columns.{column_gap, in_column, in_columns};
 ghost use Rattle.writers.specs.Pprint.{block, block_by, block_end, block_ended, block_for, column_width, dashes, length_at, pprint_after, pprint_header, pprint_line, pprint_record, shown, text_before, widths_of};
-ghost use Rattle.writers.specs.Standing.{run_of};
+ghost use Rattle.writers.specs.Represents.{run_of};
 
 use crate::WriteOpts;
 use crate::block::Block;
@@ -16,7 +16,7 @@ use crate::fields::append_separator;
 use crate::form::Part;
 use crate::keys::{are_keys, put_keys};
 use crate::state::State;
-use crate::width::{append_padding, append_repeated, behind, count_points};
+use crate::width::{append_padding, append_repeated, count_points, following};
 use mlr_record::Record;
 use mlr_spec::NoMemory;
 use mlr_value::{Bytes, Value};
@@ -33,7 +33,8 @@ pub(crate) fn append_pprint(
     out: &mut Bytes,
 ) -> Result<(), NoMemory>
     ensures run { OnOk result (run_of state.new ≡ pprint_after (run_of state.old) fields) }
-    ensures text { OnOk result (out.new ≡ out.old ++ pprint_record opts.now (run_of state.old) fields) }
+    ensures text { OnOk result (out.new ≡ out.old
+        ++ pprint_record opts.now (run_of state.old) fields) }
 {
     if fields.len() == 0 {
         return end_block(opts, state, out);
@@ -51,7 +52,8 @@ fn open_block(
     out: &mut Bytes,
 ) -> Result<(), NoMemory>
     ensures run { OnOk result (run_of state.new ≡ block_for (run_of state.old) fields.now) }
-    ensures text { OnOk result (out.new ≡ out.old ++ text_before opts.now (run_of state.old) fields.now) }
+    ensures text { OnOk result (out.new ≡ out.old
+        ++ text_before opts.now (run_of state.old) fields.now) }
 {
     if are_keys(&state.keys, fields) {
         return Ok(());
@@ -112,7 +114,8 @@ fn append_header(
     first: &Record,
     out: &mut Bytes,
 ) -> Result<(), NoMemory>
-    ensures { OnOk result (out.new ≡ out.old ++ pprint_header opts.now widths.now (texts Keys first.now)) }
+    ensures { OnOk result (out.new ≡ out.old
+        ++ pprint_header opts.now widths.now (texts Keys first.now)) }
 {
     if opts.headerless {
         return Ok(());
@@ -127,7 +130,8 @@ fn append_rows(
     rows: &[Record],
     out: &mut Bytes,
 ) -> Result<(), NoMemory>
-    ensures { OnOk result (out.new ≡ out.old ++ flat_map (λ r. pprint_line barred widths.now (texts Values r)) rows.now) }
+    ensures { OnOk result (out.new ≡ out.old
+        ++ flat_map (λ r. pprint_line barred widths.now (texts Values r)) rows.now) }
 {
     for row in rows {
         append_line(barred, widths, Part::Values, row, out)?;
@@ -138,15 +142,17 @@ fn append_rows(
 /// Puts the key or the value of a field behind `out`, or a dash if it is empty. It answers how many code points it put.
 #[inline]
 fn append_shown(part: Part, key: &[u8], value: &Value, out: &mut Bytes) -> Result<usize, NoMemory>
-    ensures text { OnOk result (out.new ≡ out.old ++ shown (part_text part (key.now, tree_of value.now))) }
-    ensures length { IfOk result (λ length. length ≡ code_points (shown (part_text part (key.now, tree_of value.now)))) }
+    ensures text { OnOk result (out.new ≡ out.old
+        ++ shown (part_text part (key.now, tree_of value.now))) }
+    ensures length { IfOk result (λ length. length ≡ code_points
+        (shown (part_text part (key.now, tree_of value.now)))) }
 {
     let before = out.len();
     append_part(part, key, value, out)?;
     if out.len() == before {
         out.push(b'-')?;
     }
-    Ok(count_points(behind(out.as_slice(), before)))
+    Ok(count_points(following(out.as_slice(), before)))
 }
 
 /// Puts a line of keys or values behind `out`, in columns of these widths.
@@ -157,7 +163,8 @@ fn append_line(
     fields: &Record,
     out: &mut Bytes,
 ) -> Result<(), NoMemory>
-    ensures { OnOk result (out.new ≡ out.old ++ pprint_line barred widths.now (texts part fields.now)) }
+    ensures { OnOk result (out.new ≡ out.old
+        ++ pprint_line barred widths.now (texts part fields.now)) }
 {
     if barred {
         out.append(b"| ")?;
@@ -176,7 +183,8 @@ fn append_columns(
     fields: &Record,
     out: &mut Bytes,
 ) -> Result<(), NoMemory>
-    ensures { OnOk result (out.new ≡ out.old ++ joined (column_gap barred) (in_columns barred widths.now (texts part fields.now))) }
+    ensures { OnOk result (out.new ≡ out.old
+        ++ joined (column_gap barred) (in_columns barred widths.now (texts part fields.now))) }
 {
     for place in 0..fields.len() {
         append_separator(column_gap(barred), place > 0, out)?;
@@ -211,7 +219,8 @@ fn append_column(
     width: usize,
     out: &mut Bytes,
 ) -> Result<(), NoMemory>
-    ensures { OnOk result (out.new ≡ out.old ++ in_column filled width (part_text part (key.now, tree_of value.now))) }
+    ensures { OnOk result (out.new ≡ out.old
+        ++ in_column filled width (part_text part (key.now, tree_of value.now))) }
 {
     let length = append_shown(part, key, value, out)?;
     if filled {
@@ -245,7 +254,8 @@ fn append_dashes(barred: bool, widths: &[usize], out: &mut Bytes) -> Result<(), 
 }
 
 fn append_dash_columns(widths: &[usize], out: &mut Bytes) -> Result<(), NoMemory>
-    ensures { OnOk result (out.new ≡ out.old ++ joined (codes "-+-") (map (λ width. replicate width 45) widths.now)) }
+    ensures { OnOk result (out.new ≡ out.old
+        ++ joined (codes "-+-") (map (λ width. replicate width 45) widths.now)) }
 {
     for (place, width) in widths.iter().enumerate() {
         append_separator(b"-+-", place > 0, out)?;

@@ -6,7 +6,7 @@ ghost use Rattle.writers.specs.Tsv.{tsv_line};
 ghost use Rattle.writers.specs.Headed.{header_text, headed_after};
 ghost use Rattle.writers.specs.Markdown.{between_bars};
 ghost use Rattle.writers.specs.Rows.{field_text, header_in, heading_in, is_headerless, line_in, row_text};
-ghost use Rattle.writers.specs.Standing.{run_of};
+ghost use Rattle.writers.specs.Represents.{run_of};
 
 use crate::WriteOpts;
 use crate::fields::append_fields;
@@ -29,7 +29,8 @@ pub(crate) fn append_row(
     out: &mut Bytes,
 ) -> Result<(), NoMemory>
     ensures run { OnOk result (run_of state.new ≡ headed_after (run_of state.old) fields.now) }
-    ensures text { OnOk result (out.new ≡ out.old ++ row_text style opts.now (run_of state.old) fields.now) }
+    ensures text { OnOk result (out.new ≡ out.old
+        ++ row_text style opts.now (run_of state.old) fields.now) }
 {
     if fields.len() == 0 {
         state.keys.clear();
@@ -51,7 +52,8 @@ fn begin_run(
 ) -> Result<(), NoMemory>
     requires { fields.now ≡ [] → ⊥ }
     ensures run { OnOk result (run_of state.new ≡ headed_after (run_of state.old) fields.now) }
-    ensures text { OnOk result (out.new ≡ out.old ++ heading_in style opts.now (run_of state.old) fields.now) }
+    ensures text { OnOk result (out.new ≡ out.old
+        ++ heading_in style opts.now (run_of state.old) fields.now) }
 {
     if are_keys(&state.keys, fields) {
         return Ok(());
@@ -70,7 +72,9 @@ fn append_heading(
     scratch: &mut Bytes,
     out: &mut Bytes,
 ) -> Result<(), NoMemory>
-    ensures { OnOk result (out.new ≡ out.old ++ header_text (is_headerless style opts.now) (run_of state.now) (header_in style opts.now (texts Keys fields.now))) }
+    ensures { OnOk result (out.new ≡ out.old
+        ++ header_text (is_headerless style opts.now) (run_of state.now)
+        (header_in style opts.now (texts Keys fields.now))) }
 {
     if is_headerless(style, opts) {
         return Ok(());
@@ -166,7 +170,8 @@ fn append_between_bars(
     scratch: &mut Bytes,
     out: &mut Bytes,
 ) -> Result<(), NoMemory>
-    ensures { OnOk result (out.new ≡ out.old ++ between_bars (map (field_text form opts.now) fields.now)) }
+    ensures { OnOk result (out.new ≡ out.old
+        ++ between_bars (map (field_text form opts.now) fields.now)) }
 {
     out.append(b"| ")?;
     append_fields(form, opts, b" | ", fields, scratch, out)?;

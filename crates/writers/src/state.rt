@@ -1,6 +1,6 @@
 ghost use Rattle.std.specs.Prelude.{◌≡◌};
 ghost use Rattle.writers.specs.Run.{start};
-ghost use Rattle.writers.specs.Standing.{run_of};
+ghost use Rattle.writers.specs.Represents.{run_of};
 
 use crate::block::Block;
 use mlr_value::Bytes;

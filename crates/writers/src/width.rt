@@ -34,9 +34,9 @@ fn count_pieces(text: &[u8]) -> usize
     let mut count: usize = 0;
     let mut rest = text;
     while !rest.is_empty() {
-        let (points, behind) = next_piece(rest);
+        let (points, following) = next_piece(rest);
         count += points;
-        rest = behind;
+        rest = following;
     }
     count
 }
@@ -50,7 +50,7 @@ fn next_piece(text: &[u8]) -> (usize, &[u8])
     ensures some { length result.1.now < length text.now }
 {
     let (found, size) = decode_utf8(text);
-    (points_of(found, size), behind(text, size))
+    (points_of(found, size), following(text, size))
 }
 
 /// How many code points a piece counts: bytes that are none count each.
@@ -63,7 +63,7 @@ fn points_of(found: Option<char>, size: usize) -> usize
 
 /// The text from a place on.
 #[inline]
-pub(crate) fn behind(text: &[u8], place: usize) -> &[u8]
+pub(crate) fn following(text: &[u8], place: usize) -> &[u8]
     requires { place ≤ length text.now }
     ensures { result.now ≡ drop place text.now }
 {

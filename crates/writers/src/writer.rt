@@ -2,7 +2,7 @@ ghost use Rattle.std.specs.Prelude.{◌≡◌, ◌↔◌, ℕ, List, [], ◌++�
 ghost use Rattle.mlr_event.specs.declared.event.Body.{Body};
 ghost use Rattle.writers.specs.declared.options.WriteOpts.{WriteOpts};
 ghost use Rattle.mlr_event.specs.Adding.{Adds};
-ghost use Rattle.writers.specs.Standing.{HasEnded, IsBroken, IsOpen, StandsFor, run_of};
+ghost use Rattle.writers.specs.Represents.{HasEnded, IsBroken, IsOpen, Represents, run_of};
 ghost use Rattle.writers.specs.Headed.{headed_after};
 ghost use Rattle.writers.specs.Rows.{row_text};
 ghost use Rattle.writers.specs.Written.{after, end_text, gives, record_after, record_text, written};
@@ -54,7 +54,7 @@ impl Drop for Writer {
 impl Writer {
     /// Nothing came yet. It takes memory for options of more than 16 bytes.
     pub fn new(alloc: Global, opts: &WriteOpts) -> Result<Writer, NoMemory>
-        ensures stands { IfOk result (λ writer. StandsFor opts.now writer []) }
+        ensures represents { IfOk result (λ writer. Represents opts.now writer []) }
         ensures open { IfOk result (λ writer. IsOpen writer) }
     {
         Ok(Writer {
@@ -69,8 +69,12 @@ impl Writer {
     /// Takes a record or a text, and puts what is known to be written now behind `out`.
     pub fn take(&mut self, body: Body, out: &mut Bytes) -> Result<(), NoMemory>
         requires { IsOpen self.old }
-        ensures stands { OnOk result ((opts : WriteOpts) (bodies : List Body) → StandsFor opts self.old bodies → StandsFor opts self.new (bodies ++ body ∷ [])) }
-        ensures adds { OnOk result ((opts : WriteOpts) (bodies : List Body) → StandsFor opts self.old bodies → Adds out.old out.new (written opts bodies false) (written opts (bodies ++ body ∷ []) false)) }
+        ensures represents { OnOk result ((opts : WriteOpts) (bodies : List Body)
+            → Represents opts self.old bodies → Represents opts self.new (bodies ++ body ∷ [])) }
+        ensures adds { OnOk result ((opts : WriteOpts) (bodies : List Body)
+            → Represents opts self.old bodies
+            → Adds out.old out.new (written opts bodies false)
+            (written opts (bodies ++ body ∷ []) false)) }
         ensures open { OnOk result (IsOpen self.new) }
         ensures err { OnErr result (IsBroken self.new) }
     {
@@ -84,7 +88,9 @@ impl Writer {
     /// Takes the end, and puts what is left behind `out`.
     pub fn end(&mut self, out: &mut Bytes) -> Result<(), NoMemory>
         requires { IsOpen self.old }
-        ensures adds { OnOk result ((opts : WriteOpts) (bodies : List Body) → StandsFor opts self.old bodies → Adds out.old out.new (written opts bodies false) (written opts bodies true)) }
+        ensures adds { OnOk result ((opts : WriteOpts) (bodies : List Body)
+            → Represents opts self.old bodies
+            → Adds out.old out.new (written opts bodies false) (written opts bodies true)) }
         ensures ended { OnOk result (HasEnded self.new) }
         ensures err { OnErr result (IsBroken self.new) }
     {
@@ -105,8 +111,10 @@ impl Writer {
     }
 
     fn take_body(&mut self, body: Body, out: &mut Bytes) -> Result<(), NoMemory>
-        ensures run { OnOk result (run_of self.new.state ≡ after self.old.opts (run_of self.old.state) body) }
-        ensures text { OnOk result (out.new ≡ out.old ++ gives self.old.opts (run_of self.old.state) body) }
+        ensures run { OnOk result (run_of self.new.state
+            ≡ after self.old.opts (run_of self.old.state) body) }
+        ensures text { OnOk result (out.new ≡ out.old
+            ++ gives self.old.opts (run_of self.old.state) body) }
         ensures opts { self.new.opts ≡ self.old.opts }
         ensures stage { self.new.stage ≡ self.old.stage }
     {
@@ -125,8 +133,10 @@ impl Writer {
 
     /// Takes a record in the shape in which it is written.
     fn take_record(&mut self, fields: Record, out: &mut Bytes) -> Result<(), NoMemory>
-        ensures run { OnOk result (run_of self.new.state ≡ record_after self.old.opts.format self.old.opts (run_of self.old.state) fields) }
-        ensures text { OnOk result (out.new ≡ out.old ++ record_text self.old.opts.format self.old.opts (run_of self.old.state) fields) }
+        ensures run { OnOk result (run_of self.new.state
+            ≡ record_after self.old.opts.format self.old.opts (run_of self.old.state) fields) }
+        ensures text { OnOk result (out.new ≡ out.old
+            ++ record_text self.old.opts.format self.old.opts (run_of self.old.state) fields) }
         ensures opts { self.new.opts ≡ self.old.opts }
         ensures stage { self.new.stage ≡ self.old.stage }
     {
@@ -184,8 +194,10 @@ impl Writer {
         fields: &Record,
         out: &mut Bytes,
     ) -> Result<(), NoMemory>
-        ensures run { OnOk result (run_of self.new.state ≡ headed_after (run_of self.old.state) fields.now) }
-        ensures text { OnOk result (out.new ≡ out.old ++ row_text style self.old.opts (run_of self.old.state) fields.now) }
+        ensures run { OnOk result (run_of self.new.state
+            ≡ headed_after (run_of self.old.state) fields.now) }
+        ensures text { OnOk result (out.new ≡ out.old
+            ++ row_text style self.old.opts (run_of self.old.state) fields.now) }
         ensures opts { self.new.opts ≡ self.old.opts }
         ensures stage { self.new.stage ≡ self.old.stage }
     {
@@ -201,7 +213,8 @@ impl Writer {
     }
 
     fn take_end(&mut self, out: &mut Bytes) -> Result<(), NoMemory>
-        ensures text { OnOk result (out.new ≡ out.old ++ end_text self.old.opts.format self.old.opts (run_of self.old.state)) }
+        ensures text { OnOk result (out.new ≡ out.old
+            ++ end_text self.old.opts.format self.old.opts (run_of self.old.state)) }
     {
         match self.opts.format {
             Format::Json => append_json_end(&self.opts, &self.state, out),

@@ -1,7 +1,7 @@
 ghost use Rattle.std.specs.Prelude.{◌≡◌, ◌++◌, OnOk};
 ghost use Rattle.std.specs.List.{flat_map};
 ghost use Rattle.mlr_value.specs.Value.{tree_of};
-ghost use Rattle.writers.specs.Standing.{run_of};
+ghost use Rattle.writers.specs.Represents.{run_of};
 ghost use Rattle.writers.specs.Xtab.{longest_key, xtab_after, xtab_line, xtab_record};
 
 use crate::state::State;

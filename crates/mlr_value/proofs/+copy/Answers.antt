@@ -2,7 +2,7 @@ use Rattle.std.proofs.Common.{◌++◌, ◌∷◌, [], take, ap, sym, ◌∙◌,
 use Rattle.mlr_spec.specs.Pairs.{value_at}
 use Rattle.mlr_value.specs.Value.{tree_of}
 use Rattle.mlr_value.proofs.Depth.{depth-item, depth-pair}
-use Rattle.mlr_value.proofs.Fronts.{take-more, value_at-before}
+use Rattle.mlr_value.proofs.Prefixes.{take-more, value_at-before}
 use Rattle.mlr_value.proofs.+copy.Goals as goal
 
 pub array_value::copy_items-copy-requires : goal.array_value::copy_items-copy-requires
@@ -17,7 +17,7 @@ array_value::copy_items-loop-place-preserved t c =
     let from = c.args.from.now in
     let place = c.loop-place.place in
     c.in_ok-push.ensures
-    ∙ ap (λ front. front ++ tree_of c.in_ok-copy.field-0 ∷ []) c.loop-place.invariant
+    ∙ ap (λ prefix. prefix ++ tree_of c.in_ok-copy.field-0 ∷ []) c.loop-place.invariant
     ∙ ap (λ tree. take place from ++ tree ∷ []) c.in_ok-copy.ensures
     ∙ sym (take-more from place (tree_of c.item.result.now) c.item.ensures)
 
@@ -42,6 +42,6 @@ map_value::copy_pairs-loop-place-preserved t c =
     let place = c.loop-place.place in
     let key = c.entry.result.0.now in
     c.in_ok-push.ensures
-    ∙ ap (λ front. front ++ (key, tree_of c.in_ok-copy.field-0) ∷ []) c.loop-place.invariant
+    ∙ ap (λ prefix. prefix ++ (key, tree_of c.in_ok-copy.field-0) ∷ []) c.loop-place.invariant
     ∙ ap (λ tree. take place from ++ (key, tree) ∷ []) c.in_ok-copy.ensures
     ∙ sym (take-more from place (key, tree_of c.entry.result.1.now) c.entry.ensures)

@@ -1,6 +1,6 @@
 use Rattle.std.proofs.Common.{sym, subst, ap, ◌∙◌, []}
 use Rattle.mlr_plan.specs.Plans.{AreSound, verbs_of}
-use Rattle.read_files.specs.Standing.{can_read}
+use Rattle.read_files.specs.Represents.{can_read}
 use Rattle.cli_words.specs.Grammar.{names_of}
 use Rattle.cli_run.specs.Meaning.{inputs_of, specs_of}
 use Rattle.cli_run.specs.Options.{read_options, write_options}

@@ -15,7 +15,7 @@ returns-in-Token-clause-outcome c =
     IfOk-weaker c.token_turn.result _
     (λ turn. (end : ℕ) → length text ≤ end → IsTurn end (outcome_at end frames at (tokens_left end text)) machine turn)
     (λ turn given end fits.
-    let tokens = subst (λ next. Gives end (length text) next (tokens_left end text)) c.in-Token.is (c.in_ok-behind.ensures.tokens end fits) in
+    let tokens = subst (λ next. Gives end (length text) next (tokens_left end text)) c.in-Token.is (c.in_ok-following.ensures.tokens end fits) in
     subst (λ x. IsTurn end (outcome_at end frames at x) machine turn) (sym tokens) (given end))
     c.token_turn.ensures.outcome
 
@@ -24,15 +24,15 @@ returns-in-Refused-clause-outcome c = λ end fits.
     let text = c.args.text.now in
     let frames = frames_of c.args.machine.now in
     let at = c.args.machine.now.phase in
-    let given = subst (λ next. Gives end (length text) next (tokens_left end text)) c.in-Refused.is (c.in_ok-behind.ensures.tokens end fits) in
-    let refused = subst (IsWanted c.takes_text.result) c.in-Refused.is c.in_ok-behind.ensures.wanted in
+    let given = subst (λ next. Gives end (length text) next (tokens_left end text)) c.in-Refused.is (c.in_ok-following.ensures.tokens end fits) in
+    let refused = subst (IsWanted c.takes_text.result) c.in-Refused.is c.in_ok-following.ensures.wanted in
     ap (outcome_at end frames at) given.2 ∙ text-refused end frames at _ given.0 given.1 (sym c.takes_text.ensures ∙ refused)
 
 pub returns-in-Cut-clause-outcome : goal.returns-in-Cut-clause-outcome
 returns-in-Cut-clause-outcome c = λ end fits.
     let text = c.args.text.now in
     let machine = c.args.machine.now in
-    let given = subst (λ next. Gives end (length text) next (tokens_left end text)) c.in-Cut.is (c.in_ok-behind.ensures.tokens end fits) in
-    let wanted = subst (IsWanted c.takes_text.result) c.in-Cut.is c.in_ok-behind.ensures.wanted in
+    let given = subst (λ next. Gives end (length text) next (tokens_left end text)) c.in-Cut.is (c.in_ok-following.ensures.tokens end fits) in
+    let wanted = subst (IsWanted c.takes_text.result) c.in-Cut.is c.in_ok-following.ensures.wanted in
     ap (outcome_at end (frames_of machine) machine.phase) given.1
     ∙ text-cut end (frames_of machine) machine.phase _ _ given.0 (sym c.takes_text.ensures ∙ wanted) (is-shallow machine)

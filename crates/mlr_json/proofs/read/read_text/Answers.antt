@@ -25,11 +25,11 @@ loop-machine-preserved c =
     let left = c.loop-machine.left.now in
     let machine = c.loop-machine.machine in
     let fits : length left ≤ end = omega arith in
-    let shorter = subst (IsTurnShorter (length left)) c.in-On.is c.in_ok-behind.ensures.shorter in
+    let shorter = subst (IsTurnShorter (length left)) c.in-On.is c.in_ok-following.ensures.shorter in
     record {
       shorter = omega (arith, shorter, c.loop-machine.invariant.shorter);
       same = c.loop-machine.invariant.same
-          ∙ subst (IsTurn end (outcome_at end (frames_of machine) machine.phase (tokens_left end left)) c.next_turn.new.machine) c.in-On.is (c.in_ok-behind.ensures.outcome end fits);
+          ∙ subst (IsTurn end (outcome_at end (frames_of machine) machine.phase (tokens_left end left)) c.next_turn.new.machine) c.in-On.is (c.in_ok-following.ensures.outcome end fits);
     }
 
 pub returns-in-Whole : goal.returns-in-Whole
@@ -40,7 +40,7 @@ returns-in-Whole c =
     let fits : length left ≤ end = omega arith in
     subst (λ o. IsAnswer o c.whole.result)
     (sym (c.loop-machine.invariant.same
-    ∙ subst (IsTurn end (outcome_at end (frames_of machine) machine.phase (tokens_left end left)) c.next_turn.new.machine) c.in-Whole.is (c.in_ok-behind.ensures.outcome end fits)))
+    ∙ subst (IsTurn end (outcome_at end (frames_of machine) machine.phase (tokens_left end left)) c.next_turn.new.machine) c.in-Whole.is (c.in_ok-following.ensures.outcome end fits)))
     c.whole.ensures
 
 pub returns-in-Syntax : goal.returns-in-Syntax
@@ -50,7 +50,7 @@ returns-in-Syntax c =
     let machine = c.loop-machine.machine in
     let fits : length left ≤ end = omega arith in
     c.loop-machine.invariant.same
-    ∙ subst (IsTurn end (outcome_at end (frames_of machine) machine.phase (tokens_left end left)) c.next_turn.new.machine) c.in-Syntax.is (c.in_ok-behind.ensures.outcome end fits)
+    ∙ subst (IsTurn end (outcome_at end (frames_of machine) machine.phase (tokens_left end left)) c.next_turn.new.machine) c.in-Syntax.is (c.in_ok-following.ensures.outcome end fits)
     ∙ ap syntax (sym c.place.ensures)
 
 pub returns-in-Deep : goal.returns-in-Deep
@@ -60,5 +60,5 @@ returns-in-Deep c =
     let machine = c.loop-machine.machine in
     let fits : length left ≤ end = omega arith in
     c.loop-machine.invariant.same
-    ∙ subst (IsTurn end (outcome_at end (frames_of machine) machine.phase (tokens_left end left)) c.next_turn.new.machine) c.in-Deep.is (c.in_ok-behind.ensures.outcome end fits)
+    ∙ subst (IsTurn end (outcome_at end (frames_of machine) machine.phase (tokens_left end left)) c.next_turn.new.machine) c.in-Deep.is (c.in_ok-following.ensures.outcome end fits)
     ∙ ap deep (sym c.place-in-Deep.ensures)

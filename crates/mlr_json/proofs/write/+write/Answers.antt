@@ -4,7 +4,7 @@ use Rattle.mlr_spec.specs.Tree.{is_collection}
 use Rattle.mlr_spec.specs.Json.{json_at, json_field, is_stacked}
 use Rattle.mlr_value.specs.Value.{tree_of}
 use Rattle.mlr_value.proofs.Depth.{depth-item, depth-pair}
-use Rattle.mlr_json.proofs.Written.{all-next, front-next, last-part, map-written, array-written}
+use Rattle.mlr_json.proofs.Written.{all-next, prefix-next, last-part, map-written, array-written}
 use Rattle.mlr_json.specs.Writing.{gap, line_end, led}
 use Rattle.mlr_json.proofs.write.+write.Goals as goal
 
@@ -25,7 +25,7 @@ append_pairs-append_field-requires t c = (
 pub append_items-loop-place-preserved : goal.append_items-loop-place-preserved
 append_items-loop-place-preserved t c = record {
   all = all-next c.args.lines c.args.level (json_at c.args.style c.args.level) c.args.items.now c.loop-place.place (tree_of c.item.result.now) c.loop-place.into c.append_gap.new.into c.append_at.new.into _ c.item.ensures c.loop-place.invariant.all c.in_ok-append_gap.ensures.ok c.in_ok-append_at.ensures.ok;
-  front = front-next c.args.into.now c.loop-place.into c.append_gap.new.into c.append_at.new.into _ _ c.loop-place.invariant.front c.in_ok-append_gap.ensures.ok c.in_ok-append_at.ensures.ok;
+  prefix = prefix-next c.args.into.now c.loop-place.into c.append_gap.new.into c.append_at.new.into _ _ c.loop-place.invariant.prefix c.in_ok-append_gap.ensures.ok c.in_ok-append_at.ensures.ok;
 }
 
 pub append_pairs-loop-place-preserved : goal.append_pairs-loop-place-preserved
@@ -35,7 +35,7 @@ append_pairs-loop-place-preserved t c =
     c.in_ok-append_gap.ensures.ok ∙ ap (λ lines. c.loop-place.into ++ gap lines (c.loop-place.place == 0) c.args.level) lines_is in
     record {
       all = all-next (is_stacked c.args.style) c.args.level (json_field c.args.style c.args.level) c.args.pairs.now c.loop-place.place (c.entry.result.0.now, tree_of c.entry.result.1.now) c.loop-place.into c.append_gap.new.into c.append_field.new.into _ c.entry.ensures c.loop-place.invariant.all gap_is c.in_ok-append_field.ensures.ok;
-      front = front-next c.args.into.now c.loop-place.into c.append_gap.new.into c.append_field.new.into _ _ c.loop-place.invariant.front gap_is c.in_ok-append_field.ensures.ok;
+      prefix = prefix-next c.args.into.now c.loop-place.into c.append_gap.new.into c.append_field.new.into _ _ c.loop-place.invariant.prefix gap_is c.in_ok-append_field.ensures.ok;
     }
 
 pub append_map-returns-clause-ok : goal.append_map-returns-clause-ok

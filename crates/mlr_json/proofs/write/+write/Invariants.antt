@@ -2,7 +2,7 @@ use Rattle.std.proofs.Common.{◌≡◌, ◌==◌, ◌++◌, ◌+◌, ◌*◌, m
 use Rattle.mlr_spec.specs.Json.{json_at, json_field, is_stacked}
 use Rattle.mlr_value.specs.Value.{tree_of}
 use Rattle.mlr_value.specs.Depth.{depth, pairs_depth, items_depth}
-use Rattle.mlr_json.specs.Escapes.{StandsBefore}
+use Rattle.mlr_json.specs.Escapes.{RepresentsBefore}
 use Rattle.mlr_json.specs.Writing.{led}
 use Rattle.mlr_json.proofs.write.+write.Given as goal
 
@@ -10,13 +10,13 @@ use Rattle.mlr_json.proofs.write.+write.Given as goal
 abbrev pub invariant-append_items-loop-place : goal.invariant-append_items-loop-place
 invariant-append_items-loop-place l = record {
   all : l.into ++ led l.lines (l.place == 0) l.level (map (json_at l.style l.level) (drop l.place l.items)) ≡ l.initial.into ++ led l.lines true l.level (map (json_at l.style l.level) l.items);
-  front : StandsBefore l.initial.into l.into;
+  prefix : RepresentsBefore l.initial.into l.into;
 }
 
 abbrev pub invariant-append_pairs-loop-place : goal.invariant-append_pairs-loop-place
 invariant-append_pairs-loop-place l = record {
   all : l.into ++ led (is_stacked l.style) (l.place == 0) l.level (map (json_field l.style l.level) (drop l.place l.pairs)) ≡ l.initial.into ++ led (is_stacked l.style) true l.level (map (json_field l.style l.level) l.pairs);
-  front : StandsBefore l.initial.into l.into;
+  prefix : RepresentsBefore l.initial.into l.into;
 }
 
 abbrev pub decreases-append_at : goal.decreases-append_at

@@ -3,7 +3,7 @@ use Rattle.regex.specs.Bytes.{matcher_pattern}
 use Rattle.regex.specs.Patterns.{find}
 use Rattle.regex.specs.Search.{Answers}
 use Rattle.regex.proofs.ReplaceLemmas.{IfOk-weaker}
-use Rattle.mlr_pattern.proofs.Replacing.{PutsLate, none_next, some_next, skipped, second_next, inside}
+use Rattle.mlr_pattern.proofs.Replacing.{AppendsLate, none_next, some_next, skipped, second_next, inside}
 use Rattle.mlr_pattern.proofs.replace.append_next.Goals as goal
 
 pub returns-in-Some-clause-found : goal.returns-in-Some-clause-found
@@ -15,7 +15,7 @@ returns-in-Some-clause-found c =
     let new = c.append_found-in-Some.new.out in
     let first = skipped re text by after _ c.in-Some.end c.args.out.now _ _ c.saturating_sub.ensures c.in-Some.is c.if-end-after.true c.in_ok-end.ensures.found in
     IfOk-weaker _ _ (λ end found. second_next re text by after c.args.out.now new first.0 first.1 first.2 end
-    (subst₂ (λ p old. Answers end (find p text after) (PutsLate re text by old new after)) c.in_ok-end.ensures.same first.3 found))
+    (subst₂ (λ p old. Answers end (find p text after) (AppendsLate re text by old new after)) c.in_ok-end.ensures.same first.3 found))
     c.append_found-in-Some.result c.append_found-in-Some.ensures.found
 
 pub returns-in-Some-clause-within : goal.returns-in-Some-clause-within

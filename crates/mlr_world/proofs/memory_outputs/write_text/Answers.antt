@@ -10,5 +10,5 @@ returns-in-Some c =
     let target = c.args.target.now in
     let entries = c.args.entries.now.items in
     let found = subst (λ entries. IsFirstPlace (is_of target) entries (Some c.in-Some.place)) c.deref.ensures.value c.in-Some.ensures in
-    changes-set entries target c.in-Some.place c.index_mut.result.now found c.index_mut.ensures.value (WriteLeaves c.args.bytes.now c.append_front.result)
-    (record { target = c.index_mut.result.now.target; text = c.append_front.new.text }) refl c.append_front.ensures
+    changes-set entries target c.in-Some.place c.index_mut.result.now found c.index_mut.ensures.value (WriteLeaves c.args.bytes.now c.append_prefix.result)
+    (record { target = c.index_mut.result.now.target; text = c.append_prefix.new.text }) refl c.append_prefix.ensures

@@ -1,7 +1,7 @@
 use Rattle.std.proofs.Common.{List}
 use Rattle.mlr_event.specs.declared.event.Event.{Event}
 use Rattle.writers.specs.declared.options.WriteOpts.{WriteOpts}
-use Rattle.outlet.specs.Standing.{StandsFor}
+use Rattle.outlet.specs.Represents.{Represents}
 use Rattle.outlet.proofs.outlet_tests.give_all.Given as goal
 
 -- it was given some events
@@ -11,4 +11,4 @@ invariant-loop-text g l =
     × (goal.iterator-loop-text g).is_finite l.text-iterator
     × (opts : WriteOpts)
     × (before : List Event)
-    × StandsFor opts before l.outlet
+    × Represents opts before l.outlet

@@ -1,6 +1,6 @@
 use Rattle.std.proofs.Common.{◌≡◌, ◌++◌, length}
 use Rattle.read_csv.specs.Fields.{unescaped}
-use Rattle.read_csv.proofs.escapes.unescape.Given as goal
+use Rattle.read_csv.proofs.escapes.unescape.RowOutcome as goal
 
 -- what is left comes to what the whole text comes to
 abbrev pub invariant-loop-byte : goal.invariant-loop-byte

@@ -1,7 +1,7 @@
 use Rattle.std.proofs.Common.{ap, sym, ◌∙◌}
 use Rattle.std.proofs.lemmas.Result.{on_ok_weaker}
 use Rattle.mlr_spec.specs.Infer.{tree_of_data}
-use Rattle.read_csv.specs.Taking.{with_value}
+use Rattle.read_csv.specs.OpenRow.{with_value}
 use Rattle.read_csv.proofs.Escaping.{unescaped-from}
 use Rattle.read_csv.proofs.fields.push_escaped.Goals as goal
 

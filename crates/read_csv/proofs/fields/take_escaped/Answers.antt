@@ -1,6 +1,6 @@
 use Rattle.std.proofs.Common.{◌≡◌, ◌∷◌, [], ap, sym, ◌∙◌}
 use Rattle.mlr_spec.specs.Split.{split_by}
-use Rattle.read_csv.specs.Taking.{row_with, tsv_reading}
+use Rattle.read_csv.specs.OpenRow.{row_with, tsv_reading}
 use Rattle.read_csv.proofs.Escaping.{escaped-more, escaped-last, parts-more, parts-last}
 use Rattle.read_csv.proofs.fields.take_escaped.Goals as goal
 

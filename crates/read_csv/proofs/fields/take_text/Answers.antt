@@ -1,7 +1,7 @@
 use Rattle.std.proofs.Common.{◌≡◌, true, List, ℕ, None, Some, Bor, ap, sym, ◌∙◌}
 use Rattle.std.specs.Option.{option_map, is_some}
 use Rattle.std.proofs.lemmas.Result.{on_ok_weaker}
-use Rattle.read_csv.specs.Taking.{behind_quoted, csv_reading, row_with}
+use Rattle.read_csv.specs.OpenRow.{after_quoted, csv_reading, row_with}
 use Rattle.read_csv.proofs.Readings.{quoted-more, quoted-last, taken-open}
 use Rattle.read_csv.proofs.fields.take_text.Goals as goal
 
@@ -11,7 +11,7 @@ returns-in-Some c =
     let row = c.args.row.now in
     let text = c.args.text.now in
     let rest = c.in-Some.rest.now in
-    let is : behind_quoted opts.ifs text ≡ Some rest = sym c.in_ok-rest.ensures.behind ∙ ap (option_map (λ (r : Bor (List ℕ)). r.now)) c.in-Some.is in
+    let is : after_quoted opts.ifs text ≡ Some rest = sym c.in_ok-rest.ensures.following ∙ ap (option_map (λ (r : Bor (List ℕ)). r.now)) c.in-Some.is in
     let is_open : is_some row.quotes ≡ true = sym c.is_open.ensures ∙ c.if-is_open.true in
     on_ok_weaker c.take_fields.result
     (λ e. e ∙ ap (λ r. row_with opts.infer r (csv_reading opts.ifs rest)) c.in_ok-rest.ensures.row ∙ quoted-more opts row text c.requires rest is ∙ sym (taken-open opts row text is_open))
@@ -22,6 +22,6 @@ returns-in-None c =
     let opts = c.args.opts.now in
     let row = c.args.row.now in
     let text = c.args.text.now in
-    let is : behind_quoted opts.ifs text ≡ None = sym c.in_ok-rest.ensures.behind ∙ ap (option_map (λ (r : Bor (List ℕ)). r.now)) c.in-None.is in
+    let is : after_quoted opts.ifs text ≡ None = sym c.in_ok-rest.ensures.following ∙ ap (option_map (λ (r : Bor (List ℕ)). r.now)) c.in-None.is in
     let is_open : is_some row.quotes ≡ true = sym c.is_open.ensures ∙ c.if-is_open.true in
     c.in_ok-rest.ensures.row ∙ quoted-last opts row text c.requires is ∙ sym (taken-open opts row text is_open)

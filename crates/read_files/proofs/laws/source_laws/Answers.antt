@@ -1,6 +1,6 @@
 use Rattle.read_files.proofs.Fixed.{all-taken, source-fixed}
 use Rattle.read_files.proofs.Formats.{Growth, growth}
-use Rattle.read_files.proofs.Fronts.{taken-early, whole-order}
+use Rattle.read_files.proofs.Prefixes.{taken-early, whole-order}
 use Rattle.read_files.proofs.Growing.{inputs-list, inputs-whole, source-grows}
 use Rattle.read_files.proofs.laws.source_laws.Goals as goal
 
@@ -10,22 +10,22 @@ returns-clause-list c = inputs-list
 pub returns-clause-grows : goal.returns-clause-grows
 returns-clause-grows c =
     let grows : Growth = growth
-    (λ s. c.front_laws.ensures.fed s.opts s.file s.ctx) (λ s. c.front_laws.ensures.read s.opts s.file s.ctx)
-    (λ s. c.front_laws-2.ensures.fed s.opts s.file s.ctx) (λ s. c.front_laws-2.ensures.read s.opts s.file s.ctx)
-    (λ s. c.front_laws-3.ensures.fed s.opts s.file s.ctx) (λ s. c.front_laws-3.ensures.read s.opts s.file s.ctx)
-    (λ s. c.front_laws-4.ensures.fed s.opts s.file s.ctx) (λ s. c.front_laws-4.ensures.read s.opts s.file s.ctx)
+    (λ s. c.prefix_laws.ensures.fed s.opts s.file s.ctx) (λ s. c.prefix_laws.ensures.read s.opts s.file s.ctx)
+    (λ s. c.prefix_laws-2.ensures.fed s.opts s.file s.ctx) (λ s. c.prefix_laws-2.ensures.read s.opts s.file s.ctx)
+    (λ s. c.prefix_laws-3.ensures.fed s.opts s.file s.ctx) (λ s. c.prefix_laws-3.ensures.read s.opts s.file s.ctx)
+    (λ s. c.prefix_laws-4.ensures.fed s.opts s.file s.ctx) (λ s. c.prefix_laws-4.ensures.read s.opts s.file s.ctx)
     in λ opts names given longer order on. source-grows grows opts names given longer order on
 
 pub returns-clause-fixed : goal.returns-clause-fixed
 returns-clause-fixed c =
     source-fixed (growth
-    (λ s. c.front_laws.ensures.fed s.opts s.file s.ctx) (λ s. c.front_laws.ensures.read s.opts s.file s.ctx)
-    (λ s. c.front_laws-2.ensures.fed s.opts s.file s.ctx) (λ s. c.front_laws-2.ensures.read s.opts s.file s.ctx)
-    (λ s. c.front_laws-3.ensures.fed s.opts s.file s.ctx) (λ s. c.front_laws-3.ensures.read s.opts s.file s.ctx)
-    (λ s. c.front_laws-4.ensures.fed s.opts s.file s.ctx) (λ s. c.front_laws-4.ensures.read s.opts s.file s.ctx))
+    (λ s. c.prefix_laws.ensures.fed s.opts s.file s.ctx) (λ s. c.prefix_laws.ensures.read s.opts s.file s.ctx)
+    (λ s. c.prefix_laws-2.ensures.fed s.opts s.file s.ctx) (λ s. c.prefix_laws-2.ensures.read s.opts s.file s.ctx)
+    (λ s. c.prefix_laws-3.ensures.fed s.opts s.file s.ctx) (λ s. c.prefix_laws-3.ensures.read s.opts s.file s.ctx)
+    (λ s. c.prefix_laws-4.ensures.fed s.opts s.file s.ctx) (λ s. c.prefix_laws-4.ensures.read s.opts s.file s.ctx))
 
 pub returns-clause-whole : goal.returns-clause-whole
-returns-clause-whole c = λ told names given whole order fronts all. (inputs-whole told names given whole order fronts all, whole-order told names whole all)
+returns-clause-whole c = λ told names given whole order prefixes all. (inputs-whole told names given whole order prefixes all, whole-order told names whole all)
 
 pub returns-clause-early : goal.returns-clause-early
 returns-clause-early c = taken-early

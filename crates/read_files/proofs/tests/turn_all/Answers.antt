@@ -1,5 +1,5 @@
 use Rattle.std.proofs.Common.{refl, subst, sym}
-use Rattle.read_files.specs.Given.{Behind}
+use Rattle.read_files.specs.Takes.{After}
 use Rattle.read_files.proofs.tests.turn_all.Goals as goal
 
 pub loop-preserved : goal.loop-preserved
@@ -10,6 +10,6 @@ loop-preserved g c =
       k.1,
       k.2,
       turned.given',
-      turned.stands refl,
-      subst (λ held. Behind k.2 turned.given' held (g.I.Inputs.taken c.turn.new.inputs) (g.I.Inputs.open_name c.turn.new.inputs)) (sym c.in-Went.ensures.contents) turned.behind,
+      turned.represents refl,
+      subst (λ held. After k.2 turned.given' held (g.I.Inputs.taken c.turn.new.inputs) (g.I.Inputs.open_name c.turn.new.inputs)) (sym c.in-Went.ensures.contents) turned.following,
     )

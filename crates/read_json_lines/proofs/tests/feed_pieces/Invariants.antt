@@ -1,5 +1,5 @@
 use Rattle.std.proofs.Common.{◌+◌, ◌≤◌, length}
-use Rattle.read_json_lines.specs.Standing.{IsOpen, used}
+use Rattle.read_json_lines.specs.Represents.{IsOpen, used}
 use Rattle.read_json_lines.proofs.tests.feed_pieces.Given as goal
 
 -- the reader is open, and what is left has room

@@ -10,10 +10,10 @@ pub returns-in-Ok-true : goal.returns-in-Ok-true
 returns-in-Ok-true c seq given sound at = record {
   some = min 500 (seq_count seq - given);
   put = seq_events seq given (min 500 (seq_count seq - given));
-  puts = λ memory. c.in-Ok-true.ensures.adds seq given at;
+  appends = λ memory. c.in-Ok-true.ensures.adds seq given at;
   next = λ went.
       let less : given + min 500 (seq_count seq - given) < seq_count seq = ltb-true (given + min 500 (seq_count seq - given)) (seq_count seq) (sym (c.in-Ok-true.ensures.more seq given at) ∙ c.in-Ok-true.field-0-test) in
-      (refl, some-put seq given (min 500 (seq_count seq - given)) (omega (arith, less)), c.in-Ok-true.ensures.stands seq given at);
+      (refl, some-put seq given (min 500 (seq_count seq - given)) (omega (arith, less)), c.in-Ok-true.ensures.represents seq given at);
   last = λ e. absurd (let f = e in cc);
   answers = inl refl;
 }
@@ -21,16 +21,16 @@ returns-in-Ok-true c seq given sound at = record {
 pub returns-in-Ok : goal.returns-in-Ok
 returns-in-Ok c seq given sound at =
     let some = min 500 (seq_count seq - given) in
-    let stands = c.in-Ok-false.ensures.stands seq given at in
-    let all : given + some ≡ seq_count seq = all-counted (given + some) (seq_count seq) (sym (c.in-Ok-false.ensures.more seq given at) ∙ c.in-Ok-false.field-0-test) stands.within in
+    let represents = c.in-Ok-false.ensures.represents seq given at in
+    let all : given + some ≡ seq_count seq = all-counted (given + some) (seq_count seq) (sym (c.in-Ok-false.ensures.more seq given at) ∙ c.in-Ok-false.field-0-test) represents.within in
     record {
       some = some;
       put = seq_events seq given some ++ event.End (seq_context (seq_count seq)) ∷ [];
-      puts = λ memory.
+      appends = λ memory.
           c.in-Ok.ensures
           ∙ ap (λ t. t ++ event.End c.ctx.result ∷ []) (c.in-Ok-false.ensures.adds seq given at)
           ∙ append_assoc c.args.out.now (seq_events seq given some) (event.End c.ctx.result ∷ [])
-          ∙ ap (λ ctx. c.args.out.now ++ (seq_events seq given some ++ event.End ctx ∷ [])) (c.ctx.ensures seq (given + some) stands ∙ ap seq_context all);
+          ∙ ap (λ ctx. c.args.out.now ++ (seq_events seq given some ++ event.End ctx ∷ [])) (c.ctx.ensures seq (given + some) represents ∙ ap seq_context all);
       next = λ e. absurd (let f = e in cc);
       last = λ ended.
           sym (append_assoc (seq_events seq 0 given) (seq_events seq given some) (event.End (seq_context (seq_count seq)) ∷ []))

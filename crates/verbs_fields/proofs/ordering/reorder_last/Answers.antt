@@ -10,10 +10,10 @@ use Rattle.verbs_fields.proofs.ordering.reorder_last.Goals as goal
 pub of_fields-requires : goal.of_fields-requires
 of_fields-requires c =
     let names = c.args.names.now in
-    let front : pairs_of c.take_named.new.fields.items ≡ dropped names c.args.from = search rules in
-    let behind : pairs_of c.take_named.new.taken.items ≡ picked names c.args.from = search rules in
+    let prefix : pairs_of c.take_named.new.fields.items ≡ dropped names c.args.from = search rules in
+    let following : pairs_of c.take_named.new.taken.items ≡ picked names c.args.from = search rules in
     let whole : pairs_of c.append.new.self.items ≡ named_last names c.args.from =
     ap pairs_of c.in_ok-append.ensures.items
     ∙ map-append pair_of c.take_named.new.fields.items c.take_named.new.taken.items
-    ∙ ap₂ (λ x y. x ++ y) front behind in
+    ∙ ap₂ (λ x y. x ++ y) prefix following in
     ap (λ pairs. are_distinct (keys_of pairs)) whole ∙ are_distinct-named_last names c.args.from c.into_fields-fields.ensures.distinct

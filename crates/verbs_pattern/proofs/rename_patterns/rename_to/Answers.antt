@@ -11,6 +11,6 @@ returns c = λ pair. (
     let place = c.args.place in
     let field : List ℕ × Tree = (c.entry.result.0.now, tree_of c.entry.result.1.now) in
     let name = ap (λ (p : List ℕ × Tree). p.0) (get_or_from_slice_get before place field pair c.entry.ensures) in
-    renamed-at place c.place_behind-next.result c.as_slice.result.now c.args.new.now before c.rename.new.self pair c.requires.within c.requires.distinct
-    (c.as_slice.ensures ∙ c.in_ok-old.ensures.copied ∙ sym name) (c.requires.other pair) c.in_ok-rename.ensures.renamed c.place_behind-next.ensures
+    renamed-at place c.place_after-next.result c.as_slice.result.now c.args.new.now before c.rename.new.self pair c.requires.within c.requires.distinct
+    (c.as_slice.ensures ∙ c.in_ok-old.ensures.copied ∙ sym name) (c.requires.other pair) c.in_ok-rename.ensures.renamed c.place_after-next.ensures
     )

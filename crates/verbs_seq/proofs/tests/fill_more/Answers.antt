@@ -5,7 +5,7 @@ use Rattle.verbs_seq.proofs.tests.fill_more.Goals as goal
 
 pub returns : goal.returns
 returns c =
-    let stands = c.requires.stands in
+    let represents = c.requires.represents in
     on_ok_weaker c.fill.result
-    (λ holds. record { seq = stands.seq; given = stands.given + min c.args.max (seq_count stands.seq - stands.given); sound = stands.sound; at = holds stands.seq stands.given stands.at })
-    c.fill.ensures.stands
+    (λ holds. record { seq = represents.seq; given = represents.given + min c.args.max (seq_count represents.seq - represents.given); sound = represents.sound; at = holds represents.seq represents.given represents.at })
+    c.fill.ensures.represents

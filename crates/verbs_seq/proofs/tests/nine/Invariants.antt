@@ -1,4 +1,4 @@
-use Rattle.verbs_seq.specs.Trying.{CanFill}
+use Rattle.verbs_seq.specs.TestSource.{CanFill}
 use Rattle.verbs_seq.proofs.tests.nine.Given as goal
 
 -- it may be asked for more

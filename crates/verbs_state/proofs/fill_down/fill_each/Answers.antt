@@ -2,7 +2,7 @@ use Rattle.std.proofs.Common.{◌≡◌, ◌<◌, ◌≤◌, ◌∙◌, sym, ap,
 use Rattle.std.proofs.lemmas.Grind.{common_steps}
 use Rattle.std.specs.Option.{option_map, option_or}
 use Rattle.mlr_value.specs.Value.{tree_of}
-use Rattle.verbs_state.specs.FillingDown.{standing}
+use Rattle.verbs_state.specs.FillingDown.{carried}
 use Rattle.verbs_state.proofs.FillingDown.{filling-done, filling-more, filling-none, filling-old}
 use Rattle.verbs_state.proofs.fill_down.fill_each.Goals as goal
 
@@ -27,7 +27,7 @@ loop-place-preserved c =
           let old = filling-old options before c.args.fields.now loop.place name loop.kept loop.fields c.index-kept-place.result named below room so_far in
           let filled = c.in_ok-fill.ensures.fields before in
           filling-more options before c.args.fields.now loop.place name loop.kept loop.fields c.index-kept-place.result named below room so_far
-          c.fill.new.kept c.fill.new.fields ((rw c.as_slice.ensures at filled) old) (c.in_ok-fill.ensures.kept ∙ ap (λ n. option_or (standing options.blank n loop.fields) (option_map tree_of (get_or loop.kept loop.place c.index-kept-place.result))) c.as_slice.ensures);
+          c.fill.new.kept c.fill.new.fields ((rw c.as_slice.ensures at filled) old) (c.in_ok-fill.ensures.kept ∙ ap (λ n. option_or (carried options.blank n loop.fields) (option_map tree_of (get_or loop.kept loop.place c.index-kept-place.result))) c.as_slice.ensures);
     }
 
 pub returns : goal.returns

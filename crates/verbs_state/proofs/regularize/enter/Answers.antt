@@ -12,7 +12,7 @@ returns-else-place-len-clause-order c before order keeps =
     let sets = c.args.sets.now in
     let orders = c.args.orders.now.items in
     let fields = c.args.fields.now in
-    let key : c.as_slice.result.now ≡ set_key fields = c.as_slice.ensures ∙ c.in_ok-append_sorted.ensures ∙ ap (λ front. front ++ set_key fields) c.clear.ensures in
+    let key : c.as_slice.result.now ≡ set_key fields = c.as_slice.ensures ∙ c.in_ok-append_sorted.ensures ∙ ap (λ prefix. prefix ++ set_key fields) c.clear.ensures in
     let known = entered-known sets orders before fields keeps c.in_ok-place.place c.as_slice.result.now c.enter.new.self key c.in_ok-place.ensures.entered c.in_ok-place.ensures.place
     (omega (arith, c.if-place-len.false, c.len.ensures)) in
     known-regular sets orders before fields keeps c.in_ok-place.place known.1 order
@@ -22,7 +22,7 @@ returns-else-place-len-clause-keeps c before keeps =
     let sets = c.args.sets.now in
     let orders = c.args.orders.now.items in
     let fields = c.args.fields.now in
-    let key : c.as_slice.result.now ≡ set_key fields = c.as_slice.ensures ∙ c.in_ok-append_sorted.ensures ∙ ap (λ front. front ++ set_key fields) c.clear.ensures in
+    let key : c.as_slice.result.now ≡ set_key fields = c.as_slice.ensures ∙ c.in_ok-append_sorted.ensures ∙ ap (λ prefix. prefix ++ set_key fields) c.clear.ensures in
     let known = entered-known sets orders before fields keeps c.in_ok-place.place c.as_slice.result.now c.enter.new.self key c.in_ok-place.ensures.entered c.in_ok-place.ensures.place
     (omega (arith, c.if-place-len.false, c.len.ensures)) in
     subst (λ after. KeepsFirsts after orders (before ++ fields ∷ [])) (sym known.0) (known-keeps sets orders before fields keeps c.in_ok-place.place known.1)
@@ -32,7 +32,7 @@ returns-in_ok-push-clause-order c before order keeps =
     let sets = c.args.sets.now in
     let orders = c.args.orders.now.items in
     let fields = c.args.fields.now in
-    let key : c.as_slice.result.now ≡ set_key fields = c.as_slice.ensures ∙ c.in_ok-append_sorted.ensures ∙ ap (λ front. front ++ set_key fields) c.clear.ensures in
+    let key : c.as_slice.result.now ≡ set_key fields = c.as_slice.ensures ∙ c.in_ok-append_sorted.ensures ∙ ap (λ prefix. prefix ++ set_key fields) c.clear.ensures in
     let late = entered-new sets orders before fields keeps c.in_ok-place.place c.as_slice.result.now c.enter.new.self key c.in_ok-place.ensures.entered c.in_ok-place.ensures.place
     (omega (arith, c.if-place-len.true, c.len.ensures)) in
     let own : get_or c.push.new.self.items c.in_ok-place.place order ≡ keys_of fields =
@@ -44,7 +44,7 @@ returns-in_ok-push-clause-keeps c before keeps =
     let sets = c.args.sets.now in
     let orders = c.args.orders.now.items in
     let fields = c.args.fields.now in
-    let key : c.as_slice.result.now ≡ set_key fields = c.as_slice.ensures ∙ c.in_ok-append_sorted.ensures ∙ ap (λ front. front ++ set_key fields) c.clear.ensures in
+    let key : c.as_slice.result.now ≡ set_key fields = c.as_slice.ensures ∙ c.in_ok-append_sorted.ensures ∙ ap (λ prefix. prefix ++ set_key fields) c.clear.ensures in
     let late = entered-new sets orders before fields keeps c.in_ok-place.place c.as_slice.result.now c.enter.new.self key c.in_ok-place.ensures.entered c.in_ok-place.ensures.place
     (omega (arith, c.if-place-len.true, c.len.ensures)) in
     let pushed : c.push.new.self.items ≡ orders ++ keys_of fields ∷ [] = c.in_ok-push.ensures.items ∙ ap (λ names. orders ++ names ∷ []) c.in_ok-names_of.ensures.names in

@@ -9,4 +9,4 @@ invariant-loop-nr g l =
     (goal.iterator-loop-nr g).can_next l.nr-iterator
     × (goal.iterator-loop-nr g).is_finite l.nr-iterator
     × (given : List Event)
-    × g.S.Stream.stands l.verb (records_in given)
+    × g.S.Stream.represents l.verb (records_in given)

@@ -1,4 +1,4 @@
-use Rattle.verbs_stream.specs.Trying.{CanStep}
+use Rattle.verbs_stream.specs.TestVerb.{CanStep}
 use Rattle.verbs_stream.proofs.tests.step_lines.Given as goal
 
 -- it may be given more
@@ -6,4 +6,4 @@ abbrev pub invariant-loop-nr : goal.invariant-loop-nr
 invariant-loop-nr g l =
     (goal.iterator-loop-nr g).can_next l.nr-iterator ×
     (goal.iterator-loop-nr g).is_finite l.nr-iterator ×
-    CanStep g.S.Step.stands l.verb
+    CanStep g.S.Step.represents l.verb

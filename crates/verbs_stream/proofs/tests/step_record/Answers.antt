@@ -15,4 +15,4 @@ returns g c =
     let given = c.requires.given in
     let e = event.Rec c.args.fields (record { nr = c.args.nr; fnr = c.args.nr; filenum = 1 }) in
     let still : is_open (given ++ e ∷ []) ≡ true = ap not (list_any-append is_last given (e ∷ []) ∙ ap (λ b. b || false) (not-true (list_any is_last given) c.requires.open_is)) in
-    on_ok_weaker c.step.result (λ stands. record { given = given ++ e ∷ []; open_is = still; at = stands given c.requires.at c.requires.open_is }) c.step.ensures.stands
+    on_ok_weaker c.step.result (λ represents. record { given = given ++ e ∷ []; open_is = still; at = represents given c.requires.at c.requires.open_is }) c.step.ensures.represents

@@ -9,8 +9,8 @@ pub loop-place-preserved : goal.loop-place-preserved
 loop-place-preserved c =
     let widths = c.args.widths.now in
     let place = c.loop-place.place in
-    let front = joined (codes "-+-") (map (λ width. replicate width 45) (take place widths)) in
-    joined-next (codes "-+-") c.args.out.now front c.append_separator.new.out c.append_repeated.new.out (nat_lt 0 place) (replicate (slice_index widths place) 45)
+    let prefix = joined (codes "-+-") (map (λ width. replicate width 45) (take place widths)) in
+    joined-next (codes "-+-") c.args.out.now prefix c.append_separator.new.out c.append_repeated.new.out (nat_lt 0 place) (replicate (slice_index widths place) 45)
     (joined (codes "-+-") (map (λ width. replicate width 45) (take (place + 1) widths)))
     (c.in_ok-append_separator.ensures ∙ ap (λ t. t ++ separated (codes "-+-") (nat_lt 0 place)) c.loop-place.invariant)
     c.in_ok-append_repeated.ensures

@@ -1,7 +1,7 @@
 use Rattle.std.proofs.Common.{ap, sym, ◌∙◌}
 use Rattle.writers.specs.declared.form.Part.TheVariants.{Keys}
 use Rattle.writers.specs.Cells.{same_texts, texts}
-use Rattle.writers.specs.Standing.{run_of}
+use Rattle.writers.specs.Represents.{run_of}
 use Rattle.writers.proofs.Columns.{block-kept}
 use Rattle.writers.proofs.pprint.open_block.Goals as goal
 

@@ -15,13 +15,13 @@ returns c =
     let r = c.args.fields.now in
     let into = c.args.out.now in
     let line = joined opts.ofs (map (field_in row.Csv opts) (texts c.args.part r)) in
-    let front : c.append_fields.new.out ≡ into ++ line =
+    let prefix : c.append_fields.new.out ≡ into ++ line =
     c.in_ok-append_fields.ensures ∙ ap (λ s. into ++ joined s (map (field_text (form.Row row.Csv c.args.part) opts) r)) c.as_slice.ensures
     ∙ ap (λ fields. into ++ joined opts.ofs fields) (row-fields row.Csv c.args.part opts r) in
     let whole : c.if-len-before.out ≡ into ++ never_empty line =
     elim c.if-len-before.branch [
-      | then-len-before+in_ok-append w ↦ line-empty into line c.append_fields.new.out c.if-len-before.out front (sym c.len.ensures ∙ w.if-len-before.true ∙ c.len-before.ensures) (w.out-is ∙ w.in_ok-append.ensures)
-      | else-len-before w ↦ w.out-is ∙ line-some into line c.append_fields.new.out front (λ e. w.if-len-before.false (c.len.ensures ∙ e ∙ sym c.len-before.ensures))
+      | then-len-before+in_ok-append w ↦ line-empty into line c.append_fields.new.out c.if-len-before.out prefix (sym c.len.ensures ∙ w.if-len-before.true ∙ c.len-before.ensures) (w.out-is ∙ w.in_ok-append.ensures)
+      | else-len-before w ↦ w.out-is ∙ line-some into line c.append_fields.new.out prefix (λ e. w.if-len-before.false (c.len.ensures ∙ e ∙ sym c.len-before.ensures))
     ] in
     last-part c.push.result c.push.new.self c.if-len-before.out (10 ∷ []) (into ++ csv_line opts (texts c.args.part r)) c.push.ensures
     (ap (λ t. t ++ 10 ∷ []) whole ∙ append_assoc into (never_empty line) (10 ∷ []))

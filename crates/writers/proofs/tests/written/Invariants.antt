@@ -1,5 +1,5 @@
 use Rattle.std.proofs.Common.{◌≡◌}
-use Rattle.writers.specs.Standing.{IsOpen}
+use Rattle.writers.specs.Represents.{IsOpen}
 use Rattle.writers.proofs.tests.written.Given as goal
 
 abbrev pub invariant-loop-line : goal.invariant-loop-line

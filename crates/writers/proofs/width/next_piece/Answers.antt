@@ -5,22 +5,22 @@ use Rattle.writers.specs.Width.{code_points, points_of}
 use Rattle.writers.proofs.Widths.{points-step, points-bounds}
 use Rattle.writers.proofs.width.next_piece.Goals as goal
 
-pub behind-requires : goal.behind-requires
-behind-requires c = omega (arith, c.decode-found.ensures.size, points-bounds c.args.text.now c.requires)
+pub following-requires : goal.following-requires
+following-requires c = omega (arith, c.decode-found.ensures.size, points-bounds c.args.text.now c.requires)
 
 pub returns-clause-points : goal.returns-clause-points
 returns-clause-points c =
     let text = c.args.text.now in
     let points : c.points_of.result ≡ points_of (decoded text) = c.points_of.ensures ∙ ap₂ (λ char size. points_of (record { char = char; size = size })) c.decode-found.ensures.char c.decode-found.ensures.size in
-    points-step text c.requires ∙ ap₂ (λ n rest. n + code_points rest) (sym points) (sym (c.behind.ensures ∙ ap (λ n. drop n text) c.decode-found.ensures.size))
+    points-step text c.requires ∙ ap₂ (λ n rest. n + code_points rest) (sym points) (sym (c.following.ensures ∙ ap (λ n. drop n text) c.decode-found.ensures.size))
 
 pub returns-clause-few : goal.returns-clause-few
 returns-clause-few c =
     let text = c.args.text.now in
     let points : c.points_of.result ≡ points_of (decoded text) = c.points_of.ensures ∙ ap₂ (λ char size. points_of (record { char = char; size = size })) c.decode-found.ensures.char c.decode-found.ensures.size in
-    omega (arith, points, c.decode-found.ensures.size, points-bounds text c.requires, ap length c.behind.ensures, length-drop c.decode-found.result.1 text)
+    omega (arith, points, c.decode-found.ensures.size, points-bounds text c.requires, ap length c.following.ensures, length-drop c.decode-found.result.1 text)
 
 pub returns-clause-some : goal.returns-clause-some
 returns-clause-some c =
     let text = c.args.text.now in
-    omega (arith, c.decode-found.ensures.size, points-bounds text c.requires, ap length c.behind.ensures, length-drop c.decode-found.result.1 text)
+    omega (arith, c.decode-found.ensures.size, points-bounds text c.requires, ap length c.following.ensures, length-drop c.decode-found.result.1 text)

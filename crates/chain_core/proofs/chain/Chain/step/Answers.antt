@@ -4,7 +4,7 @@ use Rattle.std.proofs.lemmas.List.{with_items_is}
 use Rattle.mlr_event.specs.Verb.{is_list}
 use Rattle.mlr_event.proofs.Ordered.{open-list}
 use Rattle.chain_core.specs.Chain.{chain_from}
-use Rattle.chain_core.specs.Standing.{StagesStand, all_quiet, verbs_of}
+use Rattle.chain_core.specs.Represents.{StagesRepresent, all_quiet, verbs_of}
 use Rattle.chain_core.proofs.chain.Chain.step.Goals as goal
 
 pub pass-requires : goal.pass-requires
@@ -12,20 +12,20 @@ pass-requires g c =
     let given = c.requires.0 in (
       true,
       given,
-      subst (StagesStand g.S.Step.verb g.S.Step.stands true given) (sym c.deref_mut.ensures.value) c.requires.1.stages,
+      subst (StagesRepresent g.S.Step.verb g.S.Step.represents true given) (sym c.deref_mut.ensures.value) c.requires.1.stages,
       ap (λ t. is_list (given ++ t)) (c.in_ok-push.ensures ∙ ap (λ t. t ++ c.args.event ∷ []) c.requires.1.room) ∙ open-list given (c.args.event ∷ []) c.requires.2 refl,
     )
 
-pub returns-clause-stands : goal.returns-clause-stands
-returns-clause-stands g c given at open_is =
+pub returns-clause-represents : goal.returns-clause-represents
+returns-clause-represents g c given at open_is =
     let room : c.push.new.self ≡ c.args.event ∷ [] = c.in_ok-push.ensures ∙ ap (λ t. t ++ c.args.event ∷ []) at.room in
     let list : is_list (given ++ c.push.new.self) ≡ true = ap (λ t. is_list (given ++ t)) room ∙ open-list given (c.args.event ∷ []) open_is refl in
-    let stood = subst (StagesStand g.S.Step.verb g.S.Step.stands true given) (sym c.deref_mut.ensures.value) at.stages in
+    let stood = subst (StagesRepresent g.S.Step.verb g.S.Step.represents true given) (sym c.deref_mut.ensures.value) at.stages in
     let items : (with_items c.args.self.now.stages c.pass.new.stages).items ≡ c.pass.new.stages = with_items_is c.args.self.now.stages c.pass.new.stages (c.pass.auto.stages ∙ c.deref_mut.ensures.len) in
     record {
       stages =
-          subst (StagesStand g.S.Step.verb g.S.Step.stands true (given ++ c.args.event ∷ [])) (sym items)
-          (subst (λ t. StagesStand g.S.Step.verb g.S.Step.stands true (given ++ t) c.pass.new.stages) room (c.in_ok-pass.ensures.stands true given stood list));
+          subst (StagesRepresent g.S.Step.verb g.S.Step.represents true (given ++ c.args.event ∷ [])) (sym items)
+          (subst (λ t. StagesRepresent g.S.Step.verb g.S.Step.represents true (given ++ t) c.pass.new.stages) room (c.in_ok-pass.ensures.represents true given stood list));
       quiet = at.quiet ∙ ap all_quiet (sym (ap (verbs_of g.S.Step.verb) items ∙ c.in_ok-pass.ensures.same ∙ ap (verbs_of g.S.Step.verb) c.deref_mut.ensures.value));
       room = c.in_ok-append.ensures.other;
     }
@@ -34,7 +34,7 @@ pub returns-clause-adds : goal.returns-clause-adds
 returns-clause-adds g c given at open_is =
     let room : c.push.new.self ≡ c.args.event ∷ [] = c.in_ok-push.ensures ∙ ap (λ t. t ++ c.args.event ∷ []) at.room in
     let list : is_list (given ++ c.push.new.self) ≡ true = ap (λ t. is_list (given ++ t)) room ∙ open-list given (c.args.event ∷ []) open_is refl in
-    let stood = subst (StagesStand g.S.Step.verb g.S.Step.stands true given) (sym c.deref_mut.ensures.value) at.stages in
+    let stood = subst (StagesRepresent g.S.Step.verb g.S.Step.represents true given) (sym c.deref_mut.ensures.value) at.stages in
     let made = c.in_ok-pass.ensures.made true given stood list in (
       c.pass.new.events,
       subst (λ xs. chain_from true (verbs_of g.S.Step.verb xs) (given ++ c.args.event ∷ []) ≡ chain_from true (verbs_of g.S.Step.verb xs) given ++ c.pass.new.events) c.deref_mut.ensures.value

@@ -4,15 +4,15 @@ use Rattle.chain_core.proofs.Passing.{Passed, all-adds, all-at, none-passed, one
 use Rattle.chain_core.proofs.gate.Gate.take_all.Goals as goal
 
 pub loop-event-init : goal.loop-event-init
-loop-event-init g c = none-passed g.S.Step.verb g.S.Step.stands c.args.self.now c.args.events.now c.reverse.new.self c.args.out.now (sym (ap reverse c.reverse.ensures ∙ reverse-reverse c.args.events.now))
+loop-event-init g c = none-passed g.S.Step.verb g.S.Step.represents c.args.self.now c.args.events.now c.reverse.new.self c.args.out.now (sym (ap reverse c.reverse.ensures ∙ reverse-reverse c.args.events.now))
 
 pub take-requires : goal.take-requires
 take-requires g c =
-    let before = subst (λ t. Passed g.S.Step.verb g.S.Step.stands c.args.self.now c.args.events.now c.args.out.now c.loop-event.self t c.loop-event.out) (c.in-Some.ensures.events) c.loop-event.invariant in
+    let before = subst (λ t. Passed g.S.Step.verb g.S.Step.represents c.args.self.now c.args.events.now c.args.out.now c.loop-event.self t c.loop-event.out) (c.in-Some.ensures.events) c.loop-event.invariant in
     let given = c.requires.0 in (
       given ++ before.passed,
       before.at given c.requires.1 c.requires.2,
-      still-open g.S.Step.verb g.S.Step.stands c.args.self.now c.args.events.now c.args.out.now c.loop-event.self c.pop.new.self c.in-Some.event c.loop-event.out before given c.requires.2,
+      still-open g.S.Step.verb g.S.Step.represents c.args.self.now c.args.events.now c.args.out.now c.loop-event.self c.pop.new.self c.in-Some.event c.loop-event.out before given c.requires.2,
     )
 
 pub loop-event-smaller : goal.loop-event-smaller
@@ -22,18 +22,18 @@ loop-event-smaller g c =
 
 pub loop-event-preserved : goal.loop-event-preserved
 loop-event-preserved g c =
-    let before = subst (λ t. Passed g.S.Step.verb g.S.Step.stands c.args.self.now c.args.events.now c.args.out.now c.loop-event.self t c.loop-event.out) (c.in-Some.ensures.events) c.loop-event.invariant in
-    one-passed g.S.Step.verb g.S.Step.stands c.args.self.now c.args.events.now c.args.out.now c.loop-event.self c.pop.new.self c.in-Some.event c.loop-event.out before c.take.new.self c.take.new.out c.in_ok-take.ensures.same c.in_ok-take.ensures.stands c.in_ok-take.ensures.adds
+    let before = subst (λ t. Passed g.S.Step.verb g.S.Step.represents c.args.self.now c.args.events.now c.args.out.now c.loop-event.self t c.loop-event.out) (c.in-Some.ensures.events) c.loop-event.invariant in
+    one-passed g.S.Step.verb g.S.Step.represents c.args.self.now c.args.events.now c.args.out.now c.loop-event.self c.pop.new.self c.in-Some.event c.loop-event.out before c.take.new.self c.take.new.out c.in_ok-take.ensures.same c.in_ok-take.ensures.represents c.in_ok-take.ensures.adds
 
 pub returns-clause-same : goal.returns-clause-same
 returns-clause-same g c = c.loop-event.invariant.same
 
-pub returns-clause-stands : goal.returns-clause-stands
-returns-clause-stands g c =
-    let done = subst (λ t. Passed g.S.Step.verb g.S.Step.stands c.args.self.now c.args.events.now c.args.out.now c.loop-event.self t c.loop-event.out) (c.in_default.ensures.none refl) c.loop-event.invariant in
-    all-at g.S.Step.verb g.S.Step.stands c.args.self.now c.args.events.now c.args.out.now c.loop-event.self c.loop-event.out done
+pub returns-clause-represents : goal.returns-clause-represents
+returns-clause-represents g c =
+    let done = subst (λ t. Passed g.S.Step.verb g.S.Step.represents c.args.self.now c.args.events.now c.args.out.now c.loop-event.self t c.loop-event.out) (c.in_default.ensures.none refl) c.loop-event.invariant in
+    all-at g.S.Step.verb g.S.Step.represents c.args.self.now c.args.events.now c.args.out.now c.loop-event.self c.loop-event.out done
 
 pub returns-clause-adds : goal.returns-clause-adds
 returns-clause-adds g c =
-    let done = subst (λ t. Passed g.S.Step.verb g.S.Step.stands c.args.self.now c.args.events.now c.args.out.now c.loop-event.self t c.loop-event.out) (c.in_default.ensures.none refl) c.loop-event.invariant in
-    all-adds g.S.Step.verb g.S.Step.stands c.args.self.now c.args.events.now c.args.out.now c.loop-event.self c.loop-event.out done
+    let done = subst (λ t. Passed g.S.Step.verb g.S.Step.represents c.args.self.now c.args.events.now c.args.out.now c.loop-event.self t c.loop-event.out) (c.in_default.ensures.none refl) c.loop-event.invariant in
+    all-adds g.S.Step.verb g.S.Step.represents c.args.self.now c.args.events.now c.args.out.now c.loop-event.self c.loop-event.out done

@@ -6,8 +6,8 @@ use Rattle.mlr_event.proofs.Tac.{tac-gives}
 use Rattle.mlr_event.proofs.models.TacStep.step.Goals as goal
 
 pub returns-clause-adds : goal.returns-clause-adds
-returns-clause-adds c given stands open_is = (
+returns-clause-adds c given represents open_is = (
   gives tac given c.args.event,
   made-next tac tac-quiet refl given c.args.event open_is,
-  c.in_default.ensures.out ∙ ap (λ t. c.args.out.now ++ t) (ap (λ held. tac_gives held c.args.event) (stands.1 open_is) ∙ tac-gives given c.args.event),
+  c.in_default.ensures.out ∙ ap (λ t. c.args.out.now ++ t) (ap (λ held. tac_gives held c.args.event) (represents.1 open_is) ∙ tac-gives given c.args.event),
 )

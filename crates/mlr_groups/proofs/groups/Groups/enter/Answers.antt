@@ -1,6 +1,6 @@
 use Rattle.std.proofs.Common.{◌≡◌, ℕ, List, ◌∷◌, ◌++◌, [], length, map, Some, slice_get, sym, ap, ap₂, ◌∙◌, arith}
 use Rattle.std.proofs.lemmas.List.{length-map}
-use Rattle.mlr_groups.specs.Standing.{GroupsOf}
+use Rattle.mlr_groups.specs.Represents.{GroupsOf}
 use Rattle.mlr_groups.specs.Grouping.{Fields, group_of, groups_in}
 use Rattle.mlr_groups.specs.Keys.{key_of, entered}
 use Rattle.mlr_groups.proofs.Grouping.{group-told, groups-none, keys-entered, none-told, one-group, place-told}
@@ -10,33 +10,33 @@ use Rattle.mlr_groups.proofs.groups.Groups.enter.Goals.{Then-len-gt0}
 -- without names the one group is there
 there : (c : Then-len-gt0) (names : List (List ℕ)) (before : List Fields) → GroupsOf names before c.args.self.now
     → (groups_in names (before ++ c.args.fields.now ∷ []) ≡ groups_in names before) × (group_of names c.args.fields.now ≡ Some []) × (slice_get (groups_in names (before ++ c.args.fields.now ∷ [])) 0 ≡ Some [])
-there c names before stands =
-    let unnamed : length names ≡ 0 = ap length (sym stands.0) ∙ sym c.len.ensures ∙ c.if-len-eq0.true in
-    let keys : length c.args.self.now.table ≡ length (groups_in names before) = ap length stands.1 ∙ length-map (groups_in names before) key_of in
+there c names before represents =
+    let unnamed : length names ≡ 0 = ap length (sym represents.0) ∙ sym c.len.ensures ∙ c.if-len-eq0.true in
+    let keys : length c.args.self.now.table ≡ length (groups_in names before) = ap length represents.1 ∙ length-map (groups_in names before) key_of in
     one-group names before c.args.fields.now unnamed (omega (arith, keys, c.len-then-len-eq0.ensures.length, c.if-len-gt0.true))
 
-pub returns-then-len-gt0-clause-stands : goal.returns-then-len-gt0-clause-stands
-returns-then-len-gt0-clause-stands c = λ names before stands. (stands.0, stands.1 ∙ ap (map key_of) (sym (there (goal.at.returns-then-len-gt0-clause-stands c).Then-len-gt0 names before stands).0))
+pub returns-then-len-gt0-clause-represents : goal.returns-then-len-gt0-clause-represents
+returns-then-len-gt0-clause-represents c = λ names before represents. (represents.0, represents.1 ∙ ap (map key_of) (sym (there (goal.at.returns-then-len-gt0-clause-represents c).Then-len-gt0 names before represents).0))
 
 pub returns-then-len-gt0-clause-place : goal.returns-then-len-gt0-clause-place
-returns-then-len-gt0-clause-place c = λ names before stands. (let one = there (goal.at.returns-then-len-gt0-clause-place c).Then-len-gt0 names before stands in ([], one.1, one.2))
+returns-then-len-gt0-clause-place c = λ names before represents. (let one = there (goal.at.returns-then-len-gt0-clause-place c).Then-len-gt0 names before represents in ([], one.1, one.2))
 
-pub returns-in_ok-place-clause-stands : goal.returns-in_ok-place-clause-stands
-returns-in_ok-place-clause-stands c = λ names before stands. (
+pub returns-in_ok-place-clause-represents : goal.returns-in_ok-place-clause-represents
+returns-in_ok-place-clause-represents c = λ names before represents. (
     let fields = c.args.fields.now in
     let told = group-told c.clear.new.self c.append_group.new.key (group_of c.args.self.now.names fields) c.in_ok-append_group.field-0 c.clear.ensures c.in_ok-append_group.ensures c.if-branch.true in
-    let is = ap (λ n. group_of n fields) (sym stands.0) ∙ told.1 in (
-      stands.0,
-      c.in_ok-place.ensures.entered ∙ ap₂ entered stands.1 (c.as_slice.ensures ∙ told.2) ∙ keys-entered names before fields told.0 is,
+    let is = ap (λ n. group_of n fields) (sym represents.0) ∙ told.1 in (
+      represents.0,
+      c.in_ok-place.ensures.entered ∙ ap₂ entered represents.1 (c.as_slice.ensures ∙ told.2) ∙ keys-entered names before fields told.0 is,
     )
     )
 
 pub returns-in_ok-place-clause-place : goal.returns-in_ok-place-clause-place
-returns-in_ok-place-clause-place c = λ names before stands. (
+returns-in_ok-place-clause-place c = λ names before represents. (
     let fields = c.args.fields.now in
     let told = group-told c.clear.new.self c.append_group.new.key (group_of c.args.self.now.names fields) c.in_ok-append_group.field-0 c.clear.ensures c.in_ok-append_group.ensures c.if-branch.true in
-    let is = ap (λ n. group_of n fields) (sym stands.0) ∙ told.1 in
-    let table = c.in_ok-place.ensures.entered ∙ ap₂ entered stands.1 (c.as_slice.ensures ∙ told.2) ∙ keys-entered names before fields told.0 is in (
+    let is = ap (λ n. group_of n fields) (sym represents.0) ∙ told.1 in
+    let table = c.in_ok-place.ensures.entered ∙ ap₂ entered represents.1 (c.as_slice.ensures ∙ told.2) ∙ keys-entered names before fields told.0 is in (
       told.0,
       is,
       place-told (groups_in names (before ++ fields ∷ [])) c.in_ok-place.place told.0
@@ -44,10 +44,10 @@ returns-in_ok-place-clause-place c = λ names before stands. (
     )
     )
 
-pub returns-else-branch-clause-stands : goal.returns-else-branch-clause-stands
-returns-else-branch-clause-stands c = λ names before stands. (
+pub returns-else-branch-clause-represents : goal.returns-else-branch-clause-represents
+returns-else-branch-clause-represents c = λ names before represents. (
     let fields = c.args.fields.now in
     let told = none-told c.clear.new.self c.append_group.new.key (group_of c.args.self.now.names fields) c.in_ok-append_group.field-0 c.in_ok-append_group.ensures c.if-branch.false in
-    let none = ap (λ n. group_of n fields) (sym stands.0) ∙ told in
-    (stands.0, stands.1 ∙ ap (map key_of) (sym (groups-none names before fields none)))
+    let none = ap (λ n. group_of n fields) (sym represents.0) ∙ told in
+    (represents.0, represents.1 ∙ ap (map key_of) (sym (groups-none names before fields none)))
     )

@@ -5,56 +5,56 @@ use Rattle.mlr_groups.specs.Tallying.{count_in}
 use Rattle.mlr_groups.proofs.Counts.{count-known, counts-known, counts-new, counts-none, tally-new}
 use Rattle.mlr_groups.proofs.tallies.Tallies.count.Goals as goal
 
-pub returns-in_default-clause-stands : goal.returns-in_default-clause-stands
-returns-in_default-clause-stands c = λ names before stands. (
+pub returns-in_default-clause-represents : goal.returns-in_default-clause-represents
+returns-in_default-clause-represents c = λ names before represents. (
     let fields = c.args.fields.now in
-    let none = subst (λ place. IsGroupPlace names (before ++ fields ∷ []) fields place) c.in_default.is (c.in_ok-place.ensures.place names before stands.0) in (
-      c.in_ok-place.ensures.stands names before stands.0,
-      counts-none names before fields c.args.self.now.counts.items stands.1 none,
+    let none = subst (λ place. IsGroupPlace names (before ++ fields ∷ []) fields place) c.in_default.is (c.in_ok-place.ensures.place names before represents.0) in (
+      c.in_ok-place.ensures.represents names before represents.0,
+      counts-none names before fields c.args.self.now.counts.items represents.1 none,
     )
     )
 
-pub returns-then-place-len-clause-stands : goal.returns-then-place-len-clause-stands
-returns-then-place-len-clause-stands c = λ names before stands. (
+pub returns-then-place-len-clause-represents : goal.returns-then-place-len-clause-represents
+returns-then-place-len-clause-represents c = λ names before represents. (
     let fields = c.args.fields.now in
     let counts = c.args.self.now.counts.items in
     let p = c.in-Some.place in
-    let at = subst (λ place. IsGroupPlace names (before ++ fields ∷ []) fields place) c.in-Some.is (c.in_ok-place.ensures.place names before stands.0) in
+    let at = subst (λ place. IsGroupPlace names (before ++ fields ∷ []) fields place) c.in-Some.is (c.in_ok-place.ensures.place names before represents.0) in
     let below : p < length counts = omega (arith, c.len.ensures, c.if-place-len.true) in (
-      c.in_ok-place.ensures.stands names before stands.0,
-      counts-known names before fields counts stands.1 p at below c.next_count.result
-          (c.next_count.ensures.counted (length (members names at.0 before)) (c.index-count.ensures ∙ count-known names before fields counts stands.1 p at below c.index-count.result.now)),
+      c.in_ok-place.ensures.represents names before represents.0,
+      counts-known names before fields counts represents.1 p at below c.next_count.result
+          (c.next_count.ensures.counted (length (members names at.0 before)) (c.index-count.ensures ∙ count-known names before fields counts represents.1 p at below c.index-count.result.now)),
     )
     )
 
 pub returns-then-place-len-clause-count : goal.returns-then-place-len-clause-count
-returns-then-place-len-clause-count c = λ names before stands. (
+returns-then-place-len-clause-count c = λ names before represents. (
     let fields = c.args.fields.now in
     let counts = c.args.self.now.counts.items in
     let p = c.in-Some.place in
-    let at = subst (λ place. IsGroupPlace names (before ++ fields ∷ []) fields place) c.in-Some.is (c.in_ok-place.ensures.place names before stands.0) in
+    let at = subst (λ place. IsGroupPlace names (before ++ fields ∷ []) fields place) c.in-Some.is (c.in_ok-place.ensures.place names before represents.0) in
     let below : p < length counts = omega (arith, c.len.ensures, c.if-place-len.true) in
-    ap Some (c.index-count.ensures ∙ count-known names before fields counts stands.1 p at below c.index-count.result.now) ∙ sym (ap (option_map (count_in names before)) at.1)
+    ap Some (c.index-count.ensures ∙ count-known names before fields counts represents.1 p at below c.index-count.result.now) ∙ sym (ap (option_map (count_in names before)) at.1)
     )
 
-pub returns-in_ok-push-clause-stands : goal.returns-in_ok-push-clause-stands
-returns-in_ok-push-clause-stands c = λ names before stands. (
+pub returns-in_ok-push-clause-represents : goal.returns-in_ok-push-clause-represents
+returns-in_ok-push-clause-represents c = λ names before represents. (
     let fields = c.args.fields.now in
     let counts = c.args.self.now.counts.items in
     let p = c.in-Some.place in
-    let at = subst (λ place. IsGroupPlace names (before ++ fields ∷ []) fields place) c.in-Some.is (c.in_ok-place.ensures.place names before stands.0) in
-    let behind : length counts ≤ p = omega (arith, c.len.ensures, c.if-place-len.false) in (
-      c.in_ok-place.ensures.stands names before stands.0,
-      c.in_ok-push.ensures.items ∙ counts-new names before fields counts stands.1 p at behind,
+    let at = subst (λ place. IsGroupPlace names (before ++ fields ∷ []) fields place) c.in-Some.is (c.in_ok-place.ensures.place names before represents.0) in
+    let following : length counts ≤ p = omega (arith, c.len.ensures, c.if-place-len.false) in (
+      c.in_ok-place.ensures.represents names before represents.0,
+      c.in_ok-push.ensures.items ∙ counts-new names before fields counts represents.1 p at following,
     )
     )
 
 pub returns-in_ok-push-clause-count : goal.returns-in_ok-push-clause-count
-returns-in_ok-push-clause-count c = λ names before stands. (
+returns-in_ok-push-clause-count c = λ names before represents. (
     let fields = c.args.fields.now in
     let counts = c.args.self.now.counts.items in
     let p = c.in-Some.place in
-    let at = subst (λ place. IsGroupPlace names (before ++ fields ∷ []) fields place) c.in-Some.is (c.in_ok-place.ensures.place names before stands.0) in
-    let behind : length counts ≤ p = omega (arith, c.len.ensures, c.if-place-len.false) in
-    sym (tally-new names before fields counts stands.1 p at behind)
+    let at = subst (λ place. IsGroupPlace names (before ++ fields ∷ []) fields place) c.in-Some.is (c.in_ok-place.ensures.place names before represents.0) in
+    let following : length counts ≤ p = omega (arith, c.len.ensures, c.if-place-len.false) in
+    sym (tally-new names before fields counts represents.1 p at following)
     )

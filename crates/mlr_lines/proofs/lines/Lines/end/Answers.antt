@@ -4,13 +4,13 @@ use Rattle.mlr_lines.specs.Steps.{unmarked_line}
 use Rattle.mlr_lines.proofs.Feeding.{left-is}
 use Rattle.mlr_lines.proofs.lines.Lines.end.Goals as goal
 
-pub returns-clause-stands : goal.returns-clause-stands
-returns-clause-stands g c =
+pub returns-clause-represents : goal.returns-clause-represents
+returns-clause-represents g c =
     let f = g.F.LineFormat in
     let old = c.args.self.now in
     on_ok_weaker c.last-ended.result
-    (λ is format bytes stands. record {
-      state = is ∙ ap₂ f.after_last stands.state (c.unmarked.ensures.text ∙ ap (unmarked_line old.first) c.as_slice.ensures.value ∙ left-is f.after old format bytes stands);
+    (λ is format bytes represents. record {
+      state = is ∙ ap₂ f.after_last represents.state (c.unmarked.ensures.text ∙ ap (unmarked_line old.first) c.as_slice.ensures.value ∙ left-is f.after old format bytes represents);
     })
     c.last-ended.ensures.state
 
@@ -19,8 +19,8 @@ returns-clause-adds g c =
     let f = g.F.LineFormat in
     let old = c.args.self.now in
     on_ok_weaker c.last-ended.result
-    (λ is format bytes stands. is
-    ∙ ap₂ (λ state line. c.args.out.now ++ f.gives_last state line) stands.state (c.unmarked.ensures.text ∙ ap (unmarked_line old.first) c.as_slice.ensures.value ∙ left-is f.after old format bytes stands))
+    (λ is format bytes represents. is
+    ∙ ap₂ (λ state line. c.args.out.now ++ f.gives_last state line) represents.state (c.unmarked.ensures.text ∙ ap (unmarked_line old.first) c.as_slice.ensures.value ∙ left-is f.after old format bytes represents))
     c.last-ended.ensures.events
 
 pub returns-clause-step : goal.returns-clause-step

@@ -4,9 +4,9 @@ use Rattle.read_dkvp_nidx.proofs.Whole.{ctx_fed-is, ctx_read-is}
 use Rattle.read_dkvp_nidx.proofs.reader.LineReader.ctx.Goals as goal
 
 pub returns-clause-fed : goal.returns-clause-fed
-returns-clause-fed c = λ opts file start bytes stands.
-    ap (λ (r : LineRules). r.at) (c.format.ensures ∙ stands.2.state) ∙ ctx_fed-is opts file start stands.0 stands.1 bytes
+returns-clause-fed c = λ opts file start bytes represents.
+    ap (λ (r : LineRules). r.at) (c.format.ensures ∙ represents.2.state) ∙ ctx_fed-is opts file start represents.0 represents.1 bytes
 
 pub returns-clause-read : goal.returns-clause-read
-returns-clause-read c = λ opts file start bytes stands.
-    ap (λ (r : LineRules). r.at) (c.format.ensures ∙ stands.2.state) ∙ ctx_read-is opts file start stands.0 stands.1 bytes
+returns-clause-read c = λ opts file start bytes represents.
+    ap (λ (r : LineRules). r.at) (c.format.ensures ∙ represents.2.state) ∙ ctx_read-is opts file start represents.0 represents.1 bytes

@@ -1,23 +1,23 @@
 use Rattle.std.proofs.Common.{ap, arith, sym}
 use Rattle.std.proofs.lemmas.Result.{on_ok_weaker}
 use Rattle.mlr_lines.specs.Lines.{ended_lines, begun_line}
-use Rattle.mlr_lines.specs.Standing.{behind}
+use Rattle.mlr_lines.specs.Represents.{format_after}
 use Rattle.read_dkvp_nidx.specs.Rules.{after_line, count_of, gives_last}
 use Rattle.read_dkvp_nidx.specs.Counting.{count-last}
 use Rattle.read_dkvp_nidx.proofs.Whole.{read-is}
 use Rattle.read_dkvp_nidx.proofs.reader.LineReader.end.Goals as goal
 
-pub returns-clause-stands : goal.returns-clause-stands
-returns-clause-stands c =
-    on_ok_weaker c.end.result (λ whole opts file start bytes stands. (stands.0, stands.1, whole stands.0 bytes stands.2)) c.end.ensures.stands
+pub returns-clause-represents : goal.returns-clause-represents
+returns-clause-represents c =
+    on_ok_weaker c.end.result (λ whole opts file start bytes represents. (represents.0, represents.1, whole represents.0 bytes represents.2)) c.end.ensures.represents
 
 pub returns-clause-adds : goal.returns-clause-adds
 returns-clause-adds c =
     on_ok_weaker c.end.result
-    (λ put opts file start bytes stands. (
-      gives_last (behind after_line stands.0 (ended_lines bytes)) (begun_line bytes),
-      sym (read-is opts file start stands.0 stands.1 bytes),
-      put stands.0 bytes stands.2,
+    (λ put opts file start bytes represents. (
+      gives_last (format_after after_line represents.0 (ended_lines bytes)) (begun_line bytes),
+      sym (read-is opts file start represents.0 represents.1 bytes),
+      put represents.0 bytes represents.2,
     ))
     c.end.ensures.adds
 

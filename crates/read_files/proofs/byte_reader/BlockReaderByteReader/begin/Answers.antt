@@ -5,5 +5,5 @@ use Rattle.read_files.proofs.byte_reader.BlockReaderByteReader.begin.Goals as go
 pub returns : goal.returns
 returns c =
     if_ok_three c.new.result _ _ _ _
-    (λ reader stands opened room. record { stands = stands; opened = opened; used = omega (arith, room); room = (c.requires.nr, c.requires.fnr) })
-    c.new.ensures.stands c.new.ensures.open c.new.ensures.room
+    (λ reader represents opened room. record { represents = represents; opened = opened; used = omega (arith, room); room = (c.requires.nr, c.requires.fnr) })
+    c.new.ensures.represents c.new.ensures.open c.new.ensures.room

@@ -9,11 +9,11 @@ pub end-requires : goal.end-requires
 end-requires c = (c.requires.2.opened, omega (arith, c.requires.2.used, c.requires.2.room.0, c.requires.2.room.1, c.requires.3))
 
 pub returns-clause-adds : goal.returns-clause-adds
-returns-clause-adds c = λ source bytes stands. c.in_ok-end.ensures.adds source.opts source.file source.ctx bytes stands.stands
+returns-clause-adds c = λ source bytes represents. c.in_ok-end.ensures.adds source.opts source.file source.ctx bytes represents.represents
 
 pub returns-clause-ctx : goal.returns-clause-ctx
-returns-clause-ctx c = λ source bytes stands.
-    c.ctx.ensures.read source.opts source.file source.ctx bytes (c.in_ok-end.ensures.stands source.opts source.file source.ctx bytes stands.stands) ∙ events-ctx source.ctx (rows_from source.opts source.file (Some (begun_line bytes)) 1 None None (ended_lines bytes))
+returns-clause-ctx c = λ source bytes represents.
+    c.ctx.ensures.read source.opts source.file source.ctx bytes (c.in_ok-end.ensures.represents source.opts source.file source.ctx bytes represents.represents) ∙ events-ctx source.ctx (rows_from source.opts source.file (Some (begun_line bytes)) 1 None None (ended_lines bytes))
 
 pub returns-clause-few : goal.returns-clause-few
-returns-clause-few c = λ source bytes stands. omega (arith, c.ctx.ensures.nr, c.in_ok-end.ensures.room, stands.used)
+returns-clause-few c = λ source bytes represents. omega (arith, c.ctx.ensures.nr, c.in_ok-end.ensures.room, represents.used)

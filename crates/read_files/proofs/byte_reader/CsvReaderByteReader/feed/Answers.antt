@@ -6,16 +6,16 @@ use Rattle.read_files.proofs.byte_reader.CsvReaderByteReader.feed.Goals as goal
 pub feed-requires : goal.feed-requires
 feed-requires c = (c.requires.2.opened, omega (arith, c.requires.2.used, c.requires.2.room.0, c.requires.2.room.1, c.requires.3))
 
-pub returns-clause-stands : goal.returns-clause-stands
-returns-clause-stands c = λ source bytes stands.
+pub returns-clause-represents : goal.returns-clause-represents
+returns-clause-represents c = λ source bytes represents.
     on_ok_three c.feed.result
     (λ now opened room. record {
-      stands = now source.opts source.file source.ctx bytes stands.stands;
+      represents = now source.opts source.file source.ctx bytes represents.represents;
       opened = opened;
-      used = omega (arith, stands.used, room, length-append bytes c.args.piece.now);
-      room = stands.room;
+      used = omega (arith, represents.used, room, length-append bytes c.args.piece.now);
+      room = represents.room;
     })
-    c.feed.ensures.stands c.feed.ensures.open c.feed.ensures.room
+    c.feed.ensures.represents c.feed.ensures.open c.feed.ensures.room
 
 pub returns-clause-adds : goal.returns-clause-adds
-returns-clause-adds c = λ source bytes stands. on_ok_weaker c.feed.result (λ adds. adds source.opts source.file source.ctx bytes stands.stands) c.feed.ensures.adds
+returns-clause-adds c = λ source bytes represents. on_ok_weaker c.feed.result (λ adds. adds source.opts source.file source.ctx bytes represents.represents) c.feed.ensures.adds

@@ -3,13 +3,13 @@ use Rattle.mlr_event.specs.declared.event.Ctx.{Ctx}
 use Rattle.mlr_event.specs.declared.event.Event.{Event}
 use Rattle.mlr_event.specs.declared.names.FileRef.{FileRef}
 use Rattle.mlr_event.specs.declared.options.ReadOpts.{ReadOpts}
-use Rattle.read_json_lines.specs.Standing.{Moves, StandsWith, is_waiting, used}
+use Rattle.read_json_lines.specs.Represents.{Moves, RepresentsWith, is_waiting, used}
 use Rattle.read_json_lines.proofs.reader.JsonReader.take.Given as goal
 
 -- what was taken so far, and what is left of the piece
 abbrev pub invariant-loop-self : goal.invariant-loop-self
 invariant-loop-self l = record {
-  moves : (opts : ReadOpts) (file : FileRef) (start : Ctx) (all : List ℕ) (put : List Event) → StandsWith l.initial.self.mark opts file start l.initial.self.stream all l.initial.left put
+  moves : (opts : ReadOpts) (file : FileRef) (start : Ctx) (all : List ℕ) (put : List Event) → RepresentsWith l.initial.self.mark opts file start l.initial.self.stream all l.initial.left put
       → Moves opts file start l.self.mark l.self.stream all l.left put l.initial.out l.out;
   room : used l.self + length l.left ≤ used l.initial.self + length l.initial.left;
   stage : l.self.stage ≡ l.initial.self.stage;

@@ -23,8 +23,8 @@ returns-clause-takes c =
     on_ok_weaker c.put.result
     (λ put. subst (Takes old new c.args.out.now c.put.new.out) (ap with_text decoded ∙ ap of_text (sym c.in-Some.is ∙ c.take.ensures.value))
     (takes-token old new c.args.out.now c.put.new.out string.place (text_token text) c.in_ok-turn.turn
-    (subst (IsTurn (turn (state_of old.stand) (text_token text)) c.in_ok-turn.turn) (ap (λ (s : Stream). state_of s.stand) (sym put.same)) c.in_ok-turn.ensures)
+    (subst (IsTurn (turn (state_of old.record_state) (text_token text)) c.in_ok-turn.turn) (ap (λ (s : Stream). state_of s.record_state) (sym put.same)) c.in_ok-turn.ensures)
     (ap (λ (s : Stream). s.file) put.same)
-    (record { events = put.puts.events; at = put.puts.at; stopped = put.puts.stopped })
+    (record { events = put.appends.events; at = put.appends.at; stopped = put.appends.stopped })
     (record { nr = put.counts.nr; fnr = put.counts.fnr })))
     c.put.ensures

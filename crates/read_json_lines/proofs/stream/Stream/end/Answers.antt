@@ -6,8 +6,8 @@ use Rattle.mlr_event.specs.declared.events.Events.{Events}
 use Rattle.read_json_lines.specs.declared.stream.Stream.{Stream}
 use Rattle.read_json_lines.specs.declared.listing.Trouble.TheVariants.{Syntax}
 use Rattle.read_json_lines.specs.Records.{fault_of}
-use Rattle.read_json_lines.specs.Streams.{HasPut, Puts, future}
-use Rattle.read_json_lines.proofs.Ending.{some-there, ended-open, ended-word, ended-behind}
+use Rattle.read_json_lines.specs.Streams.{HasPut, Appends, future}
+use Rattle.read_json_lines.proofs.Ending.{some-there, ended-open, ended-word, ended-following}
 use Rattle.read_json_lines.proofs.stream.Stream.end.Goals as goal
 use Rattle.read_json_lines.proofs.stream.Stream.end.Goals.{then-not-is_empty+in_ok-end_word+else-self, else-not-is_empty}
 
@@ -32,13 +32,13 @@ returns-clause-ended c =
     on_ok_weaker c.end_between.result
     (λ put fit. elim c.if-not-is_empty.branch [
       | then-not-is_empty+in_ok-end_word+else-self w ↦
-          ended-behind c.args.self.now w.end_word.new.self c.args.out.now w.end_word.new.out c.requires.goes_on (sym c.is_some.ensures ∙ c.if-is_some.false)
+          ended-following c.args.self.now w.end_word.new.self c.args.out.now w.end_word.new.out c.requires.goes_on (sym c.is_some.ensures ∙ c.if-is_some.false)
           (omega (arith, size, some-there (vec_len c.args.self.now.begun) (sym c.is_empty.ensures ∙ w.if-not-is_empty.true))) fit w.in_ok-end_word.ensures.same w.in_ok-end_word.ensures.begun w.in_ok-end_word.ensures.takes
           c.end_between.new.self c.end_between.new.out w.if-self.false
-          (subst (λ (m : Stream). Puts m c.end_between.new.self w.end_word.new.out c.end_between.new.out (future m true [])) w.self-is
-          (subst (λ (o : Events). Puts c.if-not-is_empty.self c.end_between.new.self o c.end_between.new.out (future c.if-not-is_empty.self true [])) w.out-is put))
+          (subst (λ (m : Stream). Appends m c.end_between.new.self w.end_word.new.out c.end_between.new.out (future m true [])) w.self-is
+          (subst (λ (o : Events). Appends c.if-not-is_empty.self c.end_between.new.self o c.end_between.new.out (future c.if-not-is_empty.self true [])) w.out-is put))
       | else-not-is_empty w ↦
-          subst (λ (m : Stream). Puts m c.end_between.new.self c.args.out.now c.end_between.new.out (future m true [])) w.self-is
-          (subst (λ (o : Events). Puts c.if-not-is_empty.self c.end_between.new.self o c.end_between.new.out (future c.if-not-is_empty.self true [])) w.out-is put)
+          subst (λ (m : Stream). Appends m c.end_between.new.self c.args.out.now c.end_between.new.out (future m true [])) w.self-is
+          (subst (λ (o : Events). Appends c.if-not-is_empty.self c.end_between.new.self o c.end_between.new.out (future c.if-not-is_empty.self true [])) w.out-is put)
     ])
     c.end_between.ensures.ended

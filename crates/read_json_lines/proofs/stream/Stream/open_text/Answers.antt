@@ -8,7 +8,7 @@ pub returns-in-Some-clause-opens : goal.returns-in-Some-clause-opens
 returns-in-Some-clause-opens c =
     let old = c.args.self.now in
     on_ok_weaker c.fail.result
-    (λ put. opens-refused old c.fail.new.self c.args.out.now c.fail.new.out c.in-Some.trouble (subst (RefusesText (state_of old.stand)) c.in-Some.is c.refused_text.ensures) put)
+    (λ put. opens-refused old c.fail.new.self c.args.out.now c.fail.new.out c.in-Some.trouble (subst (RefusesText (state_of old.record_state)) c.in-Some.is c.refused_text.ensures) put)
     c.fail.ensures
 
 pub returns-clause-opens : goal.returns-clause-opens

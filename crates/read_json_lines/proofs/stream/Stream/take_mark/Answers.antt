@@ -12,8 +12,8 @@ returns-clause-takes c =
     let old = c.args.self.now in
     on_ok_weaker c.put.result
     (λ put. takes-token old c.put.new.self c.args.out.now c.put.new.out old.place (sign c.args.mark) c.in_ok-turn.turn
-    (subst (IsTurn (turn (state_of old.stand) (sign c.args.mark)) c.in_ok-turn.turn) (ap (λ (s : Stream). state_of s.stand) (sym put.same)) c.in_ok-turn.ensures)
+    (subst (IsTurn (turn (state_of old.record_state) (sign c.args.mark)) c.in_ok-turn.turn) (ap (λ (s : Stream). state_of s.record_state) (sym put.same)) c.in_ok-turn.ensures)
     (ap (λ (s : Stream). s.file) put.same)
-    (record { events = put.puts.events; at = put.puts.at; stopped = put.puts.stopped })
+    (record { events = put.appends.events; at = put.appends.at; stopped = put.appends.stopped })
     (record { nr = put.counts.nr; fnr = put.counts.fnr }))
     c.put.ensures

@@ -1,12 +1,12 @@
 use Rattle.std.proofs.Common.{◌≡◌, ◌++◌, true, ap, sym, ◌∙◌, subst}
 use Rattle.mlr_event.specs.Verb.{is_list}
 use Rattle.outlet.specs.Out.{out_of}
-use Rattle.outlet.specs.Standing.{StandsFor}
+use Rattle.outlet.specs.Represents.{Represents}
 use Rattle.outlet.proofs.Writing.{unwritten}
 use Rattle.chain_core.specs.Chain.{chain}
-use Rattle.chain_core.specs.Standing as chains
+use Rattle.chain_core.specs.Represents as chains
 use Rattle.chain_core.proofs.Chains.{chain-list}
-use Rattle.serial_core.specs.Standing.{WriteSays}
+use Rattle.serial_core.specs.Represents.{WriteSays}
 use Rattle.serial_core.proofs.serial.Serial.pass.Goals as goal
 
 pub write-requires : goal.write-requires
@@ -18,7 +18,7 @@ write-requires g c =
       chain verbs read,
       can.outlet,
       subst (λ t. is_list t ≡ true) (c.in-Ok.ensures.made read can.stages can.list)
-          (chain-list g.S.Step.verb g.S.Step.stands g.met.S.Step.orderly true c.args.self.now.stages.stages.items (read ++ c.args.self.now.events) can.list),
+          (chain-list g.S.Step.verb g.S.Step.represents g.met.S.Step.orderly true c.args.self.now.stages.stages.items (read ++ c.args.self.now.events) can.list),
     )
 
 pub returns-in-Ok-clause-passed : goal.returns-in-Ok-clause-passed
@@ -27,17 +27,17 @@ returns-in-Ok-clause-passed g c opts read can =
     let all = read ++ c.args.self.now.events in
     let made : chain verbs all ≡ chain verbs read ++ c.take_all.new.events = c.in-Ok.ensures.made read can.stages can.list in
     let list : is_list (chain verbs read ++ c.take_all.new.events) ≡ true =
-    subst (λ t. is_list t ≡ true) made (chain-list g.S.Step.verb g.S.Step.stands g.met.S.Step.orderly true c.args.self.now.stages.stages.items all can.list) in
+    subst (λ t. is_list t ≡ true) made (chain-list g.S.Step.verb g.S.Step.represents g.met.S.Step.orderly true c.args.self.now.stages.stages.items all can.list) in
     let wrote = c.write.ensures.wrote opts (chain verbs read) can.outlet list in
     record {
       says = subst (WriteSays c.write.result) (sym made) wrote.says;
       more = wrote.more;
       text = ap (out_of opts) made ∙ wrote.text;
       leaves = wrote.leaves;
-      stand = λ none. record {
+      represent = λ none. record {
         verbs_are = ap (chains.verbs_in g.S.Step.verb) c.write.ensures.stages ∙ c.in-Ok.ensures.verbs;
-        stages = subst (chains.StandsFor g.S.Step.verb g.S.Step.stands all) (sym c.write.ensures.stages) (c.in-Ok.ensures.stands read can.stages can.list);
-        outlet = subst (λ t. StandsFor opts t c.write.new.self.outlet) (sym made) (c.write.ensures.stands opts (chain verbs read) can.outlet list none);
+        stages = subst (chains.Represents g.S.Step.verb g.S.Step.represents all) (sym c.write.ensures.stages) (c.in-Ok.ensures.represents read can.stages can.list);
+        outlet = subst (λ t. Represents opts t c.write.new.self.outlet) (sym made) (c.write.ensures.represents opts (chain verbs read) can.outlet list none);
         at_hand = c.write.ensures.emptied none;
       };
     }
@@ -52,5 +52,5 @@ returns-in-Err-clause-passed g c opts read can =
       more = text.0;
       text = ap (out_of opts) growth.1 ∙ text.1;
       leaves = unwritten text.0 (g.O.Outputs.held c.args.outputs.now);
-      stand = λ e. absurd (let f = e in cc);
+      represent = λ e. absurd (let f = e in cc);
     }

@@ -2,9 +2,9 @@ use Rattle.std.proofs.Common.{sym, subst}
 use Rattle.mlr_event.specs.declared.names.Target.TheVariants.{Stdout}
 use Rattle.mlr_world.specs.Counts.{Counted}
 use Rattle.chain_core.specs.Chain.{chain}
-use Rattle.serial_core.specs.Standing.{Outcome, TurnCounts, turn_failed}
+use Rattle.serial_core.specs.Represents.{Outcome, TurnCounts, turn_failed}
 use Rattle.serial_core.proofs.Passes.{can-pass, failed, none-passed, over-passed, unread}
-use Rattle.serial_core.proofs.Turning.{behind-cause, behind-counts, turn-same, written-cause}
+use Rattle.serial_core.proofs.Turning.{following-cause, following-counts, turn-same, written-cause}
 use Rattle.serial_core.proofs.serial.Serial.read.Goals as goal
 
 pub returns-in-NoMemory-clause-ran : goal.returns-in-NoMemory-clause-ran
@@ -14,7 +14,7 @@ returns-in-NoMemory-clause-ran g c command before given read settled at =
       given' = r.given';
       took = r.took;
       outcome =
-          unread g.S.Step.verb g.S.Step.stands g.met.S.Step.orderly c.chain_laws.ensures.growth c.outlet_laws.ensures command before given read c.args.self.now settled
+          unread g.S.Step.verb g.S.Step.represents g.met.S.Step.orderly c.chain_laws.ensures.growth c.outlet_laws.ensures command before given read c.args.self.now settled
           c.turn.result c.turn.new.self (g.I.Inputs.contents c.args.inputs.now) (g.I.Inputs.taken c.turn.new.inputs) (g.I.Inputs.open_name c.turn.new.inputs) c.turn.new.out r
           (g.O.Outputs.held c.args.outputs.now);
     }
@@ -26,7 +26,7 @@ returns-in-Failed-clause-ran g c command before given read settled at =
       given' = r.given';
       took = r.took;
       outcome =
-          failed g.S.Step.verb g.S.Step.stands g.met.S.Step.orderly c.chain_laws.ensures.growth c.outlet_laws.ensures command before given read c.args.self.now settled
+          failed g.S.Step.verb g.S.Step.represents g.met.S.Step.orderly c.chain_laws.ensures.growth c.outlet_laws.ensures command before given read c.args.self.now settled
           c.turn.result c.turn.new.self (g.I.Inputs.contents c.args.inputs.now) (g.I.Inputs.taken c.turn.new.inputs) (g.I.Inputs.open_name c.turn.new.inputs) c.turn.new.out r
           c.in-Failed.name c.in-Failed.is (g.O.Outputs.held c.args.outputs.now);
     }
@@ -38,7 +38,7 @@ pass-requires g c =
     let r = c.turn.ensures.read command.origin c.requires.1 c.requires.2 c.requires.3 settled.all.reader c.requires.5 in (
       command.write,
       c.requires.3,
-      can-pass g.S.Step.verb g.S.Step.stands g.met.S.Step.orderly c.chain_laws.ensures.growth c.outlet_laws.ensures command c.requires.1 c.requires.2 c.requires.3 c.args.self.now settled
+      can-pass g.S.Step.verb g.S.Step.represents g.met.S.Step.orderly c.chain_laws.ensures.growth c.outlet_laws.ensures command c.requires.1 c.requires.2 c.requires.3 c.args.self.now settled
           c.turn.result c.turn.new.self (g.I.Inputs.contents c.args.inputs.now) (g.I.Inputs.taken c.turn.new.inputs) (g.I.Inputs.open_name c.turn.new.inputs) c.turn.new.out r
           c.in_default.not-NoMemory,
     )
@@ -47,14 +47,14 @@ pub returns-in-Some : goal.returns-in-Some
 returns-in-Some g c = record {
   ran = λ command before given read settled at.
       let r = c.turn.ensures.read command.origin before given read settled.all.reader at in
-      let can = can-pass g.S.Step.verb g.S.Step.stands g.met.S.Step.orderly c.chain_laws.ensures.growth c.outlet_laws.ensures command before given read c.args.self.now settled
+      let can = can-pass g.S.Step.verb g.S.Step.represents g.met.S.Step.orderly c.chain_laws.ensures.growth c.outlet_laws.ensures command before given read c.args.self.now settled
       c.turn.result c.turn.new.self (g.I.Inputs.contents c.args.inputs.now) (g.I.Inputs.taken c.turn.new.inputs) (g.I.Inputs.open_name c.turn.new.inputs) c.turn.new.out r
       c.in_default.not-NoMemory in
       record {
         given' = r.given';
         took = r.took;
         outcome =
-            over-passed g.S.Step.verb g.S.Step.stands g.met.S.Step.orderly c.chain_laws.ensures.growth c.outlet_laws.ensures command before given read c.args.self.now settled
+            over-passed g.S.Step.verb g.S.Step.represents g.met.S.Step.orderly c.chain_laws.ensures.growth c.outlet_laws.ensures command before given read c.args.self.now settled
             c.turn.result c.turn.new.self (g.I.Inputs.contents c.args.inputs.now) (g.I.Inputs.taken c.turn.new.inputs) (g.I.Inputs.open_name c.turn.new.inputs) c.turn.new.out r
             c.in_default.not-NoMemory c.in-Some.ended c.pass.new.self (g.O.Outputs.held c.args.outputs.now) (g.O.Outputs.held c.pass.new.outputs) (c.in-Some.ensures.passed command.write read can);
       };
@@ -63,7 +63,7 @@ returns-in-Some g c = record {
       (let command = c.requires.0 in
       let settled = c.requires.4 in
       let r = c.turn.ensures.read command.origin c.requires.1 c.requires.2 c.requires.3 settled.all.reader c.requires.5 in
-      let can = can-pass g.S.Step.verb g.S.Step.stands g.met.S.Step.orderly c.chain_laws.ensures.growth c.outlet_laws.ensures command c.requires.1 c.requires.2 c.requires.3 c.args.self.now settled
+      let can = can-pass g.S.Step.verb g.S.Step.represents g.met.S.Step.orderly c.chain_laws.ensures.growth c.outlet_laws.ensures command c.requires.1 c.requires.2 c.requires.3 c.args.self.now settled
       c.turn.result c.turn.new.self (g.I.Inputs.contents c.args.inputs.now) (g.I.Inputs.taken c.turn.new.inputs) (g.I.Inputs.open_name c.turn.new.inputs) c.turn.new.out r
       c.in_default.not-NoMemory in
       let p = c.in-Some.ensures.passed command.write c.requires.3 can in
@@ -77,24 +77,24 @@ pub returns-in-None : goal.returns-in-None
 returns-in-None g c = record {
   ran = λ command before given read settled at.
       let r = c.turn.ensures.read command.origin before given read settled.all.reader at in
-      let can = can-pass g.S.Step.verb g.S.Step.stands g.met.S.Step.orderly c.chain_laws.ensures.growth c.outlet_laws.ensures command before given read c.args.self.now settled
+      let can = can-pass g.S.Step.verb g.S.Step.represents g.met.S.Step.orderly c.chain_laws.ensures.growth c.outlet_laws.ensures command before given read c.args.self.now settled
       c.turn.result c.turn.new.self (g.I.Inputs.contents c.args.inputs.now) (g.I.Inputs.taken c.turn.new.inputs) (g.I.Inputs.open_name c.turn.new.inputs) c.turn.new.out r
       c.in_default.not-NoMemory in
       record {
         given' = r.given';
         took = r.took;
         outcome =
-            subst (λ t. Outcome t g.S.Step.verb g.S.Step.stands command given r.given' read (chain command.verbs read) c.pass.new.self (g.O.Outputs.held c.args.outputs.now) (g.O.Outputs.held c.pass.new.outputs)) (sym c.behind.ensures)
-            (none-passed g.S.Step.verb g.S.Step.stands g.met.S.Step.orderly c.chain_laws.ensures.growth c.outlet_laws.ensures command before given read c.args.self.now settled
+            subst (λ t. Outcome t g.S.Step.verb g.S.Step.represents command given r.given' read (chain command.verbs read) c.pass.new.self (g.O.Outputs.held c.args.outputs.now) (g.O.Outputs.held c.pass.new.outputs)) (sym c.following.ensures)
+            (none-passed g.S.Step.verb g.S.Step.represents g.met.S.Step.orderly c.chain_laws.ensures.growth c.outlet_laws.ensures command before given read c.args.self.now settled
             c.turn.result c.turn.new.self (g.I.Inputs.contents c.args.inputs.now) (g.I.Inputs.taken c.turn.new.inputs) (g.I.Inputs.open_name c.turn.new.inputs) c.turn.new.out r
             c.in_default.not-NoMemory c.pass.new.self (g.O.Outputs.held c.args.outputs.now) (g.O.Outputs.held c.pass.new.outputs) c.pass.ensures.reader (c.in-None.ensures.passed command.write read can));
       };
   contents = c.turn.ensures.contents;
   cause =
-      subst (λ t. TurnCounts t (g.I.Inputs.faults c.args.inputs.now) (g.I.Inputs.faults c.turn.new.inputs)) (sym c.behind.ensures)
-      (behind-cause c.turn.result (g.I.Inputs.faults c.args.inputs.now) (g.I.Inputs.faults c.turn.new.inputs) c.turn.ensures.cause);
+      subst (λ t. TurnCounts t (g.I.Inputs.faults c.args.inputs.now) (g.I.Inputs.faults c.turn.new.inputs)) (sym c.following.ensures)
+      (following-cause c.turn.result (g.I.Inputs.faults c.args.inputs.now) (g.I.Inputs.faults c.turn.new.inputs) c.turn.ensures.cause);
   counts =
-      subst (λ t. Counted (turn_failed t) (g.O.Outputs.faults c.args.outputs.now) (g.O.Outputs.faults c.pass.new.outputs) Stdout) (sym c.behind.ensures)
-      (behind-counts c.turn.result (g.O.Outputs.faults c.args.outputs.now) (g.O.Outputs.faults c.pass.new.outputs) c.in-None.ensures.counts);
+      subst (λ t. Counted (turn_failed t) (g.O.Outputs.faults c.args.outputs.now) (g.O.Outputs.faults c.pass.new.outputs) Stdout) (sym c.following.ensures)
+      (following-counts c.turn.result (g.O.Outputs.faults c.args.outputs.now) (g.O.Outputs.faults c.pass.new.outputs) c.in-None.ensures.counts);
   shortages = c.pass.ensures.shortages;
 }

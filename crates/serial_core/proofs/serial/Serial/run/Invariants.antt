@@ -2,7 +2,7 @@ use Rattle.std.proofs.Common.{◌≡◌, ◌≤◌}
 use Rattle.mlr_event.specs.declared.names.InputName.{InputName}
 use Rattle.mlr_event.specs.declared.names.Target.{Target}
 use Rattle.serial_core.specs.Command.{Command}
-use Rattle.serial_core.specs.Standing.{Begins}
+use Rattle.serial_core.specs.Represents.{Begins}
 use Rattle.serial_core.proofs.Left.{left}
 use Rattle.serial_core.proofs.Running.{Going}
 use Rattle.serial_core.proofs.serial.Serial.run.Given as goal
@@ -14,8 +14,8 @@ invariant-loop-ended g l =
     ((name : InputName) → g.I.Inputs.faults l.inputs name ≡ g.I.Inputs.faults l.fn.inputs name) ×
     ((target : Target) → g.O.Outputs.faults l.outputs target ≡ g.O.Outputs.faults l.fn.outputs target) ×
     (g.O.Outputs.shortages l.fn.outputs ≤ g.O.Outputs.shortages l.outputs) ×
-    ((command : Command) → Begins g.S.Step.verb g.S.Step.stands command l.fn.self
-    → Going g.S.Step.verb g.S.Step.stands command (g.I.Inputs.taken l.fn.inputs) (g.I.Inputs.contents l.fn.inputs) (g.I.Inputs.taken l.inputs) (g.I.Inputs.open_name l.inputs) (g.O.Outputs.held l.fn.outputs) (g.O.Outputs.held l.outputs) l.self)
+    ((command : Command) → Begins g.S.Step.verb g.S.Step.represents command l.fn.self
+    → Going g.S.Step.verb g.S.Step.represents command (g.I.Inputs.taken l.fn.inputs) (g.I.Inputs.contents l.fn.inputs) (g.I.Inputs.taken l.inputs) (g.I.Inputs.open_name l.inputs) (g.O.Outputs.held l.fn.outputs) (g.O.Outputs.held l.outputs) l.self)
 
 -- what the reader has left
 abbrev pub decreases-loop-ended : goal.decreases-loop-ended

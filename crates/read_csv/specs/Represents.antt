@@ -1,0 +1,56 @@
+-- When a reader stands for a front of a file, or for the whole.
+use Rattle.std.specs.Prelude.{◌≡◌, ℕ, ◌+◌, ◌^◌, ◌<◌, false, List, Some, None}
+use Rattle.mlr_lines.specs.Lines.{ended_lines, begun_line}
+use Rattle.mlr_lines.specs.Represents as lines
+use Rattle.mlr_event.specs.declared.event.Ctx.{Ctx}
+use Rattle.mlr_event.specs.declared.names.FileRef.{FileRef}
+use Rattle.mlr_event.specs.declared.options.ReadOpts.{ReadOpts}
+use Rattle.mlr_event.specs.Reading.{ctx_after}
+use Rattle.read_csv.specs.declared.reader.CsvReader.{CsvReader}
+use Rattle.read_csv.specs.declared.rules.RowRules.{RowRules}
+use Rattle.read_csv.specs.Rows.{rows_from}
+use Rattle.read_csv.specs.Rules.{after_last, after_line, count_of}
+use Rattle.read_csv.specs.OpenRow.{no_row}
+
+-- the context of the last record that a front has fixed, and of the whole file
+abbrev pub ctx_fed : ReadOpts → FileRef → Ctx → List ℕ → Ctx
+ctx_fed opts file start bytes = ctx_after start (rows_from opts file None 1 None None (ended_lines bytes))
+
+abbrev pub ctx_read : ReadOpts → FileRef → Ctx → List ℕ → Ctx
+ctx_read opts file start bytes = ctx_after start (rows_from opts file (Some (begun_line bytes)) 1 None None (ended_lines bytes))
+
+-- how a file begins
+pub record Begins (rules : RowRules) (opts : ReadOpts) (file : FileRef) (start : Ctx) : Type 0 where
+  pub opts_are : rules.opts ≡ opts
+  pub file_is : rules.file ≡ file
+  pub number_is : rules.number ≡ 1
+  pub header_is : rules.header ≡ None
+  pub row_is : rules.row ≡ no_row
+  pub at_is : rules.at ≡ start
+  pub goes_on : rules.stopped ≡ false
+
+-- more bytes may come, or the end
+abbrev pub IsOpen : CsvReader → Type 0
+IsOpen reader = lines.IsOpen reader.lines
+
+abbrev pub HasEnded : CsvReader → Type 0
+HasEnded reader = lines.IsEnded reader.lines
+
+abbrev pub IsBroken : CsvReader → Type 0
+IsBroken reader = lines.IsBroken reader.lines
+
+-- how far its counters have counted; each byte counts one at most
+abbrev pub used : CsvReader → ℕ
+used reader = count_of reader.lines.format
+
+-- so many bytes may come
+abbrev pub CanTake : CsvReader → ℕ → Type 0
+CanTake reader n = IsOpen reader × (used reader + n < 2 ^ 63)
+
+-- so far these bytes of the file came
+abbrev pub Represents : ReadOpts → FileRef → Ctx → CsvReader → List ℕ → Type 0
+Represents opts file start reader bytes = (rules : RowRules) × Begins rules opts file start × lines.Represents after_line reader.lines rules bytes
+
+-- these bytes were the whole file
+abbrev pub RepresentsWhole : ReadOpts → FileRef → Ctx → CsvReader → List ℕ → Type 0
+RepresentsWhole opts file start reader bytes = (rules : RowRules) × Begins rules opts file start × lines.RepresentsAtEnd after_line after_last reader.lines rules bytes

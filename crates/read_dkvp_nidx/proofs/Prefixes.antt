@@ -1,0 +1,57 @@
+-- What a front of a file fixes stays.
+use Rattle.std.proofs.Common.{◌≡◌, ℕ, ◌+◌, List, [], ◌∷◌, ◌++◌, refl, ap, sym, ◌∙◌, append_assoc}
+use Rattle.std.specs.List.{flat_map}
+use Rattle.std.proofs.lemmas.Grind.{flat_map-append}
+use Rattle.mlr_lines.specs.Prefixes.{ended_prefix}
+use Rattle.mlr_lines.proofs.Prefixing.{fixed-more, whole-more, whole-prefix}
+use Rattle.mlr_lines.specs.Lines.{fixed_lines}
+use Rattle.mlr_event.specs.declared.event.Ctx.{Ctx}
+use Rattle.mlr_event.specs.declared.event.Event.{Event}
+use Rattle.mlr_event.specs.declared.names.FileRef.{FileRef}
+use Rattle.mlr_event.specs.declared.options.Format.{Format}
+use Rattle.mlr_event.specs.declared.options.Format.TheVariants as format
+use Rattle.mlr_event.specs.declared.options.ReadOpts.{ReadOpts}
+use Rattle.mlr_event.specs.Reading.{Item, ctx_after, events_of}
+use Rattle.mlr_event.specs.Stream.{events_after, has_fault}
+use Rattle.mlr_event.proofs.Streams.{events_of-append}
+use Rattle.read_dkvp_nidx.specs.Dkvp.{dkvp_line}
+use Rattle.read_dkvp_nidx.specs.Nidx.{nidx_line}
+use Rattle.read_dkvp_nidx.specs.Markdown.{Block, markdown_block, markdown_line, markdown_lines, outside}
+use Rattle.read_dkvp_nidx.specs.Lines.{items_of_lines, line_fed, line_read}
+
+module _ (opts : ReadOpts) (file : FileRef) where
+  table-more : (lines more : List (List ℕ)) (n : ℕ) (block : Block) → (items : List Item) × (markdown_lines opts file n block (lines ++ more) ≡ markdown_lines opts file n block lines ++ items)
+  table-more [] more n block = (markdown_lines opts file n block more, refl)
+  table-more (line ∷ lines) more n block =
+      let later = table-more lines more (n + 1) (markdown_block opts block line) in
+      let here = markdown_line opts file n block line in (
+        later.0,
+        ap (λ items. here ++ items) later.1 ∙ sym (append_assoc here (markdown_lines opts file (n + 1) (markdown_block opts block line) lines) later.0),
+      )
+
+  items-more : (as_format : Format) (lines more : List (List ℕ)) → (items : List Item) × (items_of_lines opts file as_format (lines ++ more) ≡ items_of_lines opts file as_format lines ++ items)
+  items-more format.Dkvp lines more = (flat_map (dkvp_line opts) more, flat_map-append (dkvp_line opts) lines more)
+  items-more format.Nidx lines more = (flat_map (nidx_line opts) more, flat_map-append (nidx_line opts) lines more)
+  items-more format.Markdown lines more = table-more lines more 1 outside
+  items-more _ lines more = ([], refl)
+
+  pub events-more : (start : Ctx) (lines more : List (List ℕ)) → (events : List Event) × (events_of start (items_of_lines opts file opts.format (lines ++ more)) ≡ events_of start (items_of_lines opts file opts.format lines) ++ events)
+  events-more start lines more =
+      let later = items-more opts.format lines more in
+      let prefix = items_of_lines opts file opts.format lines in
+      (events_after (has_fault prefix) (ctx_after start prefix) later.0, ap (events_of start) later.1 ∙ events_of-append start prefix later.0)
+
+  pub fed-more : (start : Ctx) (bytes rest : List ℕ) → (more : List Event) × (line_fed opts file start (bytes ++ rest) ≡ line_fed opts file start bytes ++ more)
+  fed-more start bytes rest =
+      let lines = fixed-more bytes rest in
+      let events = events-more start (fixed_lines bytes) lines.0 in
+      (events.0, ap (λ all. events_of start (items_of_lines opts file opts.format all)) lines.1 ∙ events.1)
+
+  pub read-more : (start : Ctx) (bytes rest : List ℕ) → (more : List Event) × (line_read opts file start (bytes ++ rest) ≡ line_fed opts file start bytes ++ more)
+  read-more start bytes rest =
+      let lines = whole-more bytes rest in
+      let events = events-more start (fixed_lines bytes) lines.0 in
+      (events.0, ap (λ all. events_of start (items_of_lines opts file opts.format all)) lines.1 ∙ events.1)
+
+  pub fed-prefix : (start : Ctx) (bytes : List ℕ) → line_fed opts file start bytes ≡ line_read opts file start (ended_prefix bytes)
+  fed-prefix start bytes = ap (λ lines. events_of start (items_of_lines opts file opts.format lines)) (sym (whole-prefix bytes))
