@@ -20,7 +20,7 @@ module _ {V : Type 0} where
   keys_of-append [] following = refl
   keys_of-append (p ∷ prefix) following = ap (λ keys. p.0 ∷ keys) (keys_of-append prefix following)
 
-  -- a key that stands behind others is none of them
+  -- a key that follows others is none of them
   pub absent-before : (prefix : List (List ℕ × V)) (p : List ℕ × V) (following : List (List ℕ × V)) → are_distinct (keys_of (prefix ++ p ∷ following)) ≡ true → value_at p.0 prefix ≡ None
   absent-before prefix p following distinct =
       elim (cases_Option (value_at p.0 prefix)) as (λ _. value_at p.0 prefix ≡ None) [
@@ -30,7 +30,7 @@ module _ {V : Type 0} where
             absurd (true≢false (sym distinct ∙ ap are_distinct (keys_of-append prefix (p ∷ following)) ∙ twice))
       ]
 
-  -- pairs whose keys are distinct, put behind others, stand there as they are
+  -- pairs whose keys are distinct, appended to others, are added unchanged
   pub put_each-distinct : (prefix pairs : List (List ℕ × V)) → are_distinct (keys_of (prefix ++ pairs)) ≡ true → put_each prefix pairs ≡ prefix ++ pairs
   put_each-distinct prefix [] distinct = sym (append-nil prefix)
   put_each-distinct prefix (p ∷ pairs) distinct =
@@ -45,7 +45,7 @@ module _ {V : Type 0} where
       ap (λ y. y ∷ entries) same
   drop-next (x ∷ entries) (suc place) entry at = drop-next entries place entry at
 
-  -- what is left at a place of a list is the entry there, and what is left behind it
+  -- the rest of a list from a place on is the entry there, and the rest after it
   pub drop-more : (entries : List V) (place : ℕ) (entry : V) → slice_get entries place ≡ Some entry → drop place entries ≡ entry ∷ drop (place + 1) entries
   drop-more entries place entry at = rw add-one (drop-next entries place entry at)
 
@@ -110,7 +110,7 @@ module _ (separator : List ℕ) where
   leaves_of-no_items name [] none = refl
   leaves_of-no_items name (item ∷ items) none = absurd (omega arith)
 
-  -- the leaves of one more field, pair or item, put before those that are left
+  -- the leaves of one more field, pair or item, before those of the remaining ones
   module _ (into after : List (List ℕ × Tree)) (place : ℕ) where
     pub fields-more : (pairs : List (List ℕ × Tree)) (name : List ℕ) (value : Tree) → slice_get pairs place ≡ Some (name, value)
         → after ≡ put_each into (leaves_of separator name value)

@@ -1,4 +1,4 @@
--- Keys stay distinct where a pair is put, taken out or renamed.
+-- Keys stay distinct where a pair is set, removed or renamed.
 use Rattle.std.proofs.Common.{◌≡◌, ℕ, Bool, true, false, cond, not, ◌||◌, List, [], ◌∷◌, ◌++◌, Some, None, refl, ap, sym, subst, inl, inr, ◌∙◌}
 use Rattle.std.specs.List.{list_any}
 use Rattle.std.specs.Str.{bytes_eq}
@@ -9,7 +9,7 @@ use Rattle.std.proofs.lemmas.Slice.Eq.{bytes_eq-Decides}
 use Rattle.std.specs.Cmp.Lexicographic.{nat_list_eq_equiv}
 use Rattle.mlr_spec.specs.Pairs.{value_at, put_at, remove_at, with_name, rename_at, keys_of, are_distinct}
 
--- a key that is there, put before others, is there twice
+-- a key that is in a list, added at its start, is in it twice
 pub are_distinct-twice : (key : List ℕ) (keys more : List (List ℕ)) → list_any (λ k. bytes_eq k key) keys ≡ true → are_distinct (keys ++ key ∷ more) ≡ false
 are_distinct-twice key [] more h = absurd (let e : false ≡ true = h in cc)
 are_distinct-twice key (k ∷ keys) more h =
@@ -58,7 +58,7 @@ module _ {V : Type 0} where
   are_distinct-push key value pairs absent distinct =
       subst (λ x. are_distinct (keys_of x) ≡ true) (put_at-none key value pairs absent) (are_distinct-put key value pairs distinct)
 
-  -- a key that is found stands among the keys
+  -- a key that is found is among the keys
   pub any_key-found : (key : List ℕ) (pairs : List (List ℕ × V)) → is_none (value_at key pairs) ≡ false → list_any (λ k. bytes_eq k key) (keys_of pairs) ≡ true
   any_key-found key [] h = absurd (let e : true ≡ false = h in cc)
   any_key-found key (p ∷ pairs) h =
@@ -94,7 +94,7 @@ module _ {V : Type 0} where
       (λ same. subst (λ k. list_any (bytes_eq k) (keys_of pairs) ≡ false) ((bytes_eq-Decides p.0 key).0 same) (not-true _ parts.0))
       (λ other. or_from _ _ (nat_list_eq_equiv.symm key p.0 ∙ other) (any_key-removed key pairs parts.1))
 
-  -- a key that is put first is taken out elsewhere
+  -- a key that is set first is removed elsewhere
   pub are_distinct-first : (key : List ℕ) (value : V) (pairs : List (List ℕ × V)) → are_distinct (keys_of pairs) ≡ true → are_distinct (keys_of ((key, value) ∷ remove_at key pairs)) ≡ true
   are_distinct-first key value pairs h = and_from _ _ (not_from_false _ (any_key-removed key pairs h)) (are_distinct-remove key pairs h)
 

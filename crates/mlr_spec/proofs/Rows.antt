@@ -1,4 +1,4 @@
--- The definitions on worked examples: each computes to the answer that stands beside it.
+-- The definitions on worked examples: each computes to the value beside it.
 use Rattle.std.specs.Prelude.{◌≡◌, ℕ, Bool, true, false, List, [], ◌∷◌, ◌++◌, None, codes, refl, pos, negsuc}
 use Rattle.mlr_spec.specs.declared.infer.Kind.{Kind}
 use Rattle.mlr_spec.specs.declared.infer.Kind.TheVariants.{Empty, Str, Int, Frac, Wide}

@@ -36,7 +36,7 @@ module _ (separator : List ℕ) where
             ]
       ]
 
-  -- the parts behind a first place that was looked for
+  -- the parts after a first place that was looked for
   abbrev parts_at : ℕ → List ℕ → Option ℕ → List (List ℕ)
   parts_at n text found = elim found [
     | None ↦ text ∷ []

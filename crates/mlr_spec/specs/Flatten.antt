@@ -34,11 +34,11 @@ abbrev mutual
   leaves_of_items separator name position (tree_and item more) =
       leaves_of separator (name ++ separator ++ decimal position) item ++ leaves_of_items separator name (position + 1) more
 
--- a record flattened: the leaves of all its fields, put one after another
+-- a record flattened: the leaves of all its fields, set one after another
 abbrev pub flat : List ℕ → List (List ℕ × Tree) → List (List ℕ × Tree)
 flat separator pairs = put_each [] (flat_map (λ pair. leaves_of separator pair.0 pair.1) pairs)
 
--- What stands at a place while a record is unflattened: a value, or a map that the paths made, with its nodes by name.
+-- A place of a record that is being unflattened: a value, or a map made by paths, with its nodes by name.
 mutual
   pub data Node : Type 0 where
     leaf : Tree → Node
@@ -52,7 +52,7 @@ abbrev pub leaves_in : Fields → Nodes
 leaves_in no_fields = no_nodes
 leaves_in (field_and key value more) = node_and key (leaf value) (leaves_in more)
 
--- a path goes on in a map; any other value is in its way, and is replaced by a map without pairs
+-- a path continues in a map; any other value is in its way, and is replaced by a map without pairs
 abbrev pub children_of : Node → Nodes
 children_of (made nodes) = nodes
 children_of (leaf (mapping pairs)) = leaves_in pairs
@@ -72,7 +72,7 @@ change_child name change no_nodes = node_and name (change (leaf absent)) no_node
 change_child name change (node_and other node more) =
     if bytes_eq other name then node_and other (change node) more else node_and other node (change_child name change more)
 
--- a value put at a path
+-- a value set at a path
 abbrev pub put_path : List (List ℕ) → Tree → Node → Node
 put_path [] value node = leaf value
 put_path (name ∷ path) value node = made (change_child name (put_path path value) (children_of node))
@@ -81,7 +81,7 @@ abbrev pub put_in : List (List ℕ) → Tree → Nodes → Nodes
 put_in [] value nodes = nodes
 put_in (name ∷ path) value nodes = change_child name (put_path path value) nodes
 
--- the path that a name spells; a name with more than 199 separators is left as it is
+-- the path that a name spells; a name with more than 199 separators is a path of one name
 abbrev pub path_of : List ℕ → List ℕ → List (List ℕ)
 path_of separator name = if nat_le (length (split_by separator name)) 200 then split_by separator name else name ∷ []
 
@@ -128,6 +128,6 @@ put_paths separator nodes [] = nodes
 put_paths separator nodes (pair ∷ pairs) =
     put_paths separator (put_in (path_of separator pair.0) (with_collection pair.1) nodes) pairs
 
--- a record unflattened: each value put at its path, one after another
+-- a record unflattened: each value is set at its path, one after another
 abbrev pub unflat : List ℕ → List (List ℕ × Tree) → List (List ℕ × Tree)
 unflat separator pairs = finished_pairs (put_paths separator no_nodes pairs)

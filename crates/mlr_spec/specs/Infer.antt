@@ -57,7 +57,7 @@ base_of [] = 0
 base_of (z ∷ []) = 0
 base_of (z ∷ b ∷ text) = if z == digit_zero then base_of_letter b else 0
 
--- a based text: digits of that base behind the two bytes
+-- a based text: digits of that base after the two bytes of its prefix
 abbrev pub is_based : List ℕ → Bool
 is_based text = are_digits (base_of text) (drop 2 text)
 
@@ -66,7 +66,7 @@ abbrev pub is_octal : List ℕ → Bool
 is_octal [] = false
 is_octal (b ∷ text) = b == digit_zero && are_digits 8 text
 
--- decimal digits with at most one point, before, among or behind them
+-- decimal digits with at most one point, before, among or after them
 abbrev pub is_mantissa : List ℕ → Bool
 is_mantissa text = are_digits 10 (before_first (λ b. b == dot) text ++ after_first (λ b. b == dot) text)
 
@@ -74,7 +74,7 @@ is_mantissa text = are_digits 10 (before_first (λ b. b == dot) text ++ after_fi
 abbrev pub is_e : ℕ → Bool
 is_e b = b == letter_e || b == letter_upper_e
 
--- a mantissa, and behind an `e`, if there is one, digits with or without a sign
+-- a mantissa, and after an `e`, if there is one, digits with or without a sign
 abbrev pub is_fraction : List ℕ → Bool
 is_fraction text =
     is_mantissa (before_first is_e text)

@@ -10,7 +10,7 @@ use Rattle.mlr_spec.specs.Tree.{Tree, absent, empty, string, int, fraction, wide
 abbrev pub hex_digit : ℕ → ℕ
 hex_digit n = if nat_lt n 10 then digit_zero + n else 87 + n
 
--- the letter behind the backslash for a quote, a backslash and the controls b, t, n, f, r; 0 for other bytes
+-- the letter after the backslash for a quote, a backslash and the controls b, t, n, f, r; 0 for other bytes
 abbrev pub escape_letter : ℕ → ℕ
 escape_letter b =
     if b == quote_mark then quote_mark else (
@@ -21,7 +21,8 @@ escape_letter b =
     if b == form_feed then letter_f else (
     if b == carriage_return then letter_r else 0))))))
 
--- a byte of a string: with a backslash and its letter, as `\u00` and two digits if it is another control, else as it stands
+-- a byte in a string: with a backslash and its letter, as `\u00` and two digits if it is another control,
+-- else as it is
 abbrev pub escaped : ℕ → List ℕ
 escaped b =
     if nat_lt 0 (escape_letter b) then backslash ∷ escape_letter b ∷ [] else (
@@ -51,8 +52,9 @@ abbrev pub is_stacked : JsonStyle → Bool
 is_stacked Stacked = true
 is_stacked Single = false
 
--- a value in a style, where its first line stands at this level: numbers and booleans bare, texts in quotes, error bare.
--- A map stands on lines if the style is stacked, and an array too if a map or an array stands in it.
+-- a value in a style, where its first line is at this level: numbers and booleans bare, texts in quotes,
+-- error bare. In the stacked style the fields of a map are on lines of their own, and so are the items of an
+-- array that contains a map or an array.
 abbrev mutual
   pub json_at : JsonStyle → ℕ → Tree → List ℕ
   json_at style level absent = json_string []

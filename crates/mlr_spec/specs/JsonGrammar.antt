@@ -23,7 +23,7 @@ mutual
     no_elements : Elements
     element_and : Syntax → Elements → Elements
 
--- the tokens that it is written with; `later` ones stand behind a comma
+-- the tokens that it is written with; `later` members and elements follow a comma
 abbrev mutual
   pub tokens_in : Syntax → List Token
   tokens_in (text t) = text_token t ∷ []
@@ -52,7 +52,7 @@ abbrev pub text_value : List ℕ → Tree
 text_value [] = empty
 text_value (b ∷ t) = string (b ∷ t)
 
--- the value that it stands for: a key that comes again keeps its place and takes the last value
+-- the value that it represents: a key that occurs again keeps its place and takes the last value
 abbrev mutual
   pub value_of : Syntax → Tree
   value_of (text t) = text_value t
@@ -74,7 +74,7 @@ pub record Begins (tokens : List Token) : Type 0 where
   pub more : List Token
   pub whole : tokens ++ more ≡ tokens_in syntax
 
--- how many brackets are open behind these tokens
+-- how many brackets are open after these tokens
 abbrev pub is_opening : Token → Bool
 is_opening (sign BeginMap) = true
 is_opening (sign BeginArray) = true

@@ -46,7 +46,7 @@ pub data Lexeme : Type 0 where
   quote : Lexeme
   piece : Piece → Lexeme
 
--- what stands at the front of a text: a lexeme of so many bytes, one that isn't whole, or a byte that can't stand there
+-- the start of a text: a lexeme of so many bytes, one that isn't complete, or a byte that isn't allowed there
 pub data Scanned : Type 0 where
   found : Lexeme → ℕ → Scanned
   begun : Scanned
@@ -64,7 +64,7 @@ unfoldable pub lexeme_outside : List ℕ → Scanned
 lexeme_outside [] = begun
 lexeme_outside (b ∷ text) = elim (mark_of b) [ Some m ↦ found (mark m) 1 | None ↦ lexeme_unmarked (b ∷ text) ]
 
--- the byte that a letter behind a backslash stands for; 0 for a letter that stands for none
+-- the byte that an escape letter represents; 0 for a letter that represents none
 abbrev pub escape_of : ℕ → ℕ
 escape_of c =
     if c == quote_mark || c == backslash || c == slash then c else (
@@ -77,20 +77,20 @@ escape_of c =
 abbrev pub is_hex : ℕ → Bool
 is_hex b = nat_lt (digit b) 16
 
--- four hexadecimal digits behind `\u`, which a text may cut short
+-- four hexadecimal digits after `\u`, which a text may cut short
 abbrev pub lexeme_of_unit : List ℕ → Scanned
 lexeme_of_unit text =
     if nat_le 4 (prefix_len is_hex text) then found (piece (unit (number 16 (take 4 text)))) 6 else (
     if prefix_len is_hex text == length text then begun else bad (2 + prefix_len is_hex text))
 
--- what stands behind a backslash
+-- what follows a backslash
 abbrev pub lexeme_of_escape : List ℕ → Scanned
 lexeme_of_escape [] = begun
 lexeme_of_escape (c ∷ text) =
     if c == letter_u then lexeme_of_unit text else (
     if nat_lt 0 (escape_of c) then found (piece (raw (escape_of c ∷ []))) 2 else bad 1)
 
--- a byte that a string holds as it stands
+-- a byte that a string contains as it is
 abbrev pub is_raw : ℕ → Bool
 is_raw b = not (b == quote_mark || b == backslash)
 
@@ -104,8 +104,8 @@ lexeme_inside (b ∷ text) =
 abbrev pub first_lexeme : Bool → List ℕ → Scanned
 first_lexeme inside text = if inside then lexeme_inside text else lexeme_outside text
 
--- the lexemes of a text, each with the place of its first byte, and the place at which the text goes on with none or is
--- cut off within a string
+-- the lexemes of a text, each with the place of its first byte, and the place at which no lexeme follows or
+-- the text is cut off within a string
 pub record Lexemes : Type 0 where
   pub lexemes : List (ℕ × Lexeme)
   pub stop : Option ℕ
@@ -168,7 +168,7 @@ pub data Token : Type 0 where
   text_token : List ℕ → Token
   word_token : Tree → Token
 
--- the tokens of a text, each with the place of its first byte, and the place at which the text goes on with none
+-- the tokens of a text, each with the place of its first byte, and the place at which no token follows
 pub record Tokens : Type 0 where
   pub tokens : List (ℕ × Token)
   pub stop : Option ℕ

@@ -22,7 +22,7 @@ module _ {V : Type 0} where
   put_at key value [] = (key, value) ∷ []
   put_at key value (pair ∷ pairs) = if bytes_eq pair.0 key then (pair.0, value) ∷ pairs else pair ∷ put_at key value pairs
 
-  -- more pairs, put one after another
+  -- more pairs, set one after another
   abbrev pub put_each : List (List ℕ × V) → List (List ℕ × V) → List (List ℕ × V)
   put_each pairs [] = pairs
   put_each pairs (pair ∷ more) = put_each (put_at pair.0 pair.1 pairs) more

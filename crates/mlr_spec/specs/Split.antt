@@ -6,12 +6,12 @@ use Rattle.std.specs.Str.{bytes_eq}
 abbrev pub begins_with : List ℕ → List ℕ → Bool
 begins_with separator text = bytes_eq (take (length separator) text) separator
 
--- the first place at which a text goes on with the separator, which isn't empty
+-- the first place at which a text continues with the separator, which isn't empty
 abbrev pub place_in : List ℕ → List ℕ → Option ℕ
 place_in separator [] = None
 place_in separator (b ∷ text) = if begins_with separator (b ∷ text) then Some 0 else option_map (λ place. place + 1) (place_in separator text)
 
--- what stands before the first separator, and what is split off behind it, in at most n steps
+-- what precedes the first separator, and the parts that follow it, in at most n steps
 abbrev pub parts_from : ℕ → List ℕ → List ℕ → List (List ℕ)
 parts_from zero separator text = text ∷ []
 parts_from (suc n) separator text = elim (place_in separator text) [

@@ -2,9 +2,9 @@
 use Rattle.std.specs.Prelude.{ℕ, ℤ, Bool, List, [], ◌∷◌, codes, cond, true, false}
 use Rattle.std.specs.Fmt.{signed_decimal}
 
--- A map has a list of pairs in it and an array a list of values. Inside a tree these lists are chains of its own,
--- since a data type can't stand in a list in itself; `pairs_in` and `items_in` give the lists, `map_of` and `array_of`
--- make a tree of them.
+-- A map contains a list of pairs and an array a list of values. Inside a tree these lists are chains of its
+-- own, since a data type can't occur in a list in itself; `pairs_in` and `items_in` give the lists, `map_of`
+-- and `array_of` make a tree of them.
 mutual
   pub data Tree : Type 0 where
     absent : Tree

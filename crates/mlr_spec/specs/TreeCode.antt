@@ -48,7 +48,7 @@ after_number gnil = []
 after_number (gnum n) = []
 after_number (gcons a b) = text_in b
 
--- the tree of a tag, of what stands behind the tag, and of the items and fields that this is a code of
+-- the tree of a tag, of the code after the tag, and of the items and fields that this is a code of
 abbrev tree_at : ℕ → Gv → Trees → Fields → Tree
 tree_at zero g items pairs = absent
 tree_at (suc zero) g items pairs = empty
@@ -63,7 +63,7 @@ tree_at (suc (suc (suc (suc (suc (suc (suc (suc (suc zero))))))))) g items pairs
 tree_at (suc (suc (suc (suc (suc (suc (suc (suc (suc (suc zero)))))))))) g items pairs = mapping pairs
 tree_at (suc (suc (suc (suc (suc (suc (suc (suc (suc (suc (suc n))))))))))) g items pairs = array items
 
--- what a code is: a tree, the items or the fields of one, or a value with the fields behind it
+-- what a code is: a tree, its items or fields, or a value with the fields after it
 record Read : Type 0 where
   tree : Tree
   items : Trees

@@ -1,6 +1,7 @@
+//! Kinds of texts, and the options of inference.
 ghost use Rattle.std.specs.Prelude.{◌≡◌, true, false};
 
-/// What inference takes a text for. It is the answer for a whole text, and carries the number of an int.
+/// What inference takes a text for: the result for a whole text, with the number of an int.
 #[derive(Clone, Copy, Debug, PartialEq, Eq)]
 pub enum Kind {
     /// No bytes.

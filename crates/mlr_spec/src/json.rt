@@ -1,7 +1,8 @@
+//! The styles of a JSON text, and its six marks.
 /// How a JSON text lies on its lines.
 #[derive(Clone, Copy, Debug, PartialEq, Eq)]
 pub enum JsonStyle {
-    /// A line for each field of a map, and for each item of an array in which a map or an array stands.
+    /// A line for each field of a map, and for each item of an array that contains a map or an array.
     Stacked,
     /// All on one line.
     Single,

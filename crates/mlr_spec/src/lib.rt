@@ -1,5 +1,5 @@
-//! What the other crates mean: the definitions of a value, of inference, of records and of their texts stand in
-//! `specs/` over plain lists and trees, and here stand the few plain types that they speak of.
+//! What the other crates mean: `specs/` has the definitions of a value, of inference, of records and of their
+//! texts, over plain lists and trees; `src/` has the few plain types that they speak of.
 #![tactic(auto)]
 
 mod infer;

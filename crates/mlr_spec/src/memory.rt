@@ -1,7 +1,8 @@
+//! Want of memory.
 use std::alloc::{AllocError, AllocFailed};
 
-/// There was no memory for a growth. It is the one refusal that no contract explains, since no clause can say
-/// that memory is left.
+/// An allocation failed. It is the one failure that no contract explains, since no clause can say that memory
+/// suffices.
 #[derive(Clone, Copy, Debug, PartialEq, Eq, Hash)]
 pub struct NoMemory;
 

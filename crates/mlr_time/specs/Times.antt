@@ -51,19 +51,19 @@ seconds_at second = unsigned_abs (int_rem_euclid second (pos 86_400))
 abbrev pub has_date : ℤ → Bool
 has_date second = int_le (neg_ℤ (pos 62_167_219_200)) second && int_le second (pos 253_402_300_799)
 
--- the second that a value stands for: an int, whatever its spelling, in the years 0 to 9999
+-- the second that a value represents: an int, whatever its spelling, in the years 0 to 9999
 abbrev pub second_of : Tree → Option ℤ
 second_of (int n spelling) = if has_date n then Some n else None
 second_of _ = None
 
--- `2017-07-14T02:40:00Z`; a value that stands for no second stays as it is
+-- `2017-07-14T02:40:00Z`; a value that represents no second is left as it is
 abbrev pub sec2gmt : Tree → Tree
 sec2gmt value = elim (second_of value) [
   | None ↦ value
   | Some n ↦ string (date_text (day_at n) ++ letter_upper_t ∷ time_text (seconds_at n) ++ letter_upper_z ∷ [])
 ]
 
--- `2017-07-14`; a value that stands for no second stays as it is
+-- `2017-07-14`; a value that represents no second is left as it is
 abbrev pub sec2gmtdate : Tree → Tree
 sec2gmtdate value = elim (second_of value) [
   | None ↦ value

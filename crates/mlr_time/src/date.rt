@@ -1,3 +1,4 @@
+//! Dates and times of day as texts.
 ghost use Rattle.std.specs.Prelude.{◌≡◌, ◌≤◌, ◌<◌, ◌++◌, ◌∷◌, pos, neg_ℤ, if◌then◌else◌, is_ok, true, OnOk};
 ghost use Rattle.jiff_core.specs.Calendar.{IsBetween};
 ghost use Rattle.mlr_time.specs.Times.{year_of, month_of, day_of, two_digits, four_digits, date_text, time_text};
@@ -16,7 +17,7 @@ fn date_of(day: i64) -> Date
     Date::from_unix_epoch_day(day).unwrap()
 }
 
-/// Puts the date of a day in the years 0 to 9999 behind `into`.
+/// Appends the date of a day in the years 0 to 9999.
 pub fn append_date(day: i64, into: &mut Bytes) -> Result<(), NoMemory>
     requires { IsBetween (neg_ℤ (pos 719_528)) (pos 2_932_896) day }
     ensures { OnOk result (into.new ≡ into.old ++ date_text day) }
@@ -29,7 +30,7 @@ pub fn append_date(day: i64, into: &mut Bytes) -> Result<(), NoMemory>
     into.append(&two_digits(date.day))
 }
 
-/// Puts the time of day behind `into` that is so many seconds after midnight.
+/// Appends the time of day that is so many seconds after midnight.
 pub fn append_time(seconds: u32, into: &mut Bytes) -> Result<(), NoMemory>
     requires { seconds < 86_400 }
     ensures { OnOk result (into.new ≡ into.old ++ time_text seconds) }

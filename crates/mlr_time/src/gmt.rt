@@ -1,3 +1,4 @@
+//! Seconds since 1970 as dates and times in UTC.
 ghost use Rattle.std.specs.Prelude.{◌≡◌, ◌++◌, ◌∷◌, [], true, IfOk, pos};
 ghost use Rattle.mlr_value.specs.Value.{tree_of};
 ghost use Rattle.mlr_time.specs.Times.{second_of, sec2gmt, sec2gmtdate, has_date, day_at, seconds_at, date_text, time_text};

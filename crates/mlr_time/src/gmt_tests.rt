@@ -1,3 +1,4 @@
+//! Worked seconds and their dates.
 use crate::{sec2gmt, sec2gmtdate};
 use mlr_spec::{InferOpts, NoMemory};
 use mlr_value::{Bytes, MapValue, Value, append_text, from_data};

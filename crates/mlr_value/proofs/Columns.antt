@@ -1,4 +1,4 @@
--- Keys and values that stand beside each other: what is found, put and taken out at the place of a key.
+-- Keys and values side by side: what is found, set and removed at the place of a key.
 use Rattle.std.proofs.Common.{◌≡◌, ℕ, zero, suc, ◌<◌, Bool, true, false, List, [], ◌∷◌, ◌++◌, length, get_or, set, remove, Vec, Global, Some, None, slice_get, position, refl, ap, sym, inl, inr, ◌∙◌, arith, cond}
 use Rattle.std.specs.List.{list_any, IsDistinct, AllByRecursion}
 use Rattle.std.specs.Str.{bytes_eq}
@@ -105,7 +105,7 @@ slice_get-pairs (k ∷ keys) (v ∷ values) zero key value at_key at_value same 
     λ j. Some ((e j).items, tree_of (sym at_value j))
 slice_get-pairs (k ∷ keys) (v ∷ values) (suc i) key value at_key at_value same = slice_get-pairs keys values i key value at_key at_value (omega arith)
 
--- a key and a value that are put last
+-- a key and a value that are appended
 pub pairs-push : (keys : Keys) (values : List Value) (key : Vec ℕ Global) (value : Value) → length keys ≡ length values
     → pairs_in (keys ++ key ∷ []) (values ++ value ∷ []) ≡ pairs_in keys values ++ (key.items, tree_of value) ∷ []
 pairs-push [] [] key value same = refl

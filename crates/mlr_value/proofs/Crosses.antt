@@ -1,4 +1,5 @@
--- A value may go into a thread, and may be shared by threads. The laws of the whole cycle stand at its first type.
+-- A value may go into a thread, and may be shared by threads. The laws of the whole cycle are those of its
+-- first type.
 use denote.Param.Send.{IsSend, IsSync, sendable}
 use Rattle.std.proofs.Crossing.{crosses}
 use Rattle.mlr_value.proofs.array_value.ArrayValue.TheLaws.TheKnot as knot

@@ -1,4 +1,4 @@
--- A fraction, read from the front in one pass.
+-- A fraction, read byte by byte in one pass.
 use Rattle.std.proofs.Common.{◌≡◌, ℕ, ◌+◌, Bool, true, false, cond, not, ◌&&◌, ◌||◌, ◌==◌, nat_lt, List, [], ◌∷◌, ◌++◌, length, take, drop, suc, ◌-◌, refl, ap, sym, ◌∙◌, arith}
 use Rattle.std.proofs.lemmas.Bool.{eqb-true, lt-ltb, or_from, false_from_ne_true, true≢false}
 use Rattle.std.proofs.lemmas.List.{take_rest}
@@ -65,7 +65,7 @@ digit_is_no_e b e =
     (false_from_ne_true (b == 101) (λ h. true≢false (sym e ∙ ap is_decimal (eqb-true b 101 h))))
     (false_from_ne_true (b == 69) (λ h. true≢false (sym e ∙ ap is_decimal (eqb-true b 69 h))))
 
--- behind the point
+-- after the point
 after_point_step : (digits : Bool) (b : ℕ) (text : List ℕ) (t : Bool) → is_point b ≡ t
     → mantissa_from true true text ≡ list_all is_decimal text
     → cond t false (is_decimal b && mantissa_from true true text) ≡ ((digits || true) && (is_decimal b && list_all is_decimal text))
@@ -148,7 +148,7 @@ fraction_from-whole text =
     ∙ ap (λ u. u && has_exponent (list_any is_e text) (after_first is_e text))
     (before_point false (before_first is_e text) ∙ are_digits-alone (without_point (before_first is_e text)))
 
--- behind the digits that a text begins with
+-- after the digits that a text begins with
 digits_step : (digits : Bool) (b : ℕ) (text : List ℕ) (t : Bool) → is_decimal b ≡ t
     → fraction_from true false text ≡ fraction_from true false (drop (prefix_len is_decimal text) text)
     → fraction_from (digits || nat_lt 0 (cond t (1 + prefix_len is_decimal text) 0)) false (drop (cond t (1 + prefix_len is_decimal text) 0) (b ∷ text)) ≡ fraction_from digits false (b ∷ text)

@@ -1,4 +1,4 @@
--- The number of a row of digits, read from the front.
+-- The number of a row of digits, read byte by byte.
 use Rattle.std.proofs.Common.{◌≡◌, ℕ, ◌+◌, ◌*◌, ◌^◌, ◌<◌, ◌≤◌, Bool, true, false, cond, ◌&&◌, nat_lt, List, [], ◌∷◌, length, suc, Option, Some, None, refl, ap, sym, subst, ◌∙◌, add-zero, zero-add, arith}
 use Rattle.std.proofs.Math.Nat.{pow-zero, pow-suc, mul-le-mul_left}
 use Rattle.std.proofs.lemmas.Bool.{le-ltb, lt-ltb}

@@ -10,7 +10,7 @@ prefix_shorter xs ys t s w l long less e =
     ∙ ap (λ n. take (n + l) (take s xs ++ take w t)) (sym (length-take-le s xs long))
     ∙ take-append-add (take s xs) (take w t) l ∙ ap (λ z. take s xs ++ z) (take-take l w t less)
 
--- xs with the first w bytes of t written at s is ys, and that with the last w of t behind them is zs
+-- xs with the first w bytes of t written at s is ys, and ys with the last w of t written at their end is zs
 pub ends_cover : {A : Type 0} (xs ys zs t : List A) (s w : ℕ) → s ≤ length xs → w ≤ length t → length t ≤ 2 * w
     → take (s + length (take w t)) ys ≡ take s xs ++ take w t
     → let l = length t - w in

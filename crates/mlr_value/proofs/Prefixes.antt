@@ -1,4 +1,4 @@
--- The front of a list that a copy has so far.
+-- The prefix of a list that a copy has so far.
 use Rattle.std.proofs.Common.{◌≡◌, ℕ, zero, suc, ◌+◌, Bool, true, false, not, List, [], ◌∷◌, ◌++◌, take, Some, None, slice_get, refl, ap, sym, ◌∙◌, add-one}
 use Rattle.std.specs.List.{list_any}
 use Rattle.std.specs.Str.{bytes_eq}

@@ -37,7 +37,7 @@ same_both : (t : Bool) → cond t false false ≡ false
 same_both true = refl
 same_both false = refl
 
--- the first row that has an answer
+-- the first row that fits
 abbrev pub first_row : Bool → Option Magnitude → Option Magnitude → Option Magnitude → Bool → Kind
 first_row negative (Some octal) decimal based fraction = whole_of negative octal
 first_row negative None (Some decimal) based fraction = whole_of negative decimal
@@ -67,7 +67,7 @@ kind_from_rows octal negative text in_octal in_decimal in_base fraction o d b f 
     ∙ ap (λ (r : Bool). first_row negative (octal_of octal text) (magnitude_of 10 text) (magnitude_of (base_of text) (drop 2 text)) r) f
     ∙ sym (kind_by_rows octal negative text)
 
--- the rows behind that of the decimal digits
+-- the rows after that of the decimal digits
 pub first_row-after_digits : (negative : Bool) (text : List ℕ) → after_digits negative text ≡ first_row negative None None (magnitude_of (base_of text) (drop 2 text)) (is_fraction text)
 unfolding after_digits magnitude_of
 first_row-after_digits negative text =

@@ -1,4 +1,4 @@
--- How deep maps and arrays stand in one another: the measure of a recursion over values.
+-- How deep maps and arrays are nested: the measure of a recursion over values.
 use Rattle.std.specs.Prelude.{ℕ, ◌+◌, max, List}
 use Rattle.mlr_spec.specs.Tree.{Tree, mapping, array, Trees, no_trees, tree_and, Fields, no_fields, field_and, fields_of, trees_of}
 

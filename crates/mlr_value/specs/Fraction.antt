@@ -1,9 +1,9 @@
--- Fractions read from the front, and the bytes that a number begins with.
+-- Fractions read byte by byte, and the bytes that a number begins with.
 use Rattle.std.specs.Prelude.{ℕ, Bool, true, false, not, ◌&&◌, ◌||◌, ◌==◌, nat_lt, if◌then◌else◌, List, [], ◌∷◌}
 use Rattle.mlr_spec.specs.Ascii.{dot}
 use Rattle.mlr_spec.specs.Infer.{digit, are_digits, unsigned, is_e}
 
--- whether a text goes on with a fraction, of which digits and a point were read before it or weren't
+-- whether a text continues as a fraction, where digits and a point were read before it or weren't
 abbrev pub fraction_from : Bool → Bool → List ℕ → Bool
 fraction_from digits point [] = digits
 fraction_from digits point (b ∷ text) =

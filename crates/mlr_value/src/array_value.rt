@@ -1,3 +1,4 @@
+//! Arrays of values.
 ghost use Rattle.std.specs.Prelude.{◌≡◌, ◌<◌, ◌++◌, ◌∷◌, [], length, if◌then◌else◌, is_ok, IfOk, OnOk, Some, slice_get};
 ghost use Rattle.std.specs.Option.{option_map};
 ghost use Rattle.mlr_value.specs.Value.{tree_of};
@@ -67,7 +68,7 @@ impl ArrayValue {
         &self.items[place]
     }
 
-    /// Puts an item last. The room at least doubles where it grows.
+    /// Appends an item. The capacity at least doubles where it grows.
     pub fn push(&mut self, item: Value) -> Result<(), NoMemory>
         ensures { self.new ≡ (if is_ok result then self.old ++ tree_of item ∷ [] else self.old) }
     {
@@ -88,7 +89,7 @@ impl ArrayValue {
     }
 }
 
-/// Puts copies of all items into an empty array.
+/// Appends copies of all items to an empty array.
 #[cycle(copy)]
 fn copy_items(from: &ArrayValue, into: &mut ArrayValue, alloc: Global) -> Result<(), NoMemory>
     requires { into.old ≡ [] }

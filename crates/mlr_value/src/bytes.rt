@@ -1,3 +1,4 @@
+//! Byte texts, of which the short ones are stored without an allocation.
 ghost use Rattle.std.specs.Prelude.{◌≡◌, ◌≤◌, ◌↔◌, [], ◌∷◌, ◌++◌, length, if◌then◌else◌, is_ok, OnOk, IfOk, IsOk, IsTrue};
 
 use crate::short::{CAPACITY, Short, put};
@@ -77,7 +78,7 @@ impl Bytes {
         Ok(())
     }
 
-    /// Puts the byte last. The room at least doubles where it grows.
+    /// Appends the byte. The capacity at least doubles where it grows.
     #[inline(always)]
     pub fn push(&mut self, byte: u8) -> Result<(), NoMemory>
         ensures { self.new ≡ (if is_ok result then self.old ++ byte ∷ [] else self.old) }
@@ -95,7 +96,7 @@ impl Bytes {
         }
     }
 
-    /// Puts the text last. The room at least doubles where it grows.
+    /// Appends the text. The capacity at least doubles where it grows.
     #[inline(always)]
     pub fn append(&mut self, text: &[u8]) -> Result<(), NoMemory>
         ensures { self.new ≡ (if is_ok result then self.old ++ text.now else self.old) }
@@ -109,7 +110,7 @@ impl Bytes {
         }
     }
 
-    /// Puts a text of any length last, wherever this one lies.
+    /// Appends a text of any length to a text stored in either way.
     #[inline(never)]
     fn append_any(&mut self, text: &[u8]) -> Result<(), NoMemory>
         ensures { self.new ≡ (if is_ok result then self.old ++ text.now else self.old) }
@@ -127,7 +128,7 @@ impl Bytes {
         }
     }
 
-    /// Puts the text last, and moves all to memory.
+    /// Appends the text, and moves the whole to the heap.
     #[cold]
     #[inline(never)]
     fn spill(&mut self, text: &[u8]) -> Result<(), NoMemory>
@@ -185,7 +186,7 @@ impl Bytes {
     }
 }
 
-/// Puts a short text last. A copy of a fixed width, cut to the text, takes no call of `memcpy`.
+/// Appends a short text. A copy of a fixed width, cut to the text, needs no call of `memcpy`.
 #[inline(always)]
 fn append_short(heap: &mut Vec<u8>, text: &[u8]) -> Result<(), NoMemory>
     requires { length text.now ≤ CAPACITY }

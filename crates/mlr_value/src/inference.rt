@@ -1,3 +1,4 @@
+//! What a text from data is: empty, a string, an int, a fraction, or a wide number.
 ghost use Rattle.std.specs.Prelude.{◌≡◌, ℕ, ◌+◌, ◌*◌, ◌^◌, ◌<◌, ◌≤◌, SomeIff, false, length, drop, nat_lt};
 ghost use Rattle.std.specs.List.{list_all, prefix_len};
 ghost use Rattle.mlr_spec.specs.Infer.{digit, are_digits, is_negative, unsigned, base_of, kind_after_sign, kind_of};
@@ -6,7 +7,7 @@ ghost use Rattle.mlr_value.specs.Magnitude.{after_digits, digits_of, large_from,
 
 use mlr_spec::{InferOpts, Kind};
 
-/// The number that a row of digits stands for.
+/// The number that a row of digits represents.
 #[derive(Clone, Copy)]
 enum Magnitude {
     /// A number below 2^64.
@@ -20,7 +21,7 @@ enum Magnitude {
 enum Digits {
     /// All of it.
     Whole(Magnitude),
-    /// Up to this place, where another byte stands.
+    /// Up to this place, where another byte is.
     Until(usize),
 }
 
@@ -116,7 +117,7 @@ fn all_digits(base: u64, text: &[u8]) -> bool
     text.iter().all(|byte| digit_of(*byte) < base)
 }
 
-/// The number with one more digit behind it, while 64 bits hold it. The first test spares most digits the others.
+/// The number with one more digit, while 64 bits hold it. For most digits the first test suffices.
 #[inline(always)]
 fn with_digit(number: u64, base: u64, digit: u64) -> Option<u64>
     requires { digit < base }
@@ -148,7 +149,7 @@ fn digits_of(base: u64, text: &[u8]) -> Digits
     Digits::Whole(Magnitude::Word(number))
 }
 
-/// Goes on where the digits before `start` are too many for 64 bits.
+/// Continues where the digits before `start` are too many for 64 bits.
 #[cold]
 fn large(base: u64, text: &[u8], start: usize) -> Digits
     requires { start ≤ length text.now }
@@ -234,7 +235,7 @@ fn word(negative: bool, magnitude: Magnitude) -> Kind
     whole(negative, magnitude)
 }
 
-/// Reads on behind the first digits of a mantissa, where there are any: the rest of it, and an exponent.
+/// Reads on after the first digits of a mantissa, if there are any: the rest of it, and an exponent.
 fn is_fraction(begun: bool, text: &[u8]) -> bool
     ensures { result ≡ fraction_from begun false text.now }
 {
@@ -254,7 +255,7 @@ fn is_fraction(begun: bool, text: &[u8]) -> bool
     digits
 }
 
-/// One or more digits behind a sign or without one.
+/// One or more digits, with or without a sign.
 fn is_exponent(text: &[u8]) -> bool
     ensures { result ≡ are_digits 10 (unsigned text.now) }
 {

@@ -1,3 +1,4 @@
+//! Maps of values, with their keys in order.
 ghost use Rattle.std.specs.Prelude.{◌≡◌, ◌<◌, ◌++◌, ◌∷◌, [], true, length, if◌then◌else◌, is_ok, is_some, IfOk, OnOk, None, Some, slice_get};
 ghost use Rattle.std.specs.Option.{option_map};
 ghost use Rattle.mlr_spec.specs.Pairs.{value_at, put_at, remove_at, keys_of, are_distinct};
@@ -128,7 +129,7 @@ impl MapValue {
         remove_pair(&mut self.columns, key)
     }
 
-    /// Puts a pair last whose key isn't there.
+    /// Appends a pair whose key isn't there.
     fn push(&mut self, key: &[u8], value: Value) -> Result<(), NoMemory>
         requires { value_at key.now self.old ≡ None }
         ensures { self.new ≡ (if is_ok result then self.old ++ (key.now, tree_of value) ∷ []
@@ -163,7 +164,7 @@ fn with_room(alloc: Global, room: usize) -> Result<MapValue, NoMemory>
     })
 }
 
-/// Puts copies of all pairs into an empty map.
+/// Appends copies of all pairs to an empty map.
 #[cycle(copy)]
 fn copy_pairs(from: &MapValue, into: &mut MapValue, alloc: Global) -> Result<(), NoMemory>
     requires { into.old ≡ [] }
@@ -176,7 +177,7 @@ fn copy_pairs(from: &MapValue, into: &mut MapValue, alloc: Global) -> Result<(),
     Ok(())
 }
 
-/// Puts a key and a value last, where the key isn't there.
+/// Appends a key and a value, where the key isn't there.
 fn push_pair(columns: &mut Columns, alloc: Global, key: &[u8], value: Value) -> Result<(), NoMemory>
     requires lengths { length columns.old.keys.keys ≡ length columns.old.values.items }
     requires absent { value_at key.now (pairs_in columns.old.keys.keys columns.old.values.items)

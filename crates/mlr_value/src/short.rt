@@ -50,7 +50,7 @@ impl Short {
         }
     }
 
-    /// Puts the byte last.
+    /// Appends the byte.
     #[inline(always)]
     pub(crate) fn push(&mut self, byte: u8)
         requires { length self.old < CAPACITY }
@@ -61,7 +61,7 @@ impl Short {
         self.len = len + 1;
     }
 
-    /// Puts the text last.
+    /// Appends the text.
     #[inline(always)]
     pub(crate) fn append(&mut self, text: &[u8])
         requires { length self.old + length text.now ≤ CAPACITY }

@@ -268,7 +268,7 @@ struct Collection {
     shown: &'static str,
 }
 
-/// Booleans that are put into a map and an array, and a key that is then removed from the map.
+/// Booleans stored in a map and an array, and a key that is then removed from the map.
 const COLLECTIONS: [Collection; 5] = [
     Collection {
         appends: &[("a", false), ("", true), ("b", true), ("a", true)],

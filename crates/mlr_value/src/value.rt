@@ -1,3 +1,4 @@
+//! Values of the ten kinds, and what they print.
 ghost use Rattle.std.specs.Prelude.{◌≡◌, ◌++◌, false, is_ok, if◌then◌else◌, IfOk};
 ghost use Rattle.mlr_spec.specs.Infer.{tree_of_data};
 ghost use Rattle.mlr_spec.specs.Tree.{text_of, is_collection};
@@ -38,7 +39,7 @@ pub enum Value {
     Map(MapValue),
     /// A list of values.
     Array(ArrayValue),
-    /// What a computation gives that has no answer.
+    /// The result of a computation that has none.
     Error,
 }
 
@@ -88,7 +89,7 @@ pub fn from_data(alloc: Global, text: &[u8], opts: InferOpts) -> Result<Value, N
     })
 }
 
-/// Puts what the value prints behind `into`.
+/// Appends what the value prints.
 #[inline(always)]
 pub fn append_text(value: &Value, into: &mut Bytes) -> Result<(), NoMemory>
     ensures { into.new ≡ (if is_ok result then into.old ++ text_of (tree_of value.now)

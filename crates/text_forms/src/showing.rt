@@ -1,3 +1,4 @@
+//! Values as texts, as writers and verbs show them.
 ghost use Rattle.std.specs.Prelude.{◌≡◌, ◌++◌, is_some, IfOk, IfSome, OnOk};
 ghost use Rattle.mlr_spec.specs.Tree.{is_collection};
 ghost use Rattle.mlr_spec.specs.Tree as tree;
@@ -19,7 +20,7 @@ pub fn shown(alloc: Global, value: &Value) -> Result<Bytes, NoMemory>
     Ok(text)
 }
 
-/// Puts the value as one text behind `out`.
+/// Appends the value as one text.
 #[inline(always)]
 pub fn append_shown(value: &Value, out: &mut Bytes) -> Result<(), NoMemory>
     ensures { OnOk result (out.new ≡ out.old ++ shown (tree_of value.now)) }
@@ -30,7 +31,7 @@ pub fn append_shown(value: &Value, out: &mut Bytes) -> Result<(), NoMemory>
     }
 }
 
-/// Puts a value behind `out` that doesn't hold its text.
+/// Appends a value that doesn't hold its text.
 #[inline(never)]
 fn append_printed(value: &Value, out: &mut Bytes) -> Result<(), NoMemory>
     ensures { OnOk result (out.new ≡ out.old ++ shown (tree_of value.now)) }

@@ -45,7 +45,7 @@ module _ (takes : List ℕ → Bool) (change : Tree → Tree) (pairs : List (Lis
       ∙ ap (λ t. set pairs i (name, cond t (change value) value)) (sym taken)
       ∙ ap (λ p. set pairs i (changed_field takes change p)) (sym here)
 
--- one more field, changed before those that are left
+-- one more field, changed, before the remaining ones
 pub changed-more : (takes : List ℕ → Bool) (change : Tree → Tree) (before after : List (List ℕ × Tree)) (i : ℕ) (d : List ℕ × Tree) → i < length before
     → after ≡ set before i (changed_field takes change (get_or before i d))
     → take (i + 1) after ++ changed takes change (drop (i + 1) after) ≡ take i before ++ changed takes change (drop i before)

@@ -1,3 +1,4 @@
+//! Values of a record changed in their places, for the verbs that change them.
 ghost use Rattle.std.specs.Prelude.{◌≡◌, ◌<◌, ◌≤◌, ℕ, Bool, false, List, length, set, take, slice_index_or, IfOk, OnOk};
 ghost use Rattle.std.specs.List.{list_any};
 ghost use Rattle.mlr_spec.specs.Tree.{Tree};

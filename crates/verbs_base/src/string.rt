@@ -1,3 +1,4 @@
+//! Values made of texts that aren't inferred.
 ghost use Rattle.std.specs.Prelude.{◌≡◌};
 ghost use Rattle.mlr_spec.specs.JsonGrammar.{text_value};
 ghost use Rattle.mlr_value.specs.Value.{tree_of};

@@ -1,3 +1,4 @@
+//! A verb that marks the fields of its names, on records.
 use crate::{Change, change_from, change_record, first_taken, is_taken, string_of};
 use mlr_event::Names;
 use mlr_record::Record;
@@ -47,7 +48,7 @@ fn unmarked(alloc: Global, keys: &[&[u8]]) -> Result<Record, NoMemory> {
     Ok(made)
 }
 
-/// The names of a record, each with a sign behind it that says whether it was marked.
+/// The names of a record, each followed by a sign that says whether it was marked.
 fn shown(alloc: Global, made: &Record) -> Result<Bytes, NoMemory> {
     let mut text = Bytes::new(alloc);
     for place in 0..made.len() {

@@ -2,7 +2,7 @@ use Rattle.std.proofs.Common.{◌≡◌, ◌++◌, length, take, drop}
 use Rattle.verbs_base.specs.Changing.{changed}
 use Rattle.verbs_base.proofs.change.change_from.Given as goal
 
--- what is done and what is left to change come to the whole
+-- what was changed and what remains to change make up the whole
 abbrev pub invariant-loop-place : goal.invariant-loop-place
 invariant-loop-place g l = record {
   takes : g.C.Change.takes l.change ≡ g.C.Change.takes l.fn.change;
