@@ -9,7 +9,7 @@ use Rattle.mlr_event.specs.declared.event.Event.{Event}
 use Rattle.mlr_event.specs.declared.event.Event.TheVariants as event
 use Rattle.mlr_event.specs.Verb.{IsQuiet, Verb, gives, is_fault, is_last, is_open, is_record, made, made_after, others, then_unless_fault}
 
--- without a fault, more comes behind
+-- without a fault, more may follow
 pub no-fault : (xs ys : List Event) → list_any is_fault xs ≡ false → then_unless_fault xs ys ≡ xs ++ ys
 no-fault xs ys none = ap (λ t. cond t xs (xs ++ ys)) none
 

@@ -17,7 +17,7 @@ open-before (x ∷ z ∷ xs) y ys list =
     let parts = and_parts (not (is_last x)) (is_list (z ∷ xs ++ y ∷ ys)) list in
     ap (λ b. not (b || list_any is_last (z ∷ xs))) (not-true (is_last x) parts.0) ∙ open-before (z ∷ xs) y ys parts.1
 
--- an open list is a list, and stays one with any event behind it
+-- an open list is a list, and is one with any event appended
 pub open-list : (xs ys : List Event) → is_open xs ≡ true → is_list ys ≡ true → is_list (xs ++ ys) ≡ true
 open-list [] ys open_is list = list
 open-list (x ∷ xs) ys open_is list =
@@ -28,7 +28,7 @@ open-list (x ∷ xs) ys open_is list =
     step x [] inner list = refl
     step x (z ∷ zs) inner list = ap₂ (λ a b. not a && b) inner list
 
--- behind events that may stand inside a list comes a list, unless they end in a fault
+-- a list may follow events that may be inside a list, unless they end in a fault
 part-then : (xs ys : List Event) → is_part xs ≡ true → is_list ys ≡ true → is_list (then_unless_fault xs ys) ≡ true
 part-then xs ys part list =
     let parts = and_parts (not (list_any is_end xs)) (is_list xs) part in

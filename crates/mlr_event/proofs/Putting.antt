@@ -1,4 +1,4 @@
--- Records put together field by field, and the names that they have then.
+-- Records built field by field, and the names that they have then.
 use Rattle.std.proofs.Common.{◌≡◌, ℕ, Bool, true, false, cond, ◌||◌, List, [], ◌∷◌, ◌++◌, Some, None, refl, ap, ap₂, arith, length, ltb, sym, ◌∙◌, append_assoc, inl, inr}
 use Rattle.std.specs.List.{list_any, position_or_len, zip}
 use Rattle.std.specs.Option.{is_some}

@@ -1,6 +1,6 @@
--- What is put behind a list.
+-- Two lists that grow by the same elements.
 use Rattle.std.specs.Prelude.{◌≡◌, List, ◌++◌}
 
--- what a list has more than an earlier one is what was put behind another list
+-- `new` extends `old` by the same elements by which `to` extends `from`
 abbrev pub Adds : {A : Type 0} → List A → List A → List A → List A → Type 0
 Adds {A} old new before after = (more : List A) × (after ≡ before ++ more) × (new ≡ old ++ more)

@@ -51,7 +51,7 @@ last_first (row ∷ rows) = last_first rows ++ event.Rec row.0 row.1 ∷ []
 abbrev pub tac : Verb
 tac = record { first = []; now = λ before fields ctx. []; late = λ before ctx. last_first (flat_map row_of before); closed = λ before. false; effects = false }
 
--- what an event gives behind records that are held back
+-- what an event gives after records that are held back
 abbrev pub tac_gives : List Row → Event → List Event
 tac_gives held (event.Rec fields ctx) = []
 tac_gives held (event.Text text) = event.Text text ∷ []

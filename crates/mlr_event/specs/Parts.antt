@@ -1,4 +1,4 @@
--- Records may stand inside a list of events.
+-- Records may be inside a list of events.
 use Rattle.std.proofs.Common.{◌≡◌, true, false, not, ◌&&◌, ◌||◌, List, [], ◌∷◌, refl, ap₂}
 use Rattle.std.specs.List.{list_any, list_all}
 use Rattle.std.proofs.lemmas.Bool.{and_parts}

@@ -72,7 +72,8 @@ distinct_after before (name ∷ names) = free_name before name ∷ distinct_afte
 abbrev pub distinct_names : List (List ℕ) → List (List ℕ)
 distinct_names names = distinct_after [] names
 
--- the record of these names and values: names that repeat are made distinct, or the last value stands at the first place
+-- the record of these names and values: names that repeat are made distinct, or the first place takes the
+-- last value
 abbrev pub record_of : Bool → List (List ℕ) → List Tree → List (List ℕ × Tree)
 record_of true names values = zip (distinct_names names) values
 record_of false names values = put_each [] (zip names values)

@@ -1,4 +1,4 @@
--- Records put together field by field.
+-- Records built field by field.
 use Rattle.std.specs.Prelude.{ℕ, Bool, true, false, List, [], ◌∷◌, ◌++◌}
 use Rattle.std.specs.List.{zip}
 use Rattle.mlr_spec.specs.Tree.{Tree}

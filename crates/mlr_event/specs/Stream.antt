@@ -11,7 +11,7 @@ has_fault (comment text ∷ items) = has_fault items
 has_fault (fields pairs ∷ items) = has_fault items
 has_fault (fault f ∷ items) = true
 
--- what more items give, and the context behind them, where a fault has come or not
+-- what more items give, and the context after them, where a fault has come or not
 abbrev pub events_after : Bool → Ctx → List Item → List Event
 events_after stopped at items = if stopped then [] else events_of at items
 

@@ -53,15 +53,15 @@ is_list [] = true
 is_list (e ∷ []) = true
 is_list (e ∷ f ∷ events) = not (is_last e) && is_list (f ∷ events)
 
--- events that may stand inside a list: no end is among them, and a fault is the last
+-- events that may be inside a list: no end is among them, and a fault is the last
 abbrev pub is_part : List Event → Bool
 is_part events = not (list_any is_end events) && is_list events
 
--- nothing comes behind a fault
+-- nothing follows a fault
 abbrev pub then_unless_fault : List Event → List Event → List Event
 then_unless_fault events more = if list_any is_fault events then events else events ++ more
 
--- what an event gives after those before it: texts, pieces and faults stand as they are
+-- what an event gives after those before it: texts, pieces and faults are passed on unchanged
 abbrev pub gives : Verb → List Event → Event → List Event
 gives verb before (event.Rec fields ctx) = verb.now before fields ctx
 gives verb before (event.Text text) = event.Text text ∷ []
@@ -69,7 +69,7 @@ gives verb before (event.Out target piece) = event.Out target piece ∷ []
 gives verb before (event.End ctx) = then_unless_fault (verb.late before ctx) (event.End ctx ∷ [])
 gives verb before (event.Fault fault) = event.Fault fault ∷ []
 
--- what events give one after another, behind others
+-- what events give one after another, after others
 abbrev pub made_after : Verb → List Event → List Event → List Event
 made_after verb before [] = []
 made_after verb before (e ∷ events) = then_unless_fault (gives verb before e) (made_after verb (before ++ e ∷ []) events)
@@ -87,7 +87,7 @@ pub record GivesRecords (verb : Verb) : Type 0 where
 abbrev pub IsQuiet : Verb → Type 0
 IsQuiet verb = verb.effects ≡ false → GivesRecords verb
 
--- a verb makes lists of lists: of its own it gives no end, and nothing behind a fault
+-- a verb makes lists of lists: of its own it gives no end, and nothing after a fault
 pub record KeepsOrder (verb : Verb) : Type 0 where
   pub first : is_part verb.first ≡ true
   pub now : (before : List Event) (fields : List (List ℕ × Tree)) (ctx : Ctx) → is_part (verb.now before fields ctx) ≡ true

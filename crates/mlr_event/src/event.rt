@@ -1,9 +1,10 @@
+//! Events: what flows from a reader through the verbs to the outlet.
 use crate::{Fault, Mode, StyleId, Target};
 use mlr_record::Record;
 use mlr_value::Bytes;
 
-/// Where a record stands: its number over all files, its number in its file, and the number of the file. Each
-/// counts from 1. In the zero context, that of a record which a `begin` block makes, all three are 0.
+/// The numbers of a record: over all files (NR), in its file (FNR), and of its file (FILENUM). Each counts
+/// from 1. In the zero context, that of a record which a `begin` block makes, all three are 0.
 #[derive(Clone, Copy, Debug, PartialEq, Eq)]
 pub struct Ctx {
     pub nr: u64,

@@ -1,3 +1,4 @@
+//! Lists of events.
 ghost use Rattle.std.specs.Prelude.{◌≡◌, ◌++◌, ◌∷◌, [], length, if◌then◌else◌, is_ok, slice_get, None, reverse};
 ghost use Rattle.std.specs.Option.{option_map, option_to_list};
 
@@ -57,7 +58,7 @@ impl Events {
         self.events.get(place)
     }
 
-    /// Puts an event last.
+    /// Appends an event.
     #[inline]
     pub fn push(&mut self, event: Event) -> Result<(), NoMemory>
         ensures { self.new ≡ (if is_ok result then self.old ++ event ∷ [] else self.old) }
@@ -83,7 +84,7 @@ impl Events {
         self.events.reverse();
     }
 
-    /// Puts all events of another list last, and leaves none in it.
+    /// Appends all events of another list, and leaves it empty.
     pub fn append(&mut self, other: &mut Events) -> Result<(), NoMemory>
         ensures events { self.new ≡ (if is_ok result then self.old ++ other.old else self.old) }
         ensures other { other.new ≡ (if is_ok result then [] else other.old) }

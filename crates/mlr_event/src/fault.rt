@@ -1,6 +1,7 @@
+//! Faults in the data.
 use crate::FileRef;
 
-/// A fault in the data, with the place where it stands. Lines and bytes count from 1 in their file.
+/// A fault in the data, with its place. Lines and bytes count from 1 in their file.
 #[derive(Clone, Copy, Debug, PartialEq, Eq)]
 pub enum Fault {
     /// A row of `have` fields under a header of `want` fields. The line is that on which the row begins.
@@ -30,7 +31,7 @@ pub enum Fault {
         file: FileRef,
         byte: u64,
     },
-    /// A JSON value that is no map stands where a record must stand.
+    /// A JSON value that is no map, where a record is needed.
     JsonKind {
         file: FileRef,
         byte: u64,

@@ -1,3 +1,4 @@
+//! Lists of field names, as verbs have them in their options.
 ghost use Rattle.std.specs.Prelude.{◌≡◌, ◌++◌, ◌∷◌, [], length, if◌then◌else◌, is_ok, IfOk, slice_get};
 ghost use Rattle.std.specs.Option.{option_map};
 ghost use Rattle.mlr_event.specs.Reading.{is_among};
@@ -62,7 +63,7 @@ impl Names {
         self.names.as_slice()
     }
 
-    /// Puts a name last.
+    /// Appends a name.
     pub fn push(&mut self, name: Bytes) -> Result<(), NoMemory>
         ensures { self.new ≡ (if is_ok result then self.old ++ name ∷ [] else self.old) }
     {

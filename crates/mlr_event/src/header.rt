@@ -1,3 +1,4 @@
+//! The names of the fields of rows.
 ghost use Rattle.std.specs.Prelude.{◌≡◌, ◌+◌, ◌<◌, ◌^◌, length, IfOk, OnOk, slice_index_or};
 ghost use Rattle.mlr_event.specs.Reading.{distinct_names};
 
@@ -9,7 +10,7 @@ use std::marker::Model;
 
 /// The names of the fields of rows. They are made distinct once, for all rows under them.
 pub struct Header {
-    /// As they stand in the file.
+    /// As they are in the file.
     names: Vec<Bytes>,
     /// Each made distinct from those before it.
     keys: Vec<Bytes>,
@@ -56,7 +57,7 @@ impl Header {
         Ok(Header { names, keys })
     }
 
-    /// The names as they stand in the file.
+    /// The names as they are in the file.
     #[inline]
     pub fn names(&self) -> &[Bytes]
         ensures { result.now ≡ self.now }

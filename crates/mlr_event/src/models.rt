@@ -122,7 +122,7 @@ impl Step for Tac {
     }
 }
 
-/// Holds a record back, or gives what an event gives behind those that are held.
+/// Holds a record back, or gives what an event gives after the records that are held back.
 pub(crate) fn take(
     held: &mut Vec<(Record, Ctx)>,
     event: Event,

@@ -1,3 +1,4 @@
+//! Names of inputs, and targets of outputs.
 ghost use Rattle.std.specs.Prelude.{◌≡◌, ◌↔◌, IsTrue, IfOk};
 
 use mlr_spec::NoMemory;

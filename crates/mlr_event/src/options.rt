@@ -1,3 +1,4 @@
+//! How a file is read: its format, its separators and its flags.
 ghost use Rattle.std.specs.Prelude.{◌≡◌, IfOk};
 
 use mlr_spec::{InferOpts, NoMemory};
@@ -55,15 +56,15 @@ impl Comments {
 #[derive(Debug, PartialEq, Eq)]
 pub struct ReadOpts {
     pub format: Format,
-    /// What stands between two fields (CSV, TSV, DKVP, NIDX): 1 to 16 bytes.
+    /// The separator of fields (CSV, TSV, DKVP, NIDX): 1 to 16 bytes.
     pub ifs: Bytes,
-    /// What stands between a key and its value (DKVP): 1 to 16 bytes.
+    /// The separator of a key and its value (DKVP): 1 to 16 bytes.
     pub ips: Bytes,
     /// The first line is data, and the keys are 1, 2, 3 and so on (CSV, TSV).
     pub implicit: bool,
     /// A row may be shorter or longer than its header (CSV, TSV).
     pub ragged: bool,
-    /// A name that repeats in a record gets a suffix; else its last value stands at its first place.
+    /// A name that repeats in a record gets a suffix; else it keeps its first place and takes its last value.
     pub dedupe: bool,
     pub comments: Comments,
     pub infer: InferOpts,

@@ -1,3 +1,4 @@
+//! What all readers do with comments, with names that repeat, and with the context of a record.
 ghost use Rattle.std.specs.Prelude.{◌≡◌, ◌-◌, ◌^◌, ◌<◌, ◌++◌, ◌∷◌, ℕ, List, [], None, length, IfOk, OnOk};
 ghost use Rattle.mlr_spec.specs.Infer.{tree_of_data};
 ghost use Rattle.mlr_spec.specs.Pairs.{keys_of, value_at};
@@ -13,7 +14,7 @@ use mlr_spec::NoMemory;
 use mlr_value::{Bytes, Value, from_data};
 use std::alloc::Global;
 
-/// The context of the record behind one.
+/// The context of the next record.
 #[inline]
 pub fn next_ctx(at: Ctx) -> Ctx
     requires nr { at.nr < 2 ^ 64 - 1 }
@@ -38,7 +39,7 @@ pub fn is_comment(comments: &Comments, line: &[u8]) -> bool
     }
 }
 
-/// Puts what a comment gives behind `out`: nothing, or the line and LF.
+/// Appends what a comment gives: nothing, or the line and LF.
 pub fn push_comment(
     alloc: Global,
     comments: &Comments,
@@ -94,7 +95,7 @@ impl TakenNames for Vec<Bytes> {
     }
 }
 
-/// The name with a number behind it.
+/// The name with a number appended.
 fn suffixed(alloc: Global, name: &[u8], number: usize) -> Result<Bytes, NoMemory>
     ensures { IfOk result (λ text. text ≡ suffixed name.now number) }
 {
@@ -131,7 +132,7 @@ pub fn distinct_names(alloc: Global, names: &[Bytes]) -> Result<Vec<Bytes>, NoMe
     Ok(made)
 }
 
-/// Puts a field into a record. A name that is there gets a suffix, or its value is replaced.
+/// Sets a field in a record. A name that is there gets a suffix, or its value is replaced.
 #[inline]
 pub fn put_field(
     alloc: Global,
@@ -153,7 +154,7 @@ pub fn put_field(
     }
 }
 
-/// Puts a field of this text into a record, by the options. A name that is there gets a suffix, or its value is
+/// Sets a field of this text in a record, by the options. A name that is there gets a suffix, or its value is
 /// replaced.
 #[inline]
 pub fn put_text(
@@ -171,7 +172,7 @@ pub fn put_text(
     put_field(alloc, record, name, value, opts.dedupe)
 }
 
-/// Puts a field of this text last, whose name the record doesn't have. It makes no search.
+/// Appends a field of this text, whose name the record doesn't have. It makes no search.
 #[inline]
 pub fn push_text(
     alloc: Global,

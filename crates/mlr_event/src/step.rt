@@ -1,3 +1,4 @@
+//! The trait of whatever makes events of events, as a verb does.
 ghost use Rattle.std.specs.Prelude.{◌≡◌, ◌↔◌, ◌++◌, ◌∷◌, [], List, true, IsTrue, OnOk, OnErr};
 ghost use Rattle.mlr_event.specs.declared.event.Event.{Event as SpecEvent};
 ghost use Rattle.mlr_event.specs.Adding.{Adds};
@@ -6,8 +7,8 @@ ghost use Rattle.mlr_event.specs.Verb.{IsQuiet, KeepsOrder, StaysClosed, Verb, i
 use crate::{Event, Events};
 use mlr_spec::NoMemory;
 
-/// Takes events one by one, and makes others of them: a verb, or whatever works like one. It stands for the list of
-/// events that it was given.
+/// Takes events one by one, and makes others of them, as a verb does. It represents the list of events that
+/// it was given.
 pub trait Step {
     /// What it makes of a list of events, which never changes.
     ghost verb: { Self → Verb };
@@ -18,7 +19,7 @@ pub trait Step {
     /// A call found no memory.
     ghost broken: { Self → Type 0 };
 
-    /// Takes an event, and puts behind `out` what it gives after those before. No end and no fault may have come before.
+    /// Takes an event, and pushes what it gives after those before. No end and no fault may have come before.
     fn step(&mut self, event: Event, out: &mut Events) -> Result<(), NoMemory>
         requires { (given : List SpecEvent) × represents self.old given × (is_open given ≡ true) }
         ensures verb { verb self.new ≡ verb self.old }
@@ -43,13 +44,13 @@ pub trait Step {
     fn is_broken(&self) -> bool
         ensures { IsTrue result ↔ broken self.now };
 
-    /// An object that stands for a list found memory in all calls.
+    /// An object that represents a list has found memory in all calls.
     ghost whole: { (s : Self) (given : List SpecEvent) → represents s given → broken s → ⊥ };
 
     /// Without effects it gives records alone.
     ghost quiet: { (s : Self) → IsQuiet (verb s) };
 
-    /// Of its own it gives no end, and nothing behind a fault.
+    /// Of its own it gives no end, and nothing after a fault.
     ghost orderly: { (s : Self) → KeepsOrder (verb s) };
 
     /// Once it is closed it gives nothing more.

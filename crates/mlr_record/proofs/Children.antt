@@ -1,4 +1,4 @@
--- What is found and put at the place of a child.
+-- What is found and set at the place of a child.
 use Rattle.std.proofs.Common.{◌≡◌, ℕ, ◌<◌, List, [], ◌∷◌, ◌++◌, set, get_or, Some, None, Bor, length, refl, ap, sym, ◌∙◌, arith}
 use Rattle.std.proofs.lemmas.List.{map-append}
 use Rattle.mlr_spec.specs.Pairs.{value_at, put_at}

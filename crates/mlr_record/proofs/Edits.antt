@@ -1,4 +1,5 @@
--- What a removal, a field put first and a renaming leave, and the place of a name.
+-- A record after a removal, after a field was inserted at its start and after a renaming, and the place of a
+-- name.
 use Rattle.std.proofs.Common.{◌≡◌, ℕ, zero, suc, ◌+◌, ◌<◌, true, false, List, [], ◌∷◌, ◌++◌, length, take, drop, remove, get_or, set, Vec, Global, Option, Some, None, is_some, is_none, refl, ap, sym, subst, ◌∙◌, arith, tests, one-add, add-one, get_or-set_same, length-take, take-take, ap₂, ◌-◌}
 use Rattle.std.specs.List.{list_any, position_or_len}
 use Rattle.std.specs.Str.{bytes_eq}

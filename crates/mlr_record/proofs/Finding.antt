@@ -75,11 +75,11 @@ module _ (separator : List ℕ) where
   place_in-inside text None found = tt
   place_in-inside text (Some k) found = place_in-fits separator text k (sym found)
 
--- what stands from a place on, as a slice reads it
+-- the rest of a text from a place on, as a slice reads it
 pub whole-rest : (text : List ℕ) (n : ℕ) → take (length text - n) (drop n text) ≡ drop n text
 whole-rest text n = ap (λ k. take k (drop n text)) (sym (length-drop n text)) ∙ take-length (drop n text)
 
--- a byte that passes behind a place, and the first one there
+-- a byte that passes after a place, and the first one there
 module _ (test : ℕ → Bool) (text : List ℕ) (from : ℕ) where
   passes-following : (k : ℕ) → test (get_or (drop from text) k 0) ≡ test (get_or text (from + k) 0)
   passes-following k = ap test (get_or-drop from text k 0)

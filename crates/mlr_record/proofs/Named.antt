@@ -1,4 +1,4 @@
--- What is found and put at the place of a name in a list of things that have names, seen as pairs.
+-- What is found and set at the place of a name in a list of named things, seen as pairs.
 use Rattle.std.proofs.Common.{◌≡◌, ℕ, zero, suc, ◌<◌, Bool, true, false, List, [], ◌∷◌, ◌++◌, map, length, take, get_or, set, Some, None, refl, ap, arith, inl, inr}
 use Rattle.std.specs.List.{list_any}
 use Rattle.std.specs.Str.{bytes_eq}
@@ -6,7 +6,7 @@ use Rattle.std.proofs.lemmas.Bool.{or_parts, cases_Bool}
 use Rattle.std.proofs.lemmas.Slice.Eq.{bytes_eq-Decides}
 use Rattle.mlr_spec.specs.Pairs.{value_at, put_at}
 
--- of two values that are put at a key the later one stays
+-- of two values that are set at a key the later one stays
 pub put_at-twice : {V : Type 0} (key : List ℕ) (first later : V) (pairs : List (List ℕ × V)) → put_at key later (put_at key first pairs) ≡ put_at key later pairs
 put_at-twice {V} key first later [] = rw ((bytes_eq-Decides key key).1 refl) refl
 put_at-twice {V} key first later (p ∷ pairs) =

@@ -17,7 +17,7 @@ first-fails false second fails holds = refl
 first-fails true second fails holds = absurd (true≢false (sym holds ∙ fails))
 
 module _ (separator : List ℕ) (names : List (List ℕ)) where
-  -- a field that isn't named, and one that unflattening doesn't change, is put under its whole name
+  -- a field that isn't named, and one that unflattening doesn't change, is set under its whole name
   put_if_named-plain : (p : List ℕ × Tree) (nodes : Nodes) → is_unflattened_named separator names p ≡ false → put_if_named separator names p nodes ≡ put_in (p.0 ∷ []) p.1 nodes
   put_if_named-plain p nodes plain =
       let choice = λ (named : Bool). cond named (put_in (path_of separator p.0) (with_collection p.1) nodes) (put_in (p.0 ∷ []) p.1 nodes) in
@@ -39,7 +39,7 @@ module _ (separator : List ℕ) (names : List (List ℕ)) where
   unflat_named-plain pairs distinct plain =
       ap finished_pairs (put_named-plain [] pairs plain) ∙ finished-ends (put_each [] pairs) ∙ put_each-distinct [] pairs distinct
 
-  -- one more field, put before those that are left
+  -- one more field, set before the remaining ones
   pub named-more : (into after : Nodes) (pairs : List (List ℕ × Tree)) (place : ℕ) (p : List ℕ × Tree) → slice_get pairs place ≡ Some p
       → after ≡ put_if_named separator names p into
       → put_named separator names after (drop (place + 1) pairs) ≡ put_named separator names into (drop place pairs)

@@ -79,7 +79,7 @@ module _ (separator : List ℕ) where
       ap₂ (λ x y. x ++ y) (leaves-named pair.0 pair.1 ∙ sym (map-under by_name pair.0 (leaves_in pair.1))) (record-named pairs)
       ∙ sym (map-append by_name (under pair.0 (leaves_in pair.1)) (leaves_in_pairs (fields_of pairs)))
 
--- ---- leaves that are put one after another
+-- ---- leaves that are set one after another
 
 abbrev put_all : Nodes → List Leaf → Nodes
 put_all nodes [] = nodes

@@ -16,7 +16,7 @@ use Rattle.mlr_spec.proofs.Flattening.{put_each-distinct, drop-more, absent-befo
 use Rattle.mlr_record.specs.Nodes.{nodes_of, node_depth, list_depth}
 use Rattle.mlr_record.specs.Paths.{represents_collection, is_unflattened, ends, is_array}
 
--- a child that is changed is the node of its name, put there again
+-- a child that is changed is the node of its name, set there again
 change_child-put : (name : List ℕ) (change : Node → Node) (pairs : List (List ℕ × Node))
     → change_child name change (nodes_of pairs) ≡ nodes_of (put_at name (change (unwrap_or (value_at name pairs) (leaf absent))) pairs)
 change_child-put name change [] = refl
@@ -31,7 +31,7 @@ change_child-put name change (p ∷ pairs) =
           ∙ ap (λ t. nodes_of (cond t ((p.0, new) ∷ pairs) (p ∷ put_at name new pairs))) (sym other)
     ]
 
--- the same where the node was taken out, changed and put there again
+-- the same where the node was taken out, changed and set there again
 pub change_child-taken : (name : List ℕ) (change : Node → Node) (before left after : List (List ℕ × Node)) (taken node : Node)
     → taken ≡ unwrap_or (value_at name before) (leaf absent) → ((n : Node) → put_at name n left ≡ put_at name n before) → node ≡ change taken
     → after ≡ put_at name node left → nodes_of after ≡ change_child name change (nodes_of before)
@@ -48,7 +48,7 @@ put_at-ends name value (p ∷ pairs) =
       | inr other ↦ rw other (ap (λ x. (p.0, leaf p.1) ∷ x) (put_at-ends name value pairs))
     ]
 
--- a value put under a name among values
+-- a value set under a name among values
 pub put_in-ends : (name : List ℕ) (value : Tree) (pairs : List (List ℕ × Tree)) → put_in (name ∷ []) value (nodes_of (ends pairs)) ≡ nodes_of (ends (put_at name value pairs))
 put_in-ends name value pairs = change_child-put name (put_path [] value) (ends pairs) ∙ ap nodes_of (put_at-ends name value pairs)
 
@@ -90,7 +90,7 @@ module _ (separator : List ℕ) where
         | inr found ↦ absurd (true≢false (sym (ap is_some found.1) ∙ plain))
       ]
 
-  -- a field that unflattening doesn't change is put under its whole name
+  -- a field that unflattening doesn't change is set under its whole name
   pub put_in-plain : (p : List ℕ × Tree) (nodes : Nodes) → is_unflattened separator p ≡ false → put_in (path_of separator p.0) (with_collection p.1) nodes ≡ put_in (p.0 ∷ []) p.1 nodes
   put_in-plain p nodes plain =
       let here = or_parts (is_some (place_in separator p.0)) (represents_collection p.1) plain in
@@ -108,7 +108,7 @@ module _ (separator : List ℕ) where
   unflat-plain pairs distinct plain =
       ap finished_pairs (put_paths-plain [] pairs plain) ∙ finished-ends (put_each [] pairs) ∙ put_each-distinct [] pairs distinct
 
-  -- one more field, put before those that are left
+  -- one more field, set before the remaining ones
   pub paths-more : (into after : List (List ℕ × Node)) (pairs : List (List ℕ × Tree)) (place : ℕ) (name : List ℕ) (value : Tree) → slice_get pairs place ≡ Some (name, value)
       → nodes_of after ≡ put_in (path_of separator name) (with_collection value) (nodes_of into)
       → put_paths separator (nodes_of after) (drop (place + 1) pairs) ≡ put_paths separator (nodes_of into) (drop place pairs)
@@ -116,7 +116,7 @@ module _ (separator : List ℕ) where
       ap (λ nodes. put_paths separator nodes (drop (place + 1) pairs)) put
       ∙ sym (ap (put_paths separator (nodes_of into)) (drop-more pairs place (name, value) at))
 
--- one more pair of a map as a node, put before those that are left
+-- one more pair of a map as a node, set before the remaining ones
 module _ (into : List (List ℕ × Node)) (pairs : List (List ℕ × Tree)) (place : ℕ) (name : List ℕ) (value : Tree) (at : slice_get pairs place ≡ Some (name, value)) (so_far : into ++ ends (drop place pairs) ≡ ends pairs) where
   next-end : into ++ (name, leaf value) ∷ ends (drop (place + 1) pairs) ≡ ends pairs
   next-end = sym (ap (λ left. into ++ ends left) (drop-more pairs place (name, value) at)) ∙ so_far

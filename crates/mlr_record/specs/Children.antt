@@ -1,4 +1,4 @@
--- Where a name stands among the nodes of a map that paths made.
+-- The place of a name among the nodes of a map that paths made.
 use Rattle.std.specs.Prelude.{◌≡◌, ◌<◌, ℕ, Bool, true, false, List, length, take, Option, MatchOption, slice_index_or, slice_set}
 use Rattle.std.specs.List.{list_any}
 use Rattle.std.specs.Str.{bytes_eq}

@@ -11,7 +11,7 @@ use Rattle.mlr_record.specs.Paths.{is_unflattened}
 abbrev pub is_named : List ℕ → List (List ℕ) → List ℕ → Bool
 is_named separator names name = list_any (bytes_eq (first_part separator name)) names
 
--- a named field is put at the path that its name spells; any other stays as it is under its whole name
+-- a named field is set at the path that its name spells; any other is kept under its whole name
 abbrev pub put_if_named : List ℕ → List (List ℕ) → List ℕ × Tree → Nodes → Nodes
 put_if_named separator names pair nodes =
     if is_named separator names pair.0 then put_in (path_of separator pair.0) (with_collection pair.1) nodes
@@ -21,7 +21,7 @@ abbrev pub put_named : List ℕ → List (List ℕ) → Nodes → List (List ℕ
 put_named separator names nodes [] = nodes
 put_named separator names nodes (pair ∷ pairs) = put_named separator names (put_if_named separator names pair nodes) pairs
 
--- a record with its named fields unflattened: all its fields put, one after another
+-- a record with its named fields unflattened: all its fields are set, one after another
 abbrev pub unflat_named : List ℕ → List (List ℕ) → List (List ℕ × Tree) → List (List ℕ × Tree)
 unflat_named separator names pairs = finished_pairs (put_named separator names no_nodes pairs)
 

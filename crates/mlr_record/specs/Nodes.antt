@@ -1,4 +1,5 @@
--- The nodes that the paths of a record have made so far, as a list of names with their nodes, and how deep they stand.
+-- The nodes that the paths of a record have made so far, as a list of names with their nodes, and how deep
+-- they are nested.
 use Rattle.std.specs.Prelude.{◌≡◌, ℕ, ◌+◌, max, List, [], ◌∷◌}
 use Rattle.std.proofs.Common.{ap, arith}
 use Rattle.std.specs.Coded.{Coded, coded_ℕ, coded_list, coded×}
@@ -10,7 +11,7 @@ abbrev pub nodes_of : List (List ℕ × Node) → Nodes
 nodes_of [] = no_nodes
 nodes_of (pair ∷ pairs) = node_and pair.0 pair.1 (nodes_of pairs)
 
--- how many maps that paths made stand in one another
+-- how deep maps made by paths are nested
 abbrev mutual
   pub node_depth : Node → ℕ
   node_depth (leaf value) = 0

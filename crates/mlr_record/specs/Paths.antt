@@ -6,7 +6,7 @@ use Rattle.mlr_spec.specs.Tree.{Tree, absent, empty, string, int, fraction, wide
 use Rattle.mlr_spec.specs.Split.{place_in}
 use Rattle.mlr_spec.specs.Flatten.{Node, leaf, are_positions_from}
 
--- the texts that stand for an empty map and an empty array
+-- the texts that represent an empty map and an empty array
 abbrev pub represents_collection : Tree → Bool
 represents_collection (string text) = bytes_eq text (codes "{}") || bytes_eq text (codes "[]")
 represents_collection absent = false
@@ -19,7 +19,7 @@ represents_collection (mapping pairs) = false
 represents_collection (array items) = false
 represents_collection error = false
 
--- a field whose name spells a path, or whose text stands for an empty map or array
+-- a field whose name spells a path, or whose text represents an empty map or array
 abbrev pub is_unflattened : List ℕ → List ℕ × Tree → Bool
 is_unflattened separator pair = is_some (place_in separator pair.0) || represents_collection pair.1
 

@@ -1,3 +1,4 @@
+//! Nested values flattened: one field for each leaf.
 ghost use Rattle.std.specs.Prelude.{◌≡◌, true, ◌++◌, [], IfOk, if◌then◌else◌, is_ok, OnOk, codes};
 ghost use Rattle.std.specs.List.{list_any};
 ghost use Rattle.std.specs.Fmt.{decimal};
@@ -13,8 +14,9 @@ use mlr_value::{ArrayValue, Bytes, MapValue, Value};
 use std::alloc::Global;
 
 impl Record {
-    /// Puts one field for each leaf of a map or an array in the place of the field that holds it. The name of a leaf
-    /// joins the names on its path by the separator. A record without maps and arrays is left as it is without memory.
+    /// Replaces each field that holds a map or an array by one field for each leaf of it. The name of a leaf
+    /// joins the names on its path by the separator. A record without maps and arrays is left as it is,
+    /// without an allocation.
     pub fn flatten(&mut self, separator: &[u8]) -> Result<(), NoMemory>
         ensures { self.new ≡ (if is_ok result then flat separator.now self.old else self.old) }
     {
@@ -55,7 +57,7 @@ fn flattened(from: &Record, separator: &[u8]) -> Result<Record, NoMemory>
     Ok(into)
 }
 
-/// Puts the leaves of all fields into an empty record.
+/// Sets the leaves of all fields in an empty record.
 fn put_fields(
     from: &Record,
     separator: &[u8],
@@ -72,7 +74,7 @@ fn put_fields(
     Ok(())
 }
 
-/// Puts the leaves of a value of this name.
+/// Sets the leaves of a value of this name.
 #[cycle(leaves)]
 fn put_leaves(
     name: &[u8],
@@ -103,14 +105,14 @@ fn put_leaves(
     }
 }
 
-/// Puts a field of this text.
+/// Sets a field of this text.
 fn put_text(name: &[u8], text: &[u8], into: &mut Record, alloc: Global) -> Result<(), NoMemory>
     ensures { OnOk result (into.new ≡ put_at name.now (string text.now) into.old) }
 {
     into.put(name, Value::Str(Bytes::copy_of(alloc, text)?))
 }
 
-/// Puts the leaves of a map's values.
+/// Sets the leaves of a map's values.
 #[cycle(leaves)]
 fn put_pairs(
     name: &[u8],
@@ -130,7 +132,7 @@ fn put_pairs(
     Ok(())
 }
 
-/// Puts the leaves of an array's items, which are named by their positions from 1 on.
+/// Sets the leaves of an array's items, which are named by their positions from 1 on.
 #[cycle(leaves)]
 fn put_items(
     name: &[u8],

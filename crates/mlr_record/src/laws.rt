@@ -1,3 +1,4 @@
+//! A law of flattening.
 ghost use Rattle.std.specs.Prelude.{◌≡◌, ℕ, List};
 ghost use Rattle.mlr_spec.specs.Flatten.{flat, unflat};
 ghost use Rattle.mlr_spec.specs.Tree.{Tree};

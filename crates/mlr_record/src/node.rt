@@ -1,3 +1,4 @@
+//! The nodes of a record that is being unflattened.
 ghost use Rattle.std.specs.Prelude.{◌≡◌, ◌<◌, ◌++◌, ◌∷◌, None, [], true, length, vec_len, OnOk, Some, slice_get};
 ghost use Rattle.std.specs.Option.{unwrap_or};
 ghost use Rattle.mlr_spec.specs.Pairs.{value_at, put_at, keys_of, are_distinct};
@@ -12,20 +13,20 @@ use std::alloc::Global;
 use std::marker::Model;
 use std::mem;
 
-/// What stands at the end of a path.
+/// The end of a path.
 #[derive(Drop)]
 pub enum Leaf<'a> {
     /// The value of a field.
     Represents(&'a Value),
-    /// A map without pairs, which the text `{}` stands for.
+    /// A map without pairs, which the text `{}` represents.
     NoPairs,
-    /// An array without items, which the text `[]` stands for.
+    /// An array without items, which the text `[]` represents.
     NoItems,
-    /// No value: where a path goes on that no other path has made.
+    /// No value: where a path continues that no other path has made.
     Nothing,
 }
 
-/// What stands at a place while a record is unflattened: a value, or a map that the paths made.
+/// A place of a record that is being unflattened: a value, or a map made by paths.
 #[cycle(node)]
 #[derive(Drop)]
 pub enum Node<'a> {
@@ -98,7 +99,8 @@ impl<'a> Nodes<'a> {
         (child.name, &child.node)
     }
 
-    /// The node of this name, taken out of its place to be put there again; an absent value where there is none.
+    /// The node of this name, taken out of its place to be set there again; an absent value where there is
+    /// none.
     pub fn take(&mut self, name: &[u8]) -> Node<'a>
         ensures taken { node_of result ≡ unwrap_or (value_at name.now self.old) (leaf absent) }
         ensures left { (node : SpecNode)
@@ -126,7 +128,7 @@ impl<'a> Nodes<'a> {
         }
     }
 
-    /// Puts a node last whose name isn't there. It makes no search.
+    /// Appends a node whose name isn't there. It makes no search.
     pub fn push(&mut self, name: &'a [u8], node: Node<'a>) -> Result<(), NoMemory>
         requires { value_at name.now self.old ≡ None }
         ensures { OnOk result (self.new ≡ self.old ++ (name.now, node_of node.entry) ∷ []) }

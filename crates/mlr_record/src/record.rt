@@ -1,3 +1,4 @@
+//! Records: fields in order, with distinct names.
 ghost use Rattle.std.specs.Prelude.{◌≡◌, ◌<◌, ◌++◌, ◌∷◌, true, ℕ, List, [], length, set, if◌then◌else◌, is_ok, IfOk, OnOk, map, slice_get, is_some, vec_len, slice_index_or, remove};
 ghost use Rattle.std.specs.List.{zip};
 ghost use Rattle.std.specs.Option.{option_map};
@@ -122,7 +123,7 @@ impl Record {
         }
     }
 
-    /// Puts a field last whose name the record doesn't have. It makes no search.
+    /// Appends a field whose name the record doesn't have. It makes no search.
     #[inline(always)]
     pub fn push(&mut self, key: &[u8], value: Value) -> Result<(), NoMemory>
         requires { value_at key.now self.old ≡ None }
@@ -163,7 +164,7 @@ impl Record {
         fields
     }
 
-    /// Gives the field at this place another value, and answers the one that it had. It takes no memory.
+    /// Sets the value of the field at this place, and returns the earlier one. It doesn't allocate.
     pub fn replace(&mut self, place: usize, value: Value) -> Value
         requires { place < length self.old }
         ensures had { (pair : List ℕ × Tree)
@@ -206,7 +207,7 @@ impl Record {
         }
     }
 
-    /// Puts a field first; a field of this name that is there is taken out.
+    /// Inserts a field at the start; a field of this name that is there is removed.
     pub fn put_first(&mut self, key: &[u8], value: Value) -> Result<(), NoMemory>
         ensures { self.new ≡ (if is_ok result then (key.now, tree_of value)
             ∷ remove_at key.now self.old else self.old) }
@@ -241,7 +242,7 @@ impl Record {
 
 const FIRST_ROOM: usize = 8;
 
-/// Puts fields of these names and values behind others.
+/// Appends fields of these names and values.
 fn put_values(
     alloc: Global,
     names: &[Bytes],
@@ -261,7 +262,7 @@ fn put_values(
     Ok(())
 }
 
-/// Puts copies of all fields into an empty record.
+/// Appends copies of all fields to an empty record.
 fn copy_fields(from: &Record, into: &mut Record, alloc: Global) -> Result<(), NoMemory>
     requires { into.old ≡ [] }
     ensures { OnOk result (into.new ≡ from.now) }

@@ -1,3 +1,4 @@
+//! Texts split at a separator.
 ghost use Rattle.std.specs.Prelude.{◌≡◌, ◌+◌, ◌<◌, ◌≤◌, ◌∷◌, ℕ, length, IfSome};
 ghost use Rattle.std.specs.Option.{option_map};
 ghost use Rattle.memchr.specs.Find.{IsFirstByte, Passes, is_byte};
@@ -50,8 +51,8 @@ fn far_place(byte: u8, text: &[u8], from: usize) -> Option<usize>
     }
 }
 
-/// The part of the text before the first separator, and what stands behind that separator, where the next part begins.
-/// It takes no memory.
+/// The part of the text before the first separator, and the text after that separator, where the next part
+/// begins. It doesn't allocate.
 #[inline(always)]
 pub fn next_part<'t>(separator: &[u8], text: &'t [u8]) -> (&'t [u8], Option<&'t [u8]>)
     requires { 0 < length separator.now }

@@ -13,9 +13,9 @@ enum Call {
     Put(&'static str, &'static str),
     PutFirst(&'static str, &'static str),
     Push(&'static str, &'static str),
-    /// Puts the value `{b:1,c:[2,{}]}` under a name.
+    /// Sets the value `{b:1,c:[2,{}]}` under a name.
     Nest(&'static str),
-    /// Puts a text under a name of this many times `a.`.
+    /// Sets a text under a name of this many times `a.`.
     PutLong(usize, &'static str),
     FindLong(usize, Option<usize>),
     Find(&'static str, Option<usize>),
@@ -232,7 +232,7 @@ const CALLS: [(&str, &[Call], &str); 40] = [
         &[Unflatten("."), Shows("a={2},z=0,"), Flatten(".")],
         "a.b=2,a.0=3,z=0,",
     ),
-    // A path goes on in a map.
+    // A path continues in a map.
     (
         "a=,a.b=3,a.d=4",
         &[Nest("a"), Unflatten("."), Flatten(".")],
@@ -240,7 +240,7 @@ const CALLS: [(&str, &[Call], &str); 40] = [
     ),
     // The places of an array begin at 1.
     ("a.0=5,a.1=6,b.2=7", &[Unflatten(".")], "a={2},b={1},"),
-    // A path of more than 200 parts is left.
+    // A path of more than 200 parts is kept.
     (
         "",
         &[

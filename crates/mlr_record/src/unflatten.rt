@@ -1,3 +1,4 @@
+//! Fields are put back into the maps and arrays that their names spell.
 ghost use Rattle.std.specs.Prelude.{◌≡◌, ◌<◌, [], true, length, map, if◌then◌else◌, is_ok, IfOk, OnOk};
 ghost use Rattle.std.specs.List.{list_any};
 ghost use Rattle.std.specs.Option.{option_map};
@@ -21,13 +22,13 @@ use mlr_spec::NoMemory;
 use mlr_value::{ArrayValue, Bytes, MapValue, Value};
 use std::alloc::Global;
 
-/// How many names a path may have. A name that spells a longer one is left as it is.
+/// How many names a path may have. A name that spells a longer one is kept whole.
 const LONGEST_PATH: usize = 200;
 
 impl Record {
-    /// Puts each value at the path that its name spells, where the separator parts the names on the path. A map that
-    /// is made so and has the keys 1, 2, 3 and so on becomes an array. A record without such names and without the
-    /// texts `{}` and `[]` is left as it is without memory.
+    /// Sets each value at the path that its name spells, where the separator parts the names on the path. A
+    /// map that is made so and has the keys 1, 2, 3 and so on becomes an array. A record without such names
+    /// and without the texts `{}` and `[]` is left as it is, without an allocation.
     pub fn unflatten(&mut self, separator: &[u8]) -> Result<(), NoMemory>
         requires { 0 < length separator.now }
         ensures { self.new ≡ (if is_ok result then unflat separator.now self.old else self.old) }
@@ -38,9 +39,9 @@ impl Record {
         Ok(())
     }
 
-    /// Does the same to the named fields alone: those of which the part before the first separator, or the whole name
-    /// where there is none, is among the names. Any other field stays as it is in its place, with the text `{}` or `[]`
-    /// too. A record in which no field changes is left as it is without memory.
+    /// Does the same to the named fields alone: those of which the part before the first separator, or the
+    /// whole name where there is none, is among the names. Any other field is kept in its place, with the
+    /// text `{}` or `[]` too. A record in which no field changes is left as it is, without an allocation.
     pub fn unflatten_named(&mut self, separator: &[u8], names: &[Bytes]) -> Result<(), NoMemory>
         requires { 0 < length separator.now }
         ensures { self.new ≡ (if is_ok result then unflat_named separator.now names.now self.old
@@ -118,7 +119,7 @@ fn represents_collection(value: &Value) -> bool
     }
 }
 
-/// The value at the end of its path: an empty map or array where its text stands for one.
+/// The value at the end of its path: an empty map or array where its text represents one.
 fn end_of<'a>(value: &'a Value) -> Leaf<'a>
     ensures { tree_at_end result ≡ with_collection (tree_of value.now) }
 {
@@ -145,7 +146,7 @@ fn unflattened(from: &Record, separator: &[u8]) -> Result<Record, NoMemory>
     Ok(into)
 }
 
-/// Puts the values of all fields at their paths.
+/// Sets the values of all fields at their paths.
 fn put_fields<'a>(
     from: &'a Record,
     separator: &[u8],
@@ -176,7 +177,7 @@ fn unflattened_named(from: &Record, separator: &[u8], names: &[Bytes]) -> Result
     Ok(into)
 }
 
-/// Puts the values of the named fields at their paths, and the others under their names.
+/// Sets the values of the named fields at their paths, and the others under their names.
 fn put_named_fields<'a>(
     from: &'a Record,
     separator: &[u8],
@@ -196,7 +197,7 @@ fn put_named_fields<'a>(
     Ok(())
 }
 
-/// Puts the value of a field at the path that the name spells if it is named, else under the name.
+/// Sets the value of a field at the path that the name spells if it is named, else under the name.
 fn put_if_named<'a>(
     name: &'a [u8],
     value: &'a Value,
@@ -216,7 +217,7 @@ fn put_if_named<'a>(
     }
 }
 
-/// Puts the value of a field at the path that the name spells.
+/// Sets the value of a field at the path that the name spells.
 fn put_field<'a>(
     name: &'a [u8],
     value: &'a Value,
@@ -238,7 +239,7 @@ fn put_field<'a>(
     }
 }
 
-/// Puts a value at the path that begins with this name and goes on with the rest.
+/// Sets a value at the path of this name and the rest.
 #[cycle(paths)]
 fn put_child<'a>(
     name: &'a [u8],
@@ -259,7 +260,7 @@ fn put_child<'a>(
     into.put(name, node)
 }
 
-/// A node with a value put at a path in it.
+/// A node with a value set at a path in it.
 #[cycle(paths)]
 fn put_path<'a>(
     path: Option<&'a [u8]>,
@@ -282,7 +283,7 @@ fn put_path<'a>(
     Ok(Node::Made(nodes))
 }
 
-/// The nodes in which a path goes on. A value that is no map is in its way, and there are none.
+/// The nodes in which a path continues. A value that is no map is in its way, and there are none.
 fn children_of<'a>(node: Node<'a>, alloc: Global) -> Result<Nodes<'a>, NoMemory>
     ensures { IfOk result (λ nodes. nodes_of nodes ≡ children_of (node_of node.entry)) }
 {
@@ -302,7 +303,7 @@ fn leaves_in<'a>(map: &'a MapValue, alloc: Global) -> Result<Nodes<'a>, NoMemory
     Ok(nodes)
 }
 
-/// Puts the values of a map as nodes where there are none.
+/// Appends the values of a map as nodes where there are none.
 fn push_leaves<'a>(map: &'a MapValue, into: &mut Nodes<'a>) -> Result<(), NoMemory>
     requires { into.old ≡ [] }
     ensures { OnOk result (into.new ≡ ends map.now) }
@@ -314,7 +315,7 @@ fn push_leaves<'a>(map: &'a MapValue, into: &mut Nodes<'a>) -> Result<(), NoMemo
     Ok(())
 }
 
-/// Puts the finished nodes into a record without fields.
+/// Appends the finished nodes to a record without fields.
 fn finish_fields(nodes: &Nodes<'_>, into: &mut Record, alloc: Global) -> Result<(), NoMemory>
     requires { into.old ≡ [] }
     ensures { OnOk result (into.new ≡ finished_pairs (nodes_of nodes.now)) }
@@ -378,7 +379,7 @@ fn is_position(name: &[u8], position: usize) -> bool
     Buffer::new().format(position).as_bytes() == name
 }
 
-/// Puts the finished nodes into an array without items.
+/// Appends the finished nodes to an array without items.
 #[cycle(finish)]
 fn finish_items(nodes: &Nodes<'_>, into: &mut ArrayValue, alloc: Global) -> Result<(), NoMemory>
     requires { into.old ≡ [] }
@@ -390,7 +391,7 @@ fn finish_items(nodes: &Nodes<'_>, into: &mut ArrayValue, alloc: Global) -> Resu
     Ok(())
 }
 
-/// Puts the finished nodes into a map without pairs.
+/// Appends the finished nodes to a map without pairs.
 #[cycle(finish)]
 fn finish_pairs(nodes: &Nodes<'_>, into: &mut MapValue, alloc: Global) -> Result<(), NoMemory>
     requires { into.old ≡ [] }

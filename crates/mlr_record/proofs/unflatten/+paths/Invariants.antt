@@ -1,7 +1,7 @@
 use Rattle.std.proofs.Common.{ℕ, ◌+◌, ◌*◌, List, length, Option, None, Some, Bor}
 use Rattle.mlr_record.proofs.unflatten.+paths.Given as goal
 
--- how much of a path is left
+-- how long the rest of a path is
 abbrev left : Option (Bor (List ℕ)) → ℕ
 left None = 0
 left (Some text) = length text.now + 1
