@@ -18,7 +18,7 @@ number-of_four (a ∷ b ∷ []) h = absurd (omega arith)
 number-of_four (a ∷ b ∷ c ∷ []) h = absurd (omega arith)
 number-of_four (a ∷ b ∷ c ∷ d ∷ e ∷ t) h = absurd (omega arith)
 
--- a run from the front on, where the first byte passes
+-- a run from the start on, where the first byte passes
 pub prefix_len-within : (p : ℕ → Bool) (text : List ℕ) (n : ℕ) → 0 < length text → p (get_or text 0 0) ≡ true → n ≡ prefix_len p text → (1 ≤ n) × (n ≤ length text)
 prefix_len-within p [] n some first e = absurd (omega arith)
 prefix_len-within p (b ∷ text) n some first e =

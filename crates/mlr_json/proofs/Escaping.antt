@@ -22,7 +22,7 @@ escaped-plain b h =
     let letter = escape_letter-plain b (ltb-false b 32 low.0) (eqb-false b 34 low.1) (eqb-false b 92 parts.1) in
     rw (letter, low.0) refl
 
--- a text is its front without escapes, and what comes from the first escape on
+-- a text is its prefix without escapes, and what comes from the first escape on
 pub flat_map_escaped-split : (text : List ℕ) → flat_map escaped text ≡ take (position_or_len is_escaped text) text ++ flat_map escaped (drop (position_or_len is_escaped text) text)
 flat_map_escaped-split [] = refl
 flat_map_escaped-split (b ∷ text) =

@@ -1,4 +1,4 @@
--- The machine reads the grammar: what its frames and its phase stand for, and where each token leads.
+-- The machine reads the grammar: what its frames and its phase represent, and where each token leads.
 use Rattle.std.proofs.Common.{◌≡◌, ℕ, ◌+◌, ◌≤◌, Bool, true, false, cond, List, [], ◌∷◌, ◌++◌, map, length, refl, ap, ap₂, sym, subst, ◌∙◌, append_assoc}
 use Rattle.std.proofs.lemmas.List.{append-nil, map-append}
 use Rattle.std.specs.List.{flat_map}
@@ -30,7 +30,7 @@ valued members = map (λ m. (m.0, value_of m.1)) members
 abbrev pub member_text : List ℕ × Syntax → List Token
 member_text member = text_token member.0 ∷ sign Colon ∷ tokens_in member.1
 
--- each with a comma behind it
+-- each with a comma after it
 abbrev pub each_item : List Syntax → List Token
 each_item items = flat_map (λ item. tokens_in item ++ sign Comma ∷ []) items
 
@@ -61,7 +61,7 @@ pub pairs-of : (members : List (List ℕ × Syntax)) → pairs_of (members_of me
 pairs-of [] = refl
 pairs-of (a ∷ members) = ap (λ t. (a.0, value_of a.1) ∷ t) (pairs-of members)
 
--- tokens behind which a value is awaited within these frames, the innermost first
+-- tokens after which a value is awaited within these frames, the innermost first
 abbrev pub Awaits : List Frame → List Token → Type 0
 Awaits [] tokens = tokens ≡ []
 Awaits (Array items ∷ frames) tokens =
@@ -75,7 +75,7 @@ Awaits (Map pairs key ∷ frames) tokens =
 abbrev pub IsIn : List Frame → List Token → List Token → List Token → Type 0
 IsIn frames before inner tokens = Awaits frames before × (tokens ≡ before ++ inner)
 
--- tokens that frames and a phase stand for
+-- tokens that frames and a phase represent
 abbrev pub Represents : List Frame → Phase → List Token → Type 0
 Represents frames phase.Value tokens = Awaits frames tokens
 Represents [] phase.FirstItem tokens = ⊥

@@ -29,7 +29,7 @@ leads-run frames at before (t ∷ tokens) h =
     on-step (whole value) xs (y ∷ ys) later h = tt
     on-step wrong xs ys later h = tt
 
--- the level behind a step
+-- the level after a step
 abbrev LevelAt : Step → List Token → Type 0
 LevelAt (on frames at) tokens = count_by is_opening tokens ≡ count_by is_closing tokens + length frames
 LevelAt (whole value) tokens = count_by is_opening tokens ≡ count_by is_closing tokens + 0
@@ -63,7 +63,7 @@ level-run frames at before (t ∷ tokens) h =
     on-step (whole value) xs (y ∷ ys) later h = tt
     on-step wrong xs ys later h = tt
 
--- the outcome behind tokens that were passed
+-- the outcome after tokens that were passed
 abbrev outcome_at : ℕ → Step → List (ℕ × Token) → Option ℕ → Outcome
 outcome_at end (on frames at) tokens stop = outcome_from end frames at tokens stop
 outcome_at end (whole value) tokens stop = outcome_after value tokens stop

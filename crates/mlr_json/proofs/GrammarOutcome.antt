@@ -17,7 +17,7 @@ use Rattle.mlr_json.specs.Machine.{Step, on, whole, wrong, with_value, with_key,
 use Rattle.mlr_json.proofs.Grammar.{Represents, Leads, leads}
 use Rattle.mlr_json.proofs.GrammarRuns.{begins-prefix, represents-begins, whole_then, run, run_on, run-cons, run-whole}
 
--- ---- how deep the frames stand
+-- ---- how many frames there are
 
 abbrev pub one_if : Bool → ℕ
 one_if b = cond b 1 0
@@ -198,7 +198,7 @@ few-frames : (before : List (ℕ × Token)) (frames : List Frame) (at : Phase) �
 few-frames before frames at h =
     subst (λ n. n ≤ 100) (ap level_of (take-length (bare before)) ∙ level-frames before frames at h) (h.shallow (length (bare before)))
 
--- the level behind one more token
+-- the level after one more token
 pub level-push : (before : List (ℕ × Token)) (frames : List Frame) (at : Phase) (t : Token) (n : ℕ) → Reads before frames at
     → n + one_if (is_closing t) ≡ length frames + one_if (is_opening t)
     → count_by is_opening (bare before ++ t ∷ []) ≡ count_by is_closing (bare before ++ t ∷ []) + n

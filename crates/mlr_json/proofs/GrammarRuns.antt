@@ -1,4 +1,5 @@
--- Whole runs of the machine: what it stands for begins a value, and the tokens of a value lead it to that value.
+-- Whole runs of the machine: the tokens that it represents begin a value, and the tokens of a value lead it
+-- to that value.
 use Rattle.std.proofs.Common.{◌≡◌, ℕ, ◌+◌, ◌≤◌, Bool, true, false, cond, List, [], ◌∷◌, ◌++◌, map, length, refl, ap, ap₂, sym, subst, ◌∙◌, append_assoc}
 use Rattle.std.proofs.lemmas.List.{append-nil}
 use Rattle.mlr_spec.specs.declared.json.JsonMark.TheVariants.{BeginMap, EndMap, BeginArray, EndArray, Colon, Comma}
@@ -32,7 +33,7 @@ awaits-begins (Map pairs key ∷ frames) tokens s h =
     ∙ sym (ap (λ t. (t ++ tokens_in s) ++ sign EndMap ∷ []) h.4 ∙ simp append_assoc) in
     begins-prefix (tokens ++ tokens_in s) (sign EndMap ∷ []) (subst Begins whole (awaits-begins frames h.0 bigger h.2))
 
--- a front of a value that is awaited
+-- a prefix of a value that is awaited
 prefix-begins : (frames : List Frame) (before tokens inner rest : List Token) (s : Syntax) → Awaits frames before → tokens ≡ before ++ inner → tokens_in s ≡ inner ++ rest → Begins tokens
 prefix-begins frames before tokens inner rest s h is prefix =
     subst Begins (sym is)
@@ -69,7 +70,7 @@ represents-begins (Map pairs key ∷ frames) phase.Later tokens h =
     prefix-begins frames h.0 tokens (sign BeginMap ∷ each_member h.1 ++ member_text h.2) (sign EndMap ∷ []) (object (members_of (h.1 ++ h.2 ∷ []))) h.3.0 h.3.1
     (ap (λ t. sign BeginMap ∷ t ++ sign EndMap ∷ []) (members-tokens h.1 h.2))
 
--- behind a whole value no token may come
+-- after a whole value no token may come
 abbrev pub whole_then : Tree → List Token → Step
 whole_then value [] = whole value
 whole_then value (token ∷ tokens) = wrong

@@ -1,4 +1,4 @@
--- What is left of a text, lexeme by lexeme and token by token.
+-- The rest of a text, lexeme by lexeme and token by token.
 use Rattle.std.proofs.Common.{◌≡◌, ℕ, zero, suc, ◌+◌, ◌-◌, ◌==◌, ◌<◌, ◌≤◌, Bool, true, false, cond, nat_lt, nat_le, List, [], ◌∷◌, length, take, drop, Some, None, refl, ap, sym, subst, ◌∙◌, arith, add-one, length-drop}
 use Rattle.std.specs.List.{prefix_len, take_while}
 use Rattle.std.proofs.lemmas.Bool.{cond_both, leb-true}
@@ -48,7 +48,7 @@ left-prefix : (inside : Bool) (end : ℕ) (text : List ℕ) → lexemes_left ins
 unfolding lexemes_left
 left-prefix inside end text = rw add-one (from-prefix (length text) inside (end - length text) text)
 
--- one lexeme of what is left
+-- one lexeme of the rest
 pub left-found : (inside : Bool) (end : ℕ) (text : List ℕ) (l : Lexeme) (len : ℕ) → length text ≤ end → first_lexeme inside text ≡ found l len →
     lexemes_left inside end text ≡ and_lexeme (end - length text) l (lexemes_left (is_inside inside l) end (drop len text))
 unfolding lexemes_left
@@ -61,7 +61,7 @@ left-found inside end text l len fits is =
     ∙ ap (λ p. and_lexeme (end - length text) l (lexemes_from (length text) i p (drop len text))) next
     ∙ ap (and_lexeme (end - length text) l) (lexemes-enough (length text) (length (drop len text) + 1) i (end - length (drop len text)) (drop len text) (omega (arith, within.0, within.1, length-drop len text)) (omega arith))
 
--- where the front is no lexeme: within a string and outside
+-- where the text begins with no lexeme: within a string and outside
 module _ (end : ℕ) (text : List ℕ) (fits : length text ≤ end) where
   pub inside-begun : lexeme_inside text ≡ begun → inside_left end text ≡ stopped (Some (end - 0))
   inside-begun is =

@@ -1,4 +1,4 @@
--- A lexeme at the front of a text, and bytes behind it.
+-- A lexeme at the start of a text, and bytes after it.
 use Rattle.std.proofs.Common.{◌≡◌, ℕ, zero, suc, ◌+◌, ◌<◌, ◌≤◌, Bool, true, false, cond, not, ◌||◌, ◌==◌, nat_lt, nat_le, eqb, List, [], ◌∷◌, ◌++◌, length, take, Option, Some, None, ◌⊎◌, inl, inr, refl, ap, ap₂, sym, subst, ◌∙◌, arith}
 use Rattle.std.specs.List.{prefix_len, take_while}
 use Rattle.std.proofs.lemmas.Bool.{cases_Bool, true≢false, eqb-true, leb-true, le-leb}
@@ -9,7 +9,7 @@ use Rattle.mlr_spec.specs.Infer.{number}
 use Rattle.mlr_spec.specs.JsonTokens.{Piece, raw, unit, Lexeme, blank, mark, word, quote, piece, Scanned, found, begun, bad, mark_of, is_blank, is_word_byte, is_hex, is_raw, escape_of, lexeme_unmarked, lexeme_outside, lexeme_of_unit, lexeme_of_escape, lexeme_inside, first_lexeme}
 use Rattle.mlr_json.specs.Stable.{is_run, StaysFound}
 
--- a run that ends before the text ends there with bytes behind it too
+-- a run that ends before the text ends there with more bytes after it too
 pub run-stays : (p : ℕ → Bool) (text more : List ℕ) → prefix_len p text < length text → prefix_len p (text ++ more) ≡ prefix_len p text
 run-stays p text more below =
     elim (cases_Bool (eqb (prefix_len p text) (length text))) [
@@ -29,7 +29,7 @@ shorter : (lexeme : Lexeme) (len : ℕ) (text : List ℕ) → is_run lexeme ≡ 
 shorter lexeme len text run (inl fixed) = absurd (true≢false (sym run ∙ fixed))
 shorter lexeme len text run (inr below) = below
 
--- the run that was found, with bytes behind it
+-- the run that was found, with more bytes after it
 run-found : (p : ℕ → Bool) (make : List ℕ → Lexeme) (text more : List ℕ) (lexeme : Lexeme) (len : ℕ) → ((t : List ℕ) → is_run (make t) ≡ true)
     → found (make (take_while p text)) (prefix_len p text) ≡ found lexeme len → RunOf lexeme len text
     → found (make (take_while p (text ++ more))) (prefix_len p (text ++ more)) ≡ found lexeme len
@@ -40,7 +40,7 @@ run-found p make text more lexeme len runs is run =
     let ends : prefix_len p text < length text = omega arith in
     ap₂ (λ t n. found (make t) n) (taken-stays p text more ends) (run-stays p text more ends) ∙ is
 
--- the front of a text by its first byte
+-- the start of a text by its first byte
 blank-prefix : (b : ℕ) (t : List ℕ) → is_blank b ≡ true → lexeme_unmarked (b ∷ t) ≡ found blank (prefix_len is_blank (b ∷ t))
 blank-prefix b t y =
     ap (λ v. cond v (found blank (prefix_len is_blank (b ∷ t))) (cond (b == 34) (found quote 1)

@@ -1,4 +1,4 @@
--- How the outcome goes on behind a token, and behind a whole value.
+-- How the outcome continues after a token, and after a whole value.
 use Rattle.std.proofs.Common.{◌≡◌, ℕ, ◌+◌, ◌-◌, ◌<◌, ◌≤◌, ltb, true, false, cond, List, [], ◌∷◌, length, drop, Option, Some, None, refl, ap, sym, subst, ◌∙◌, arith}
 use Rattle.std.proofs.lemmas.Bool.{le-ltb}
 use Rattle.std.proofs.lemmas.List.{length-reverse}
@@ -24,7 +24,7 @@ use Rattle.mlr_json.proofs.Left.{left-found, outside-begun, outside-bad}
 pub is-shallow : (machine : Machine) → length (frames_of machine) ≤ 100
 is-shallow machine = omega (arith, machine.is_shallow, machine.frames.ok.0, length-reverse machine.frames.items)
 
--- what a step leads to where the text is cut off behind it
+-- what a step leads to where the text is cut off after it
 abbrev cut_step : ℕ → ℕ → ℕ → Step → Outcome
 cut_step end place rest (on more next) = cond (ltb 100 (length more)) (deep place) (syntax rest)
 cut_step end place rest (whole value) = syntax rest
@@ -79,7 +79,7 @@ text-refused end (Map pairs key ∷ frames) phase.Key place text more takes = ab
 text-refused end frames phase.Colon place text more takes = refl
 text-refused end frames phase.Later place text more takes = refl
 
--- behind a whole value
+-- after a whole value
 module _ (end : ℕ) (value : Tree) (text : List ℕ) (fits : length text ≤ end) where
   pub following-begun : lexeme_outside text ≡ begun → after_at value (tokens_left end text) ≡ read value
   following-begun is = ap (after_at value) (outside-begun end text fits is)
@@ -111,20 +111,20 @@ module _ (end : ℕ) (value : Tree) (text : List ℕ) (fits : length text ≤ en
       by-lexeme quote h = absurd (let e : true ≡ false = h in cc)
       by-lexeme (piece p) h = refl
 
--- at first the whole text is left
+-- at first the whole text remains
 pub tokens_left-all : (text : List ℕ) → tokens_of plain text ≡ tokens_left (length text + 1) text
 unfolding lexemes_left
 tokens_left-all text =
     let first : 1 ≡ (length text + 1) - length text = omega arith in
     ap (λ p. tokens_outside plain (lexemes_from (length text + 1) false p text).lexemes (lexemes_from (length text + 1) false p text).stop) first
 
--- an answer that is the machine's outcome is what the grammar says
+-- a result that is the machine's outcome is what the grammar says
 pub answer-read : (text : List ℕ) (r : JsonRead) → IsAnswer (outcome_of (length text + 1) (tokens_of plain text)) r → IsRead text r
 answer-read text (answer.Ok value) is = subst (Says plain text) is (outcome-says plain text)
 answer-read text (answer.Syntax place) is = subst (Says plain text) is (outcome-says plain text)
 answer-read text (answer.Deep place) is = subst (Says plain text) is (outcome-says plain text)
 answer-read text answer.NoMemory is = tt
 
--- what the grammar says of a text is the answer
+-- what the grammar says of a text is the result
 pub answer-only : (text : List ℕ) (result : JsonRead) → IsAnswer (outcome_of (length text + 1) (tokens_of plain text)) result → (outcome : Outcome) → Says plain text outcome → IsAnswer outcome result
 answer-only text result is outcome says = subst (λ o. IsAnswer o result) (sym (outcome-only plain text outcome says)) is

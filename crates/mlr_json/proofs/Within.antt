@@ -1,4 +1,4 @@
--- How long a lexeme at the front of a text is.
+-- How long a lexeme at the start of a text is.
 use Rattle.std.proofs.Common.{ℕ, ◌+◌, ◌==◌, ◌≡◌, ◌≤◌, Bool, true, false, cond, nat_lt, nat_le, List, [], ◌∷◌, length, take, Some, None, refl, arith}
 use Rattle.std.specs.List.{prefix_len, take_while}
 use Rattle.std.proofs.lemmas.Bool.{cond_both, leb-true}

@@ -1,4 +1,4 @@
--- The texts of maps and arrays, put one part after another.
+-- The texts of maps and arrays, one part after another.
 use Rattle.std.proofs.Common.{◌≡◌, ℕ, zero, suc, ◌+◌, ◌==◌, Bool, true, false, ◌&&◌, List, [], ◌∷◌, ◌++◌, map, drop, length, codes, Some, None, slice_get, Result, Ok, Err, is_ok, OnOk, if◌then◌else◌, refl, ap, sym, ◌∙◌, append_assoc, arith, add-one}
 use Rattle.std.specs.List.{list_any}
 use Rattle.std.proofs.lemmas.Bool.{ne_eqb}
@@ -52,7 +52,7 @@ any-next p xs place x at fails = rw (drop-at xs place x at, fails, add-one) refl
 pub any-here : {A : Type 0} → (p : A → Bool) (xs : List A) (place : ℕ) (x : A) → slice_get xs place ≡ Some x → p x ≡ true → list_any p (drop place xs) ≡ true
 any-here p xs place x at passes = rw (drop-at xs place x at, passes) refl
 
--- what is left behind one text more
+-- what remains after one text more
 pub all-next : {A : Type 0} → (lines : Bool) (level : ℕ) (f : A → List ℕ) (xs : List A) (place : ℕ) (x : A) (into after_gap new all : List ℕ) → slice_get xs place ≡ Some x →
     into ++ led lines (place == 0) level (map f (drop place xs)) ≡ all → after_gap ≡ into ++ gap lines (place == 0) level → new ≡ after_gap ++ f x →
     new ++ led lines (place + 1 == 0) level (map f (drop (place + 1) xs)) ≡ all
@@ -92,6 +92,6 @@ array-written style lines level items into a b c some lines_is a_is b_is c_is =
     rw (items_in-trees_of items, ← lines_is, c_is, b_is, a_is, json_items-map style (level + 1) items)
     (bracketed-parts lines level 91 93 _ into (map (json_at style (level + 1)) items) (λ e. some (sym (length-map items (json_at style (level + 1))) ∙ e)) refl)
 
--- what an old text stands before, it stands before with more behind
+-- what precedes an old text still precedes it with more after it
 pub prefix-next : (old a b c x y : List ℕ) → RepresentsBefore old a → b ≡ a ++ x → c ≡ b ++ y → RepresentsBefore old c
 prefix-next old a b c x y prefix b_is c_is = (prefix.0 ++ x ++ y, rw (c_is, b_is, prefix.1, append_assoc old prefix.0 x, append_assoc old (prefix.0 ++ x) y) refl)

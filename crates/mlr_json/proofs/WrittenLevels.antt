@@ -1,4 +1,4 @@
--- The tokens of a value stand as deep as its maps and arrays.
+-- The tokens of a value are as deep as its maps and arrays.
 use Rattle.std.proofs.Common.{◌≡◌, ℕ, zero, suc, ◌+◌, ◌-◌, ◌<◌, ◌≤◌, Bool, true, false, cond, List, [], ◌∷◌, ◌++◌, length, take, refl, ap, sym, subst, ◌∙◌, append_assoc, arith, zero-add}
 use Rattle.std.specs.List.{count_by, sum_by}
 use Rattle.std.proofs.lemmas.List.{append-nil}
@@ -12,7 +12,7 @@ use Rattle.mlr_value.specs.Depth.{depth, fields_depth, trees_depth}
 use Rattle.mlr_json.proofs.GrammarOutcome.{one_if}
 use Rattle.mlr_json.proofs.WrittenValues.{syntax_of, members_of, elements_of}
 
--- the level behind a token
+-- the level after a token
 abbrev moved : ℕ → Token → ℕ
 moved level t = level + one_if (is_opening t) - one_if (is_closing t)
 
@@ -113,7 +113,7 @@ mutual
       keeps-cons level most (sign Comma) (tokens_in (syntax_of item) ++ later_elements (elements_of more)) refl refl
       (keeps-append level most (tokens_in (syntax_of item)) (later_elements (elements_of more)) (value-keeps item level most (omega arith)) (later_elements-keep more level most (omega arith))) (omega arith)
 
--- ---- the level of each front
+-- ---- the level of each prefix
 
 count-cons : (p : Token → Bool) (t : Token) (tokens : List Token) → count_by p (t ∷ tokens) ≡ one_if (p t) + count_by p tokens
 count-cons p t tokens = sum_by-append (λ x. cond (p x) 1 0) (t ∷ []) tokens ∙ ap (λ n. n + count_by p tokens) (zero-add (one_if (p t)))

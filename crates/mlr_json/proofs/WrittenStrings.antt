@@ -10,7 +10,8 @@ use Rattle.mlr_spec.specs.JsonTokens.{Piece, raw, unit, Lexeme, blank, mark, wor
 use Rattle.mlr_json.specs.Escapes.{is_escaped}
 use Rattle.mlr_json.proofs.Escaping.{escaped-plain}
 
--- a text goes on with these lexemes up to the rest; `inside` and `after` say whether a string is open before and behind them
+-- a text continues with these lexemes up to the rest; `inside` and `after` say whether a string is open
+-- before and after them
 abbrev pub Lexes : Bool → List ℕ → List Lexeme → Bool → List ℕ → Type 0
 Lexes inside t [] after rest = (t ≡ rest) × (inside ≡ after)
 Lexes inside t (l ∷ lexemes) after rest = (len : ℕ) × (first_lexeme inside t ≡ found l len) × (0 < len) × Lexes (is_inside inside l) (drop len t) lexemes after rest
@@ -19,7 +20,7 @@ pub lexes-append : (lexemes more : List Lexeme) (a b c : Bool) (t rest end : Lis
 lexes-append [] more a b c t rest end h k = subst (λ x. Lexes a x more c end) (sym h.0) (subst (λ x. Lexes x rest more c end) (sym h.1) k)
 lexes-append (l ∷ lexemes) more a b c t rest end h k = (h.0, h.1, h.2, lexes-append lexemes more (is_inside a l) b c (drop h.0 t) rest end h.3 k)
 
--- a byte that stands for itself begins a run
+-- a byte that represents itself begins a run
 prefix-raw : (b : ℕ) (t : List ℕ) → is_raw b ≡ true → lexeme_inside (b ∷ t) ≡ found (piece (raw (take_while is_raw (b ∷ t)))) (prefix_len is_raw (b ∷ t))
 unfolding lexeme_inside
 prefix-raw b t h =
@@ -33,7 +34,7 @@ WrittenPieces text rest = (pieces : List Piece) × Lexes true (flat_map escaped 
 run-length : (b : ℕ) (t : List ℕ) → is_raw b ≡ true → prefix_len is_raw (b ∷ t) ≡ suc (prefix_len is_raw t)
 run-length b t h = rw h (one-add (prefix_len is_raw t))
 
--- one more byte before a string, which stands for itself
+-- one more byte before a string, which represents itself
 module _ (b : ℕ) (text rest : List ℕ) (plain : is_raw b ≡ true) where
   abbrev following : List ℕ
   following = flat_map escaped text ++ 34 ∷ rest
@@ -52,7 +53,7 @@ module _ (b : ℕ) (text rest : List ℕ) (plain : is_raw b ≡ true) where
       let prefix : lexeme_inside (b ∷ following) ≡ found (piece (raw (b ∷ []))) 1 = run-prefix ∙ ap (λ n. found (piece (raw (b ∷ take n following))) (suc n)) none in
       (raw (b ∷ []) ∷ pieces, (1, prefix, omega arith, lexes), ap (λ t. b ∷ t) is)
 
-  -- before a byte that goes on with it
+  -- before a byte that continues it
   run-longer : (pieces : List Piece) → Lexes true following (map piece pieces ++ quote ∷ []) false rest → decoded pieces ≡ text
       → lexeme_inside following ≡ found (piece (raw (take (prefix_len is_raw following) following))) (prefix_len is_raw following) → Longer
   run-longer [] lexes is prefix = absurd (let e : found quote lexes.0 ≡ found (piece (raw (take (prefix_len is_raw following) following))) (prefix_len is_raw following) = sym lexes.1 ∙ prefix in cc)

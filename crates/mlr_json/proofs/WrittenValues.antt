@@ -56,7 +56,7 @@ between_commas [] = []
 between_commas (ts ∷ []) = ts
 between_commas (ts ∷ us ∷ more) = ts ++ sign Comma ∷ between_commas (us ∷ more)
 
--- a comma and what stands between it and the next text
+-- a comma and what is between it and the next text
 record Separates (separator : List ℕ) : Type 0 where
   comma : (rest : List ℕ) → is_filled rest ≡ true → Reads (separator ++ rest) (sign Comma ∷ []) rest
   ends : (rest : List ℕ) → ends_word (separator ++ rest) ≡ true

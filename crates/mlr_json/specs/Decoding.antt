@@ -8,6 +8,7 @@ abbrev pub pending : Option ℕ → List Piece
 pending None = []
 pending (Some u) = unit u ∷ []
 
--- whatever comes behind these pieces, their text is the text so far, and that of the unit that waits and what comes
+-- whatever follows these pieces, the text of all is the text so far, then that of the unit that waits and of
+-- what follows
 pub record Holds (builder : StringBuilder) (pieces : List Piece) : Type 0 where
   pub decodes : (rest : List Piece) → decoded (pieces ++ rest) ≡ builder.text ++ decoded (pending builder.high ++ rest)

@@ -44,7 +44,7 @@ with_key key [] = wrong
 with_key key (Array items ∷ frames) = wrong
 with_key key (Map pairs last ∷ frames) = on (Map pairs key ∷ frames) phase.Colon
 
--- the end of a map, where it may stand
+-- the end of a map, where it is allowed
 abbrev pub map_ended : List Frame → Phase → Step
 map_ended [] at = wrong
 map_ended (Array items ∷ frames) at = wrong
@@ -107,13 +107,13 @@ pub data Outcome : Type 0 where
   syntax : ℕ → Outcome
   deep : ℕ → Outcome
 
--- behind a whole value only blanks may stand
+-- after a whole value only blanks are allowed
 abbrev pub outcome_after : Tree → List (ℕ × Token) → Option ℕ → Outcome
 outcome_after value ((place, token) ∷ tokens) stop = syntax place
 outcome_after value [] (Some place) = syntax place
 outcome_after value [] None = read value
 
--- where the tokens end within a value: at a byte that can't stand there, or at the end of the text
+-- where the tokens end within a value: at a byte that isn't allowed there, or at the end of the text
 abbrev pub outcome_cut : ℕ → Option ℕ → Outcome
 outcome_cut end (Some place) = syntax place
 outcome_cut end None = syntax end

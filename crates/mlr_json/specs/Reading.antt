@@ -1,5 +1,5 @@
--- What is left of a text as tokens. Places count from 1, and the whole text ends before the place `end`, so what is left
--- stands at `end - length left`.
+-- The rest of a text as tokens. Places count from 1, and the whole text ends before the place `end`, so the
+-- rest begins at `end - length left`.
 use Rattle.std.specs.Prelude.{◌≡◌, ℕ, ◌+◌, ◌-◌, ◌<◌, ◌≤◌, Bool, true, false, List, [], ◌∷◌, length, Option, Some, None}
 use Rattle.mlr_spec.specs.JsonTokens.{Piece, raw, unit, Lexeme, blank, mark, word, quote, piece, Lexemes, and_lexeme, is_inside, lexemes_from, Token, sign, text_token, word_token, Tokens, and_token, decoded, pieces_in, tokens_outside, tokens_inside}
 use Rattle.mlr_value.specs.Value.{tree_of}
@@ -13,7 +13,7 @@ use Rattle.mlr_json.specs.declared.token.PieceAt.{PieceAt}
 use Rattle.mlr_json.specs.declared.token.PieceAt.TheVariants as at
 use Rattle.mlr_json.specs.Readable.{plain}
 
--- the lexemes of what is left, within a string or outside
+-- the lexemes of the rest, within a string or outside
 unfoldable pub lexemes_left : Bool → ℕ → List ℕ → Lexemes
 lexemes_left inside end text = lexemes_from (length text + 1) inside (end - length text) text
 
@@ -28,7 +28,7 @@ inside_left end text = tokens_inside plain (lexemes_left true end text).lexemes 
 abbrev pub pieces_left : ℕ → List ℕ → List Piece
 pieces_left end text = pieces_in (lexemes_left true end text).lexemes
 
--- what is left begins with this lexeme, and goes on with this text
+-- the rest begins with this lexeme, and continues with this text
 abbrev pub IsFirst : Bool → ℕ → List ℕ → Lexeme → List ℕ → Type 0
 IsFirst inside end text lexeme following = lexemes_left inside end text ≡ and_lexeme (end - length text) lexeme (lexemes_left (is_inside inside lexeme) end following)
 
@@ -41,7 +41,7 @@ token_seen (read.Mark m) = sign m
 token_seen (read.Word value) = word_token (tree_of value)
 token_seen (read.Text text) = text_token text
 
--- what comes next is how these tokens begin, where so many bytes are left
+-- what comes next is how these tokens begin, where so many bytes remain
 abbrev pub Gives : ℕ → ℕ → Next → Tokens → Type 0
 Gives end left (next.Blank following) tokens = tokens ≡ tokens_left end following.now
 Gives end left (next.Token token following) tokens = tokens ≡ and_token (end - left) (token_seen token) (tokens_left end following.now)
@@ -50,7 +50,7 @@ Gives end left (next.Cut rest) tokens = (text : List ℕ) × (tokens ≡ and_tok
 Gives end left (next.Bad rest) tokens = tokens ≡ stopped (Some (end - rest))
 Gives end left next.End tokens = tokens ≡ stopped None
 
--- less is left behind what comes next, and no more at a fault
+-- less remains after what comes next, and no more at a fault
 abbrev pub IsShorter : ℕ → Next → Type 0
 IsShorter left (next.Blank following) = length following.now < left
 IsShorter left (next.Token token following) = length following.now < left

@@ -1,4 +1,4 @@
--- The types of the code as the definitions have them: lexemes, and what stands at the front of a text.
+-- The types of the code as the definitions have them: lexemes, and the start of a text.
 use Rattle.std.specs.Prelude.{◌≡◌, ℕ, ◌<◌, ◌≤◌, List, [], ◌∷◌, Option, MatchOption}
 use Rattle.std.specs.Borrow.{Bor}
 use Rattle.mlr_spec.specs.JsonTokens as text
@@ -21,12 +21,12 @@ lexeme_seen (Found l len) = text.found (lexeme_seen l) len
 lexeme_seen Begun = text.begun
 lexeme_seen (Bad offset) = text.bad offset
 
--- a lexeme has at least one byte, and no more than the text; a bad byte stands in the text
+-- a lexeme has at least one byte, and no more than the text; a bad byte is a byte of the text
 abbrev pub IsWithin : ℕ → Scanned → Type 0
 IsWithin n (Found l len) = (1 ≤ len) × (len ≤ n)
 IsWithin n Begun = Unit {0}
 IsWithin n (Bad offset) = offset < n
 
--- the byte of an escape, or none where its letter stands for none
+-- the byte of an escape, or none where its letter represents none
 abbrev pub EscapeIs : ℕ → Option (Bor (List ℕ)) → Type 0
 EscapeIs letter byte = MatchOption byte (escape_of letter ≡ 0) (λ b. (b.now ≡ escape_of letter ∷ []) × (1 ≤ escape_of letter))

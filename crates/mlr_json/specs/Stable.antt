@@ -1,4 +1,4 @@
--- What is found at the front of a text stays found when bytes follow.
+-- What is found at the start of a text stays found when bytes follow.
 use Rattle.std.specs.Prelude.{◌≡◌, ◌⊎◌, ℕ, ◌<◌, Bool, true, false, List, ◌++◌, length}
 use Rattle.mlr_spec.specs.JsonTokens.{Piece, raw, unit, Lexeme, blank, mark, word, quote, piece, found, first_lexeme}
 

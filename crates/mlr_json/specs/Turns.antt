@@ -1,4 +1,4 @@
--- How the outcome of a text goes on, token by token.
+-- How the outcome of a text continues, token by token.
 use Rattle.std.specs.Prelude.{◌≡◌, ℕ, ◌-◌, ◌<◌, ◌≤◌, Bool, true, false, List, length, Option, Some, None}
 use Rattle.mlr_spec.specs.Tree.{Tree}
 use Rattle.mlr_spec.specs.JsonTokens.{Lexeme, blank, mark, word, quote, piece, Tokens}
@@ -22,7 +22,7 @@ outcome_at end frames at tokens = outcome_from end frames at tokens.tokens token
 abbrev pub after_at : Tree → Tokens → Outcome
 after_at value tokens = outcome_after value tokens.tokens tokens.stop
 
--- an outcome is that of the machine and the text behind, or is settled
+-- an outcome is that of the machine and the rest of the text, or is settled
 abbrev pub IsTurn : ℕ → Outcome → Machine → Turn → Type 0
 IsTurn end outcome machine (turn.On following) = outcome ≡ outcome_at end (frames_of machine) machine.phase (tokens_left end following.now)
 IsTurn end outcome machine (turn.Whole value following) = outcome ≡ after_at (tree_of value) (tokens_left end following.now)
@@ -43,12 +43,12 @@ is_token (word text) = true
 is_token quote = true
 is_token (piece p) = false
 
--- the outcome behind a whole value
+-- the outcome after a whole value
 abbrev pub IsAfter : ℕ → Tree → Outcome → Option ℕ → Type 0
 IsAfter end value outcome None = outcome ≡ read value
 IsAfter end value outcome (Some rest) = outcome ≡ syntax (end - rest)
 
--- an answer is this outcome; without memory there is none
+-- a result is this outcome; where memory ran out there is none
 abbrev pub IsAnswer : Outcome → JsonRead → Type 0
 IsAnswer outcome (answer.Ok value) = outcome ≡ read (tree_of value)
 IsAnswer outcome (answer.Syntax place) = outcome ≡ syntax place

@@ -1,4 +1,4 @@
--- The texts between two brackets, each behind what separates it from the bracket or the text before it.
+-- The texts between two brackets, each after its separator from the bracket or the text before it.
 use Rattle.std.specs.Prelude.{ℕ, Bool, true, false, List, [], ◌∷◌, ◌++◌, codes}
 use Rattle.mlr_spec.specs.Ascii.{comma}
 use Rattle.mlr_spec.specs.Json.{new_line}

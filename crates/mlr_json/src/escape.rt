@@ -1,3 +1,4 @@
+//! Texts written as JSON strings, with escapes.
 ghost use Rattle.std.specs.Prelude.{◌≡◌, ◌<◌, ◌≤◌, ◌++◌, true, length, IfOk, OnOk, OnErr};
 ghost use Rattle.std.specs.List.{flat_map, position_or_len};
 ghost use Rattle.mlr_spec.specs.Json.{json_string, escaped, escape_letter, hex_digit};
@@ -6,8 +7,8 @@ ghost use Rattle.mlr_json.specs.Escapes.{is_escaped, RepresentsBefore};
 use mlr_spec::NoMemory;
 use mlr_value::Bytes;
 
-/// Puts a text as a JSON string behind `into`. Quotes, backslashes and the bytes below 0x20 are escaped; every
-/// other byte stands, also one that is no UTF-8. Without memory a front of it may have been put there.
+/// Appends a text as a JSON string. Quotes, backslashes and the bytes below 0x20 are escaped; every other
+/// byte is copied, also one that isn't UTF-8. Where memory runs out, a prefix of it may have been appended.
 #[inline]
 pub fn append_json_string(text: &[u8], into: &mut Bytes) -> Result<(), NoMemory>
     ensures ok { OnOk result (into.new ≡ into.old ++ json_string text.now) }
@@ -30,7 +31,7 @@ fn append_escaped(text: &[u8], into: &mut Bytes) -> Result<(), NoMemory>
     Ok(())
 }
 
-/// Copies what stands before the first byte that wants an escape, and escapes that byte. Answers what is left.
+/// Copies what precedes the first byte that needs an escape, and escapes that byte. Returns the rest.
 #[inline(always)]
 fn append_run<'a>(text: &'a [u8], into: &mut Bytes) -> Result<&'a [u8], NoMemory>
     requires { 0 < length text.now }
@@ -92,7 +93,7 @@ fn append_escape(byte: u8, into: &mut Bytes) -> Result<(), NoMemory>
     }
 }
 
-/// The letter behind the backslash, or 0 for a byte that is escaped by its number.
+/// The letter after the backslash, or 0 for a byte that is escaped by its number.
 fn letter_of(byte: u8) -> u8
     ensures { result ≡ escape_letter byte }
 {

@@ -1,6 +1,7 @@
+//! Open brackets, and what may follow them.
 use mlr_value::{ArrayValue, Bytes, MapValue};
 
-/// A bracket that is open, with what was read behind it.
+/// A bracket that is open, with what was read since.
 #[derive(Drop)]
 pub enum Frame {
     /// An array with its items so far.
@@ -9,7 +10,7 @@ pub enum Frame {
     Map(MapValue, Bytes),
 }
 
-/// What may come next behind the innermost open bracket, or at the start of a value.
+/// What may come next after the innermost open bracket, or at the start of a value.
 #[derive(Clone, Copy, Debug, PartialEq, Eq)]
 pub enum Phase {
     /// A value.
@@ -20,7 +21,7 @@ pub enum Phase {
     FirstKey,
     /// A key.
     Key,
-    /// The colon behind a key.
+    /// The colon after a key.
     Colon,
     /// A comma, or the end of the array or the map.
     Later,

@@ -1,3 +1,4 @@
+//! Laws of JSON texts.
 ghost use Rattle.std.specs.Prelude.{◌≤◌, ℕ, Bool, List};
 ghost use Rattle.mlr_spec.specs.declared.infer.InferOpts.{InferOpts};
 ghost use Rattle.mlr_spec.specs.declared.json.JsonStyle.{JsonStyle};

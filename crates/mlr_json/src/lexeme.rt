@@ -1,3 +1,4 @@
+//! The lexemes of a JSON text, byte by byte.
 ghost use Rattle.std.specs.Prelude.{◌≡◌, ◌+◌, ◌*◌, ◌<◌, ◌≤◌, ◌==◌, ◌&&◌, not, nat_lt, length, take};
 ghost use Rattle.std.specs.List.{prefix_len};
 ghost use Rattle.mlr_spec.specs.Infer.{digit, number};
@@ -23,18 +24,19 @@ pub enum Lexeme<'a> {
     Unit(u16),
 }
 
-/// What stands at the front of a text.
+/// The start of a text.
 #[derive(Clone, Copy, Debug, PartialEq, Eq)]
 pub enum Scanned<'a> {
-    /// A lexeme of so many bytes. A blank, a word or raw bytes that reach the text's end may go on behind it.
+    /// A lexeme of so many bytes. A blank, a word or raw bytes that reach the text's end may continue after
+    /// it.
     Found(Lexeme<'a>, usize),
     /// No bytes, or an escape that isn't whole.
     Begun,
-    /// A byte at this offset that can't stand there.
+    /// A byte at this offset that isn't allowed there.
     Bad(usize),
 }
 
-/// The lexeme at the front of a text, within a string or outside. It takes no memory.
+/// The lexeme at the start of a text, within a string or outside. It doesn't allocate.
 #[inline]
 pub fn first_lexeme(inside: bool, text: &[u8]) -> Scanned<'_>
     ensures prefix { lexeme_seen result ≡ first_lexeme inside text.now }
@@ -77,7 +79,7 @@ fn mark_of(byte: u8) -> Option<JsonMark>
     }
 }
 
-/// What stands between marks.
+/// What is between marks.
 fn lexeme_unmarked(text: &[u8]) -> Scanned<'_>
     requires { 0 < length text.now }
     ensures prefix { lexeme_seen result ≡ lexeme_unmarked text.now }
@@ -174,7 +176,7 @@ fn lexeme_inside(text: &[u8]) -> Scanned<'_>
     }
 }
 
-/// What stands behind a backslash. The lengths count the backslash too.
+/// What follows a backslash. The lengths count the backslash too.
 fn lexeme_of_escape(text: &[u8]) -> Scanned<'_>
     ensures prefix { lexeme_seen result ≡ lexeme_of_escape text.now }
     ensures within { IsWithin (1 + length text.now) result }
@@ -189,7 +191,7 @@ fn lexeme_of_escape(text: &[u8]) -> Scanned<'_>
     }
 }
 
-/// The byte that a letter behind a backslash stands for.
+/// The byte that an escape letter represents.
 fn escape_of(letter: u8) -> Option<&'static [u8]>
     ensures { EscapeIs letter result }
 {
@@ -206,7 +208,7 @@ fn escape_of(letter: u8) -> Option<&'static [u8]>
     }
 }
 
-/// What stands behind `\u`. The lengths count these two bytes too.
+/// What follows `\u`. The lengths count these two bytes too.
 fn lexeme_of_unit(text: &[u8]) -> Scanned<'_>
     ensures prefix { lexeme_seen result ≡ lexeme_of_unit text.now }
     ensures within { IsWithin (2 + length text.now) result }

@@ -1,3 +1,4 @@
+//! A value that is read token by token.
 ghost use Rattle.std.specs.Prelude.{◌≤◌, vec_len};
 
 use crate::{Frame, Phase};
@@ -19,7 +20,7 @@ pub struct Machine {
 pub enum Went {
     /// More tokens belong to the value.
     On,
-    /// The value is whole. The machine stands before the next one.
+    /// The value is whole. The machine is ready for the next one.
     Whole(Value),
     /// The token may not come here.
     Wrong,

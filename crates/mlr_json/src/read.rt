@@ -1,3 +1,4 @@
+//! JSON texts read as values.
 ghost use Rattle.std.specs.Prelude.{◌≡◌, ℕ, ◌+◌, ◌-◌, ◌<◌, ◌≤◌, length, IfOk, IfSome};
 ghost use Rattle.mlr_spec.specs.Tree.{Tree};
 ghost use Rattle.mlr_spec.specs.JsonTokens.{and_token, tokens_of};
@@ -16,7 +17,7 @@ use mlr_spec::NoMemory;
 use mlr_value::Value;
 use std::alloc::Global;
 
-/// What a JSON text is read as. Places of bytes count from 1, and the place behind the last byte is one more.
+/// What a JSON text is read as. Places of bytes count from 1, and the place after the last byte is one more.
 #[derive(Drop)]
 pub enum JsonRead {
     /// The value.
@@ -29,7 +30,7 @@ pub enum JsonRead {
     NoMemory,
 }
 
-/// How a text was read on. The place of a fault is told by how many bytes are left there.
+/// How the reading of a text continues. The place of a fault is given by how many bytes remain there.
 #[derive(Drop)]
 enum Turn<'a> {
     On(&'a [u8]),
@@ -43,7 +44,7 @@ enum Turn<'a> {
 pub fn read_json_value(alloc: Global, text: &[u8]) -> JsonRead
     // The value or the fault is that of the grammar,
     ensures read { IsRead text.now result }
-    // and what the grammar says of the text is the answer, unless memory runs out.
+    // and what the grammar says of the text is returned, unless memory runs out.
     ensures only { (outcome : Outcome) → Says plain text.now outcome → IsAnswer outcome result }
 {
     match read_text(alloc, text) {
@@ -84,7 +85,7 @@ fn next_turn<'a>(alloc: Global, machine: &mut Machine, text: &'a [u8]) -> Result
     }
 }
 
-/// Takes a token that stands where so many bytes are left.
+/// Takes a token that begins where so many bytes remain.
 fn token_turn<'a>(
     machine: &mut Machine,
     token: Token,
@@ -117,7 +118,7 @@ fn take(machine: &mut Machine, token: Token) -> Result<Went, NoMemory>
     }
 }
 
-/// The answer where a value is whole: it is the value if only blanks stand behind it.
+/// The result where a value is whole: it is the value if only blanks follow it.
 fn whole(value: Value, text: &[u8], following: &[u8]) -> JsonRead
     requires { length following.now ≤ length text.now }
     ensures { IsAnswer (after_at (tree_of value) (tokens_left (length text.now + 1) following.now))
@@ -129,7 +130,7 @@ fn whole(value: Value, text: &[u8], following: &[u8]) -> JsonRead
     }
 }
 
-/// How many bytes are left from the first on that is no blank, if there is one.
+/// How many bytes remain from the first one on that is no blank, if there is one.
 fn after_blanks(text: &[u8]) -> Option<usize>
     ensures outcome { (end : ℕ) (value : Tree) → length text.now ≤ end
         → IsAfter end value (after_at value (tokens_left end text.now)) result }
@@ -157,7 +158,7 @@ fn is_token(lexeme: Lexeme<'_>) -> bool
     matches!(lexeme, Lexeme::Mark(_) | Lexeme::Word(_) | Lexeme::Quote)
 }
 
-/// The place in a text where so many bytes are left.
+/// The place in a text where so many bytes remain.
 fn place(text: &[u8], left: usize) -> u64
     requires { left ≤ length text.now }
     ensures { result ≡ length text.now + 1 - left }

@@ -1,3 +1,4 @@
+//! The steps of the machine: one for each token.
 ghost use Rattle.std.specs.Prelude.{◌≡◌, ◌∷◌, [], List, if◌then◌else◌, IfOk};
 ghost use Rattle.mlr_spec.specs.JsonTokens.{sign, text_token, word_token};
 ghost use Rattle.mlr_spec.specs.JsonGrammar.{text_value};

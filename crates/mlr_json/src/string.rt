@@ -1,3 +1,4 @@
+//! Strings built of raw bytes and code units.
 ghost use Rattle.std.specs.Prelude.{◌≡◌, ◌+◌, ◌<◌, ◌&&◌, ◌++◌, ◌∷◌, [], List, Some, None, if◌then◌else◌, is_ok, IfOk, OnOk};
 ghost use Rattle.std.specs.Char.{encode_utf8};
 ghost use Rattle.std.specs.Char.Utf16.{is_high_surrogate, is_low_surrogate, surrogate_pair_char, lone_unit_char};
@@ -13,7 +14,7 @@ use std::alloc::Global;
 #[derive(Drop)]
 pub struct StringBuilder {
     text: Bytes,
-    /// A high surrogate, which may be a pair with the unit behind it.
+    /// A high surrogate, which may form a pair with the next unit.
     high: Option<u16>,
 }
 
@@ -29,7 +30,7 @@ impl StringBuilder {
         }
     }
 
-    /// Puts bytes last. The first ones that come are copied once.
+    /// Appends bytes. The first ones are copied once.
     #[inline]
     pub fn push_raw(&mut self, text: &[u8]) -> Result<(), NoMemory>
         ensures { OnOk result ((pieces : List Piece) → Holds self.old pieces
@@ -39,7 +40,7 @@ impl StringBuilder {
         self.text.append(text)
     }
 
-    /// Puts a code unit last. Two that follow one another may be a pair; a surrogate in no pair becomes U+FFFD.
+    /// Appends a code unit. Two that follow one another may be a pair; a surrogate in no pair becomes U+FFFD.
     pub fn push_unit(&mut self, code: u16) -> Result<(), NoMemory>
         ensures { OnOk result ((pieces : List Piece) → Holds self.old pieces
             → Holds self.new (pieces ++ unit code ∷ [])) }
@@ -70,7 +71,7 @@ impl StringBuilder {
         Ok(text)
     }
 
-    /// No unit comes behind the last one.
+    /// No unit follows the last one.
     #[inline(always)]
     fn end_unit(&mut self) -> Result<(), NoMemory>
         ensures { OnOk result (self.new ≡ record {

@@ -1,3 +1,4 @@
+//! The tokens of a JSON text, one after another.
 ghost use Rattle.std.specs.Prelude.{◌≡◌, ℕ, ◌-◌, ◌<◌, ◌≤◌, List, Bool, true, false, length, drop, IfOk};
 ghost use Rattle.mlr_spec.specs.JsonTokens.{text_token, and_token, or_stop, token_of_word, decoded};
 ghost use Rattle.mlr_json.specs.Readable.{plain};
@@ -18,7 +19,8 @@ pub(crate) enum Token {
     Text(Bytes),
 }
 
-/// What comes next in a text, with the text behind it. The place of a fault is told by how many bytes are left there.
+/// What comes next in a text, with the text after it. The place of a fault is given by how many bytes remain
+/// there.
 #[derive(Drop)]
 pub(crate) enum Next<'a> {
     Blank(&'a [u8]),
@@ -33,22 +35,22 @@ pub(crate) enum Next<'a> {
     End,
 }
 
-/// How a string goes on behind its first quote.
+/// How a string continues after its first quote.
 #[derive(Drop)]
 pub(crate) enum StringEnd<'a> {
     /// Up to its last quote.
     Closed(Bytes, &'a [u8]),
-    /// Up to the place where so many bytes are left.
+    /// Up to the place where so many bytes remain.
     Cut(usize),
 }
 
-/// What comes next within a string, with the text behind it.
+/// What comes next within a string, with the text after it.
 enum PieceAt<'a> {
     Raw(&'a [u8], &'a [u8]),
     Unit(u16, &'a [u8]),
     /// The last quote.
     Quote(&'a [u8]),
-    /// The string stops where so many bytes are left.
+    /// The string stops where so many bytes remain.
     Stop(usize),
 }
 
@@ -72,7 +74,7 @@ pub(crate) fn next_token(alloc: Global, wants_text: bool, text: &[u8]) -> Result
     }
 }
 
-/// The token that begins with the lexeme at the front of a text.
+/// The token that begins with the lexeme at the start of a text.
 fn token_of<'a>(
     alloc: Global,
     wants_text: bool,
@@ -95,7 +97,7 @@ fn token_of<'a>(
     }
 }
 
-/// The token of a word at the front of a text.
+/// The token of a word at the start of a text.
 fn word_token<'a>(
     alloc: Global,
     word: &[u8],
@@ -116,7 +118,7 @@ fn word_token<'a>(
     })
 }
 
-/// The token of a string whose first quote is at the front of a text.
+/// The token of a string whose first quote is at the start of a text.
 fn string_token<'a>(
     alloc: Global,
     wanted: bool,
@@ -140,7 +142,7 @@ fn string_token<'a>(
     }
 }
 
-/// Reads a string from behind its first quote on.
+/// Reads a string from after its first quote.
 fn read_string(alloc: Global, text: &[u8]) -> Result<StringEnd<'_>, NoMemory>
     ensures tokens { IfOk result (λ ended. (end : ℕ) → length text.now ≤ end
         → IsStringEnd end text.now ended) }
@@ -192,7 +194,7 @@ fn piece_of<'a>(lexeme: Lexeme<'a>, following: &'a [u8]) -> PieceAt<'a>
     }
 }
 
-/// The text behind its first bytes.
+/// The text after its first bytes.
 #[inline(always)]
 pub(crate) fn following(text: &[u8], len: usize) -> &[u8]
     requires { len ≤ length text.now }

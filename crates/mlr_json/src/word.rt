@@ -1,3 +1,4 @@
+//! The values of words: numbers, `true`, `false` and `null`.
 ghost use Rattle.std.specs.Prelude.{◌≡◌, false, IfOk};
 ghost use Rattle.std.specs.Option.{option_map};
 ghost use Rattle.mlr_spec.specs.Infer.{kind_of};

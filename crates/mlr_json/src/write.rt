@@ -1,3 +1,4 @@
+//! Values written as JSON texts.
 ghost use Rattle.std.specs.Prelude.{◌≡◌, ℕ, ◌+◌, ◌*◌, ◌==◌, ◌&&◌, ◌++◌, ◌∷◌, [], List, map, true, false, IfOk, OnOk, OnErr};
 ghost use Rattle.std.specs.List.{list_any};
 ghost use Rattle.mlr_spec.specs.Tree.{map_of, array_of, is_collection};
@@ -11,8 +12,8 @@ use mlr_spec::{JsonStyle, NoMemory};
 use mlr_value::{ArrayValue, Bytes, MapValue, Value, append_text};
 use std::alloc::Global;
 
-/// Puts a value as JSON text behind `into` (RFC 8259): numbers in their spelling, other texts in quotes. Without
-/// memory a front of the text may have been put there.
+/// Appends a value as JSON text (RFC 8259): numbers in their spelling, other texts in quotes. Where memory
+/// runs out, a prefix of the text may have been appended.
 #[inline]
 pub fn append_json_value(value: &Value, style: JsonStyle, into: &mut Bytes) -> Result<(), NoMemory>
     ensures ok { OnOk result (into.new ≡ into.old ++ json_text style (tree_of value.now)) }
@@ -21,8 +22,8 @@ pub fn append_json_value(value: &Value, style: JsonStyle, into: &mut Bytes) -> R
     append_at(value, style, 0, into)
 }
 
-/// Puts a field of a record, as it stands between the record's braces. Without memory a front of it may have been put
-/// there.
+/// Appends a field of a record, as it is written between the record's braces. Where memory runs out, a prefix
+/// of it may have been appended.
 #[inline]
 pub fn append_json_field(
     key: &[u8],
@@ -46,7 +47,7 @@ pub fn json_text(alloc: Global, value: &Value, style: JsonStyle) -> Result<Bytes
     Ok(text)
 }
 
-/// A value whose first line stands at this level.
+/// A value whose first line is at this level.
 #[cycle(write)]
 fn append_at(
     value: &Value,
@@ -104,7 +105,7 @@ fn append_map(
     into.append(b"}")
 }
 
-/// The pairs of a map, each behind its gap.
+/// The pairs of a map, each after its gap.
 #[cycle(write)]
 fn append_pairs(
     pairs: &MapValue,
@@ -124,7 +125,7 @@ fn append_pairs(
     Ok(())
 }
 
-/// An array stands on lines only if a map or an array stands in it.
+/// An array takes several lines only if it contains a map or an array.
 #[cycle(write)]
 fn append_array(
     items: &ArrayValue,
@@ -146,7 +147,7 @@ fn append_array(
     into.append(b"]")
 }
 
-/// The items of an array, each behind its gap.
+/// The items of an array, each after its gap.
 #[cycle(write)]
 fn append_items(
     items: &ArrayValue,
@@ -185,7 +186,7 @@ fn is_collection(value: &Value) -> bool
     matches!(value, Value::Map(_) | Value::Array(_))
 }
 
-/// Whether a map or an array stands in it.
+/// Whether it contains a map or an array.
 fn has_collection(items: &ArrayValue) -> bool
     ensures { result ≡ list_any is_collection items.now }
 {
@@ -197,7 +198,7 @@ fn has_collection(items: &ArrayValue) -> bool
     false
 }
 
-/// What stands before a text between brackets.
+/// What precedes a text between brackets.
 fn append_gap(lines: bool, first: bool, level: usize, into: &mut Bytes) -> Result<(), NoMemory>
     ensures ok { OnOk result (into.new ≡ into.old ++ gap lines first level) }
     ensures err { OnErr result (RepresentsBefore into.old into.new) }
@@ -211,7 +212,7 @@ fn append_gap(lines: bool, first: bool, level: usize, into: &mut Bytes) -> Resul
     append_new_line(level, into)
 }
 
-/// What stands before a closing bracket.
+/// What precedes a closing bracket.
 fn append_line_end(lines: bool, level: usize, into: &mut Bytes) -> Result<(), NoMemory>
     ensures ok { OnOk result (into.new ≡ into.old ++ line_end lines level) }
     ensures err { OnErr result (RepresentsBefore into.old into.new) }

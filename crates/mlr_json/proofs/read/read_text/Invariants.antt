@@ -7,7 +7,7 @@ use Rattle.mlr_json.specs.Reading.{tokens_left}
 use Rattle.mlr_json.specs.Turns.{outcome_at}
 use Rattle.mlr_json.proofs.read.read_text.Given as goal
 
--- the outcome of what is left, from this machine, is that of the whole text
+-- the outcome of the rest, from this machine, is that of the whole text
 abbrev pub invariant-loop-machine : goal.invariant-loop-machine
 invariant-loop-machine l = record {
   shorter : length l.left ≤ length l.text;

@@ -4,7 +4,7 @@ use Rattle.mlr_json.specs.Decoding.{Holds}
 use Rattle.mlr_json.specs.Reading.{inside_left, pieces_left}
 use Rattle.mlr_json.proofs.token.read_string.Given as goal
 
--- the pieces so far, with those that are left, are all of them
+-- the pieces so far, with the remaining ones, are all of them
 abbrev pub invariant-loop-piece : goal.invariant-loop-piece
 invariant-loop-piece l = record {
   shorter : length l.left ≤ length l.initial.left;

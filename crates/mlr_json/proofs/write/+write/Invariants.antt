@@ -6,7 +6,7 @@ use Rattle.mlr_json.specs.Escapes.{RepresentsBefore}
 use Rattle.mlr_json.specs.Writing.{led}
 use Rattle.mlr_json.proofs.write.+write.Given as goal
 
--- what was put so far, with what is left, is all of it
+-- what was written so far, with the rest, is all of it
 abbrev pub invariant-append_items-loop-place : goal.invariant-append_items-loop-place
 invariant-append_items-loop-place l = record {
   all : l.into ++ led l.lines (l.place == 0) l.level (map (json_at l.style l.level) (drop l.place l.items)) ≡ l.initial.into ++ led l.lines true l.level (map (json_at l.style l.level) l.items);
