@@ -63,7 +63,7 @@ fn nested(alloc: Global) -> Result<Value, NoMemory> {
 }
 
 /// Makes the call, and says whether it returned what is wanted.
-fn call(alloc: Global, record: &mut Record, call: &Call) -> Result<bool, NoMemory> {
+fn make(alloc: Global, record: &mut Record, call: &Call) -> Result<bool, NoMemory> {
     match call {
         Put(name, text) => record.put(name.as_bytes(), text_value(alloc, text)?)?,
         PutFirst(name, text) => record.put_first(name.as_bytes(), text_value(alloc, text)?)?,
@@ -322,7 +322,7 @@ fn a_record_has_these_fields_after_the_calls(rt: HostRuntime) -> Result<(), Fail
         let mut record = record_of(alloc, fields)?;
         for (step, one) in calls.iter().enumerate() {
             assert!(rt;
-                call(alloc, &mut record, one)?,
+                make(alloc, &mut record, one)?,
                 "call {step} at {i}: {fields}"
             );
         }
@@ -354,7 +354,7 @@ fn records_of_values_of_fields_and_copies_have_the_same_fields(
     assert_eq!(rt; shown(alloc, &copy)?.as_slice(), b"a=1,b=2,".as_slice());
 
     let mut record = record_of(alloc, ABC)?;
-    assert!(rt; call(alloc, &mut record, &Empty(1))?);
+    assert!(rt; make(alloc, &mut record, &Empty(1))?);
     let fields = record.into_fields();
     assert_eq!(rt; fields.len(), 3);
     let record = Record::of_fields(alloc, fields);

@@ -10,6 +10,8 @@ mod real_inputs;
 mod real_outputs;
 mod sure_inputs;
 mod sure_outputs;
+#[cfg(test)]
+mod tests;
 
 pub use inputs::{Got, Inputs, Opened};
 pub use memory_inputs::MemInputs;

@@ -268,22 +268,21 @@ mod tests {
         assert_eq!(rt; inputs.read(1, into), Got::End);
     }
 
-    #[test]
-    fn reads_a_file_in_pieces(rt: HostRuntime) -> Result<(), Fail> {
+    fn reads_a_file_in_pieces(test: &impl Abort, rt: HostRuntime) -> Result<(), Fail> {
         let alloc = rt.alloc();
         let path = b"pieces.txt";
         let target = Target::File(Bytes::copy_of(alloc, path)?);
         let mut outputs = RealOutputs::new(alloc, rt);
-        assert_eq!(rt; outputs.open(&target, Mode::Fresh), Done::Ok);
-        assert_eq!(rt; outputs.write(&target, b"one\ntwo\r\n\xff"), Done::Ok);
-        assert_eq!(rt; outputs.close(&target), Done::Ok);
+        assert_eq!(test; outputs.open(&target, Mode::Fresh), Done::Ok);
+        assert_eq!(test; outputs.write(&target, b"one\ntwo\r\n\xff"), Done::Ok);
+        assert_eq!(test; outputs.close(&target), Done::Ok);
 
         let mut inputs = ready(RealInputs::new(alloc, rt)?);
         let name = InputName::File(Bytes::copy_of(alloc, path)?);
         let mut text = Bytes::new(alloc);
-        take_all(&rt, &mut inputs, &name, &mut text);
-        take_all(&rt, &mut inputs, &name, &mut text);
-        assert_eq!(rt;
+        take_all(test, &mut inputs, &name, &mut text);
+        take_all(test, &mut inputs, &name, &mut text);
+        assert_eq!(test;
             text.as_slice(),
             b"one\ntwo\r\n\xffone\ntwo\r\n\xff".as_slice()
         );
@@ -291,60 +290,66 @@ mod tests {
         Ok(())
     }
 
-    #[test]
-    fn counts_what_fails(rt: HostRuntime) -> Result<(), Fail> {
+    fn counts_what_fails(test: &impl Abort, rt: HostRuntime) -> Result<(), Fail> {
         let alloc = rt.alloc();
         let mut inputs = RealInputs::new(alloc, rt)?;
         let missing = InputName::File(Bytes::copy_of(alloc, b"no such file")?);
-        assert_eq!(rt; inputs.open(&missing), Opened::Failed);
+        assert_eq!(test; inputs.open(&missing), Opened::Failed);
         let not_text = InputName::File(Bytes::copy_of(alloc, b"\xff")?);
-        assert_eq!(rt; inputs.open(&not_text), Opened::Failed);
-        assert_eq!(rt; inputs.faults, 2);
+        assert_eq!(test; inputs.open(&not_text), Opened::Failed);
+        assert_eq!(test; inputs.faults, 2);
 
         let folder = InputName::File(Bytes::copy_of(alloc, b".")?);
         let mut text = Bytes::new(alloc);
-        assert_eq!(rt; inputs.open(&folder), Opened::Ok);
-        assert_eq!(rt; inputs.read(8, &mut text), Got::Failed);
-        assert_eq!(rt; inputs.faults, 3);
+        assert_eq!(test; inputs.open(&folder), Opened::Ok);
+        assert_eq!(test; inputs.read(8, &mut text), Got::Failed);
+        assert_eq!(test; inputs.faults, 3);
         Ok(())
     }
 
     /// A test is run with an empty standard input.
-    #[test]
-    fn reads_standard_input(rt: HostRuntime) -> Result<(), Fail> {
+    fn reads_standard_input(test: &impl Abort, rt: HostRuntime) -> Result<(), Fail> {
         let alloc = rt.alloc();
         let mut inputs = RealInputs::new(alloc, rt)?;
         let mut text = Bytes::new(alloc);
-        assert_eq!(rt; inputs.open(&InputName::Stdin), Opened::Ok);
-        assert_eq!(rt; inputs.read(8, &mut text), Got::End);
-        assert_eq!(rt; inputs.faults, 0);
+        assert_eq!(test; inputs.open(&InputName::Stdin), Opened::Ok);
+        assert_eq!(test; inputs.read(8, &mut text), Got::End);
+        assert_eq!(test; inputs.faults, 0);
         Ok(())
     }
 
-    #[test]
-    fn goes_on_after_an_error(rt: HostRuntime) -> Result<(), Fail> {
+    fn goes_on_after_an_error(test: &impl Abort, rt: HostRuntime) -> Result<(), Fail> {
         let mut unread = Unread::new(rt.alloc())?;
         let mut source = Faltering(0);
-        assert_eq!(rt; unread.fill(&mut source, 8).ok(), Some(1));
-        assert!(rt; unread.fill(&mut source, 8).is_err());
-        assert!(rt; unread.is_empty());
-        assert_eq!(rt; unread.fill(&mut source, 8).ok(), Some(1));
+        assert_eq!(test; unread.fill(&mut source, 8).ok(), Some(1));
+        assert!(test; unread.fill(&mut source, 8).is_err());
+        assert!(test; unread.is_empty());
+        assert_eq!(test; unread.fill(&mut source, 8).ok(), Some(1));
         Ok(())
     }
 
-    #[test]
-    fn hands_out_in_pieces(rt: HostRuntime) -> Result<(), Fail> {
+    fn hands_out_in_pieces(test: &impl Abort, rt: HostRuntime) -> Result<(), Fail> {
         let alloc = rt.alloc();
         let mut unread = Unread::new(alloc)?;
         let mut text = Bytes::new(alloc);
         let mut source = b"abcdef".as_slice();
-        assert_eq!(rt; unread.fill(&mut source, 5).ok(), Some(5));
-        assert_eq!(rt; unread.hand_out(2, &mut text), Ok(2));
-        assert_eq!(rt; unread.hand_out(8, &mut text), Ok(3));
-        assert_eq!(rt; unread.fill(&mut source, 5).ok(), Some(1));
-        assert_eq!(rt; unread.hand_out(1, &mut text), Ok(1));
-        assert_eq!(rt; unread.fill(&mut source, 5).ok(), Some(0));
-        assert_eq!(rt; text.as_slice(), b"abcdef".as_slice());
+        assert_eq!(test; unread.fill(&mut source, 5).ok(), Some(5));
+        assert_eq!(test; unread.hand_out(2, &mut text), Ok(2));
+        assert_eq!(test; unread.hand_out(8, &mut text), Ok(3));
+        assert_eq!(test; unread.fill(&mut source, 5).ok(), Some(1));
+        assert_eq!(test; unread.hand_out(1, &mut text), Ok(1));
+        assert_eq!(test; unread.fill(&mut source, 5).ok(), Some(0));
+        assert_eq!(test; text.as_slice(), b"abcdef".as_slice());
+        Ok(())
+    }
+
+    #[test]
+    fn files_and_streams_are_read(rt: HostRuntime) -> Result<(), Fail> {
+        reads_a_file_in_pieces(&rt, rt)?;
+        counts_what_fails(&rt, rt)?;
+        reads_standard_input(&rt, rt)?;
+        goes_on_after_an_error(&rt, rt)?;
+        hands_out_in_pieces(&rt, rt)?;
         Ok(())
     }
 }

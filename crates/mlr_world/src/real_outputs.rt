@@ -228,6 +228,7 @@ impl Counts {
 mod tests {
     use super::*;
     use std::fs;
+    use std::process::Abort;
     use std::test::Fail;
 
     /// What a program asks of its outputs, which it hands to a thread.
@@ -237,63 +238,68 @@ mod tests {
         outputs
     }
 
-    #[test]
-    fn writes_files(rt: HostRuntime) -> Result<(), Fail> {
+    fn writes_files(test: &impl Abort, rt: HostRuntime) -> Result<(), Fail> {
         let alloc = rt.alloc();
         let mut outputs = ready(RealOutputs::new(alloc, rt));
         let one = Target::File(Bytes::copy_of(alloc, b"one.txt")?);
         let two = Target::File(Bytes::copy_of(alloc, b"two.txt")?);
-        assert_eq!(rt; outputs.open(&one, Mode::Fresh), Done::Ok);
-        assert_eq!(rt; outputs.open(&two, Mode::Append), Done::Ok);
-        assert_eq!(rt; outputs.write(&one, b"first\n"), Done::Ok);
-        assert_eq!(rt; outputs.write(&two, b"other\n"), Done::Ok);
-        assert_eq!(rt; outputs.write(&one, b"second\n"), Done::Ok);
-        assert_eq!(rt; outputs.close(&one), Done::Ok);
-        assert_eq!(rt; outputs.open(&one, Mode::Append), Done::Ok);
-        assert_eq!(rt; outputs.write(&one, b"third\n"), Done::Ok);
-        assert_eq!(rt;
+        assert_eq!(test; outputs.open(&one, Mode::Fresh), Done::Ok);
+        assert_eq!(test; outputs.open(&two, Mode::Append), Done::Ok);
+        assert_eq!(test; outputs.write(&one, b"first\n"), Done::Ok);
+        assert_eq!(test; outputs.write(&two, b"other\n"), Done::Ok);
+        assert_eq!(test; outputs.write(&one, b"second\n"), Done::Ok);
+        assert_eq!(test; outputs.close(&one), Done::Ok);
+        assert_eq!(test; outputs.open(&one, Mode::Append), Done::Ok);
+        assert_eq!(test; outputs.write(&one, b"third\n"), Done::Ok);
+        assert_eq!(test;
             fs::read_to_string(&rt, "one.txt")?.as_str(),
             "first\nsecond\nthird\n"
         );
-        assert_eq!(rt; fs::read_to_string(&rt, "two.txt")?.as_str(), "other\n");
-        assert_eq!(rt; outputs.open(&one, Mode::Fresh), Done::Ok);
-        assert_eq!(rt; outputs.write(&one, b"again\n"), Done::Ok);
-        assert_eq!(rt; outputs.close(&one), Done::Ok);
-        assert_eq!(rt; fs::read_to_string(&rt, "one.txt")?.as_str(), "again\n");
+        assert_eq!(test; fs::read_to_string(&rt, "two.txt")?.as_str(), "other\n");
+        assert_eq!(test; outputs.open(&one, Mode::Fresh), Done::Ok);
+        assert_eq!(test; outputs.write(&one, b"again\n"), Done::Ok);
+        assert_eq!(test; outputs.close(&one), Done::Ok);
+        assert_eq!(test; fs::read_to_string(&rt, "one.txt")?.as_str(), "again\n");
         fs::remove_file(&rt, "one.txt")?;
         fs::remove_file(&rt, "two.txt")?;
-        assert_eq!(rt; outputs.counts.faults, 0);
+        assert_eq!(test; outputs.counts.faults, 0);
         Ok(())
     }
 
-    #[test]
-    fn counts_what_fails(rt: HostRuntime) -> Result<(), Fail> {
+    fn counts_what_fails(test: &impl Abort, rt: HostRuntime) -> Result<(), Fail> {
         let alloc = rt.alloc();
         let mut outputs = RealOutputs::new(alloc, rt);
         let target = Target::File(Bytes::copy_of(alloc, b"/dev/full")?);
-        assert_eq!(rt; outputs.write(&target, b"a"), Done::Failed);
-        assert_eq!(rt; outputs.close(&target), Done::Failed);
-        assert_eq!(rt; outputs.open(&target, Mode::Append), Done::Ok);
-        assert_eq!(rt; outputs.write(&target, b"a"), Done::Failed);
-        assert_eq!(rt; outputs.close(&target), Done::Ok);
+        assert_eq!(test; outputs.write(&target, b"a"), Done::Failed);
+        assert_eq!(test; outputs.close(&target), Done::Failed);
+        assert_eq!(test; outputs.open(&target, Mode::Append), Done::Ok);
+        assert_eq!(test; outputs.write(&target, b"a"), Done::Failed);
+        assert_eq!(test; outputs.close(&target), Done::Ok);
         let not_text = Target::File(Bytes::copy_of(alloc, b"\xff")?);
-        assert_eq!(rt; outputs.open(&not_text, Mode::Fresh), Done::Failed);
+        assert_eq!(test; outputs.open(&not_text, Mode::Fresh), Done::Failed);
         let in_no_folder = Target::File(Bytes::copy_of(alloc, b"none/such.txt")?);
-        assert_eq!(rt; outputs.open(&in_no_folder, Mode::Fresh), Done::Failed);
-        assert_eq!(rt; outputs.counts.faults, 5);
-        assert_eq!(rt; outputs.counts.shortages, 0);
+        assert_eq!(test; outputs.open(&in_no_folder, Mode::Fresh), Done::Failed);
+        assert_eq!(test; outputs.counts.faults, 5);
+        assert_eq!(test; outputs.counts.shortages, 0);
+        Ok(())
+    }
+
+    fn writes_streams(test: &impl Abort, rt: HostRuntime) -> Result<(), Fail> {
+        let mut outputs = RealOutputs::new(rt.alloc(), rt);
+        for target in [Target::Stdout, Target::Stderr] {
+            assert_eq!(test; outputs.open(&target, Mode::Fresh), Done::Ok);
+            assert_eq!(test; outputs.write(&target, b"to a stream \xff\n"), Done::Ok);
+            assert_eq!(test; outputs.close(&target), Done::Ok);
+        }
+        assert_eq!(test; outputs.counts.faults, 0);
         Ok(())
     }
 
     #[test]
-    fn writes_streams(rt: HostRuntime) -> Result<(), Fail> {
-        let mut outputs = RealOutputs::new(rt.alloc(), rt);
-        for target in [Target::Stdout, Target::Stderr] {
-            assert_eq!(rt; outputs.open(&target, Mode::Fresh), Done::Ok);
-            assert_eq!(rt; outputs.write(&target, b"to a stream \xff\n"), Done::Ok);
-            assert_eq!(rt; outputs.close(&target), Done::Ok);
-        }
-        assert_eq!(rt; outputs.counts.faults, 0);
+    fn files_and_streams_are_written(rt: HostRuntime) -> Result<(), Fail> {
+        writes_files(&rt, rt)?;
+        counts_what_fails(&rt, rt)?;
+        writes_streams(&rt, rt)?;
         Ok(())
     }
 }

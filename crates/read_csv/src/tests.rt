@@ -141,45 +141,36 @@ fn files_give_these_events_wherever_they_are_cut(rt: HostRuntime) -> Result<(), 
     Ok(())
 }
 
-/// A step of a reader of the second file after five records, and the numbers of its last record then.
-const STEPS: [(Step, u64, u64); 3] = [
-    (Step::Begin, 5, 0),
-    (Step::Feed(b"a\n1\n2"), 6, 1),
-    (Step::End, 7, 2),
-];
-
-/// What a reader does next.
-enum Step {
-    Begin,
-    Feed(&'static [u8]),
-    End,
-}
-
 #[test]
 fn numbers_of_records_go_on_from_file_to_file(rt: HostRuntime) -> Result<(), NoMemory> {
     let opts = options(rt.alloc(), &[])?;
+    let mut out = Events::new(rt.alloc());
     let start = Ctx {
         nr: 5,
         fnr: 0,
         filenum: 2,
     };
     if can_read(&opts) {
-        let mut out = Events::new(rt.alloc());
         let mut reader = CsvReader::new(rt.alloc(), &opts, FileRef::Main(2), start)?;
-        for (i, row) in STEPS.iter().enumerate() {
-            let (step, nr, fnr) = row;
-            match step {
-                Step::Begin => {}
-                Step::Feed(piece) => reader.feed(piece, &mut out)?,
-                Step::End => reader.end(&mut out)?,
+        assert_eq!(rt; reader.ctx(), start);
+        reader.feed(b"a\n1\n2", &mut out)?;
+        assert_eq!(rt;
+            reader.ctx(),
+            Ctx {
+                nr: 6,
+                fnr: 1,
+                ..start
             }
-            let want = Ctx {
-                nr: *nr,
-                fnr: *fnr,
-                filenum: 2,
-            };
-            assert_eq!(rt; reader.ctx(), want, "at {i}");
-        }
+        );
+        reader.end(&mut out)?;
+        assert_eq!(rt;
+            reader.ctx(),
+            Ctx {
+                nr: 7,
+                fnr: 2,
+                ..start
+            }
+        );
         assert!(rt; !reader.is_broken());
     }
     Ok(())
@@ -191,7 +182,7 @@ const CHANGED: [(&[Opt], &[u8]); 2] = [
     (&[Opt::Tsv, Opt::Ragged], b"a\tb\n\\t\t2\r\n"),
 ];
 
-/// A text as a start, a part that is repeated, in which `%` represents the number of the field, and an end.
+/// A text as a start, a part that is repeated, in which `%` represents the number of the part, and an end.
 type Parts = (&'static [u8], &'static [u8], &'static [u8]);
 
 /// A file and its events, in parts that are repeated so many times.
@@ -207,8 +198,8 @@ const LONG: [Long; 2] = [
     Long {
         opts: &[Opt::Implicit],
         times: 9_999,
-        file: (b"1", b",%", b""),
-        events: (b"1:1=#1;", b"%=#%;", b" "),
+        file: (b"", b"%,", b"10000"),
+        events: (b"1:", b"%=#%;", b"10000=#10000; "),
     },
     Long {
         opts: &[],
@@ -226,13 +217,13 @@ const LONG: [Long; 2] = [
     },
 ];
 
-/// The text of a long file or its events. The first part has the number 2.
+/// The text of a long file or of its events.
 fn text_of(alloc: Global, parts: &Parts, times: usize) -> Result<Bytes, NoMemory> {
     let (start, part, end) = *parts;
     let mut text = Bytes::copy_of(alloc, start)?;
     for place in 0..times {
         let mut buffer = Buffer::new();
-        let number = buffer.format(place + 2).as_bytes();
+        let number = buffer.format(place + 1).as_bytes();
         for byte in part {
             if *byte == b'%' {
                 text.append(number)?;
@@ -263,15 +254,11 @@ fn check_place(
     place: usize,
 ) -> Result<(), NoMemory> {
     for byte in 0..=255 {
-        let text = changed(alloc, text, place, byte)?;
-        let whole = read(alloc, opts, text.as_slice(), b"")?;
-        for cut in 0..text.len() {
-            let shown = read(
-                alloc,
-                opts,
-                &text.as_slice()[..cut],
-                &text.as_slice()[cut..],
-            )?;
+        let made = changed(alloc, text, place, byte)?;
+        let other = made.as_slice();
+        let whole = read(alloc, opts, other, b"")?;
+        for cut in 0..other.len() {
+            let shown = read(alloc, opts, &other[..cut], &other[cut..])?;
             assert!(rt; shown == whole, "byte {byte} at {place}, cut at {cut}");
         }
     }

@@ -91,7 +91,7 @@ fn shown(alloc: Global, events: &Events) -> Result<Bytes, NoMemory> {
     Ok(all)
 }
 
-/// Turns until one doesn't go on, and that one's answer.
+/// Turns until one doesn't go on, and returns what that one returned.
 fn turn_all<I: Inputs>(reader: &mut FileReader, inputs: &mut I, out: &mut Events) -> ReadTurn
     requires { (opts : Options) × (names : List SpecName) × (before : Option (List Take))
         × (given : List Take) × Represents opts names given reader.old
@@ -106,9 +106,9 @@ fn turn_all<I: Inputs>(reader: &mut FileReader, inputs: &mut I, out: &mut Events
     ReadTurn::Went
 }
 
-/// What was put out, and the answer of the last turn.
+/// The events, and what the last turn returned.
 #[derive(Drop)]
-struct Left {
+struct Outcome {
     shown: Bytes,
     last: ReadTurn,
 }
@@ -121,7 +121,7 @@ fn read(
     names: &[&str],
     pieces: &[usize],
     failing: &[u64],
-) -> Result<Left, NoMemory> {
+) -> Result<Outcome, NoMemory> {
     let mut contents = Vec::new(alloc);
     for (name, text) in files {
         contents.push((file(alloc, name)?, Bytes::copy_of(alloc, text.as_bytes())?))?;
@@ -142,7 +142,7 @@ fn read(
         let mut reader = FileReader::new(alloc, opts, wanted)?;
         last = turn_all(&mut reader, &mut inputs, &mut out);
     }
-    Ok(Left {
+    Ok(Outcome {
         shown: shown(alloc, &out)?,
         last,
     })
@@ -151,13 +151,12 @@ fn read(
 /// Single bytes.
 const ONES: [usize; 32] = [1; 32];
 
-/// Inputs that come in these pieces, the events that they give, and the name of the input that fails, if one does.
+/// Inputs, the events that they give, and the name of the input that fails, if one does.
 struct Case {
     name: &'static str,
     format: Format,
     files: &'static [(&'static str, &'static str)],
     names: &'static [&'static str],
-    pieces: &'static [usize],
     events: &'static str,
     failed: Option<&'static str>,
 }
@@ -168,13 +167,12 @@ const TWO: [(&str, &str); 2] = [("f", "a=1\n"), ("g", "b=2\n")];
 const FAULTY: [(&str, &str); 1] = [("f", "a,b\n1,2\n3\n")];
 
 /// Files one after another, and ends of the reading. After a fault, no more files are opened.
-const CASES: [Case; 6] = [
+const CASES: [Case; 5] = [
     Case {
-        name: "two files in single bytes",
+        name: "two files",
         format: Format::Dkvp,
         files: &[("f", "a=1,b=x\na=2"), ("g", "c=3\n")],
         names: &["f", "g"],
-        pieces: &ONES,
         events: ".1.1.1 a=1 b=x; .2.2.1 a=2; .3.1.2 c=3; end .3.1.2",
         failed: None,
     },
@@ -183,25 +181,14 @@ const CASES: [Case; 6] = [
         format: Format::Dkvp,
         files: &[],
         names: &[],
-        pieces: &[],
         events: "end .0.0.0",
         failed: None,
     },
     Case {
-        name: "a fault in single bytes",
+        name: "a fault",
         format: Format::Csv,
         files: &FAULTY,
         names: &["f", "none"],
-        pieces: &ONES,
-        events: ".1.1.1 a=1 b=2; !3!2!1",
-        failed: None,
-    },
-    Case {
-        name: "a fault in one piece",
-        format: Format::Csv,
-        files: &FAULTY,
-        names: &["f", "none"],
-        pieces: &[],
         events: ".1.1.1 a=1 b=2; !3!2!1",
         failed: None,
     },
@@ -210,7 +197,6 @@ const CASES: [Case; 6] = [
         format: Format::Dkvp,
         files: &TWO,
         names: &["f", "none", "g"],
-        pieces: &[],
         events: ".1.1.1 a=1; ",
         failed: Some("none"),
     },
@@ -219,7 +205,6 @@ const CASES: [Case; 6] = [
         format: Format::Dkvp,
         files: &[("f", "a=1\n"), ("none", ""), ("g", "b=2")],
         names: &["f", "none", "g", "none"],
-        pieces: &[],
         events: ".1.1.1 a=1; .2.1.3 b=2; end .2.0.4",
         failed: None,
     },
@@ -229,19 +214,17 @@ const CASES: [Case; 6] = [
 fn inputs_are_read_one_after_another(rt: HostRuntime) -> Result<(), Fail> {
     let alloc = rt.alloc();
     for case in CASES.iter() {
-        let opts = options(alloc, case.format, b",")?;
-        let left = read(alloc, opts, case.files, case.names, case.pieces, &[])?;
-        let last = match case.failed {
-            Some(name) => ReadTurn::Failed(file(alloc, name)?),
-            None => ReadTurn::Ended,
-        };
-        assert_eq!(rt;
-            left.shown.as_slice(),
-            case.events.as_bytes(),
-            "{}",
-            case.name
-        );
-        assert_eq!(rt; left.last, last, "{}", case.name);
+        for pieces in [ONES.as_slice(), [].as_slice()] {
+            let opts = options(alloc, case.format, b",")?;
+            let got = read(alloc, opts, case.files, case.names, pieces, &[])?;
+            let last = match case.failed {
+                Some(name) => ReadTurn::Failed(file(alloc, name)?),
+                None => ReadTurn::Ended,
+            };
+            let events = case.events.as_bytes();
+            assert_eq!(rt; got.shown.as_slice(), events, "{}", case.name);
+            assert_eq!(rt; got.last, last, "{}", case.name);
+        }
     }
     Ok(())
 }
@@ -263,10 +246,10 @@ fn a_call_that_fails_ends_the_reading(rt: HostRuntime) -> Result<(), Fail> {
     for row in FAILING.iter() {
         let (failing, name, events) = *row;
         let opts = options(alloc, Format::Dkvp, b",")?;
-        let left = read(alloc, opts, &TWO, &["f", "g"], &[], &[failing])?;
+        let got = read(alloc, opts, &TWO, &["f", "g"], &[], &[failing])?;
         let last = ReadTurn::Failed(file(alloc, name)?);
-        assert_eq!(rt; left.shown.as_slice(), events.as_bytes(), "call {failing}");
-        assert_eq!(rt; left.last, last, "call {failing}");
+        assert_eq!(rt; got.shown.as_slice(), events.as_bytes(), "call {failing}");
+        assert_eq!(rt; got.last, last, "call {failing}");
     }
     Ok(())
 }
@@ -312,11 +295,11 @@ fn each_format_is_read(rt: HostRuntime) -> Result<(), Fail> {
     for (i, row) in FORMATS.iter().enumerate() {
         let (format, separator, text, events) = *row;
         let opts = options(alloc, format, separator.as_bytes())?;
-        let left = read(alloc, opts, &[("f", text)], &["f"], &ONES, &[])?;
+        let got = read(alloc, opts, &[("f", text)], &["f"], &ONES, &[])?;
         let mut want = Bytes::copy_of(alloc, events.as_bytes())?;
         want.append(b"end .1.1.1")?;
-        assert_eq!(rt; left.shown.as_slice(), want.as_slice(), "format {i}");
-        assert_eq!(rt; left.last, ReadTurn::Ended, "format {i}");
+        assert_eq!(rt; got.shown.as_slice(), want.as_slice(), "format {i}");
+        assert_eq!(rt; got.last, ReadTurn::Ended, "format {i}");
     }
     Ok(())
 }

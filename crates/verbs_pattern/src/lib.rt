@@ -3,8 +3,6 @@
 #![tactic(auto)]
 
 mod chosen;
-#[cfg(test)]
-mod copies_tests;
 mod grep;
 mod laws;
 mod matching;

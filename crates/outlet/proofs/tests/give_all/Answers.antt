@@ -3,7 +3,7 @@ use Rattle.std.proofs.lemmas.List.{append-nil}
 use Rattle.mlr_event.specs.declared.event.Event.{Event}
 use Rattle.mlr_event.specs.Verb.{is_list, is_open}
 use Rattle.mlr_event.proofs.Ordered.{open-list}
-use Rattle.outlet.proofs.outlet_tests.give_all.Goals as goal
+use Rattle.outlet.proofs.tests.give_all.Goals as goal
 
 list-following : (before events : List Event) → is_open before ≡ true → is_open events ≡ true → is_list (before ++ events) ≡ true
 list-following before events open_before open_is = open-list before events open_before (ap is_list (sym (append-nil events)) ∙ open-list events [] open_is refl)

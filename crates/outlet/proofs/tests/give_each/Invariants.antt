@@ -2,7 +2,7 @@ use Rattle.std.proofs.Common.{List}
 use Rattle.mlr_event.specs.declared.event.Event.{Event}
 use Rattle.writers.specs.declared.options.WriteOpts.{WriteOpts}
 use Rattle.outlet.specs.Represents.{Represents}
-use Rattle.outlet.proofs.outlet_tests.give_each.Given as goal
+use Rattle.outlet.proofs.tests.give_each.Given as goal
 
 -- it was given some events
 abbrev pub invariant-loop-line : goal.invariant-loop-line

@@ -1,6 +1,6 @@
 use Rattle.std.proofs.Common.{◌≡◌, true}
 use Rattle.mlr_event.specs.Verb.{is_open}
-use Rattle.outlet.proofs.outlet_tests.events_of.Given as goal
+use Rattle.outlet.proofs.tests.events_of.Given as goal
 
 abbrev pub invariant-loop-line : goal.invariant-loop-line
 invariant-loop-line l =

@@ -1,7 +1,7 @@
 use Rattle.std.proofs.Common.{◌≡◌, true, [], ◌∷◌, ◌++◌, refl, ap, sym, ◌∙◌, subst}
 use Rattle.mlr_event.specs.Verb.{is_list}
 use Rattle.mlr_event.proofs.Ordered.{open-list}
-use Rattle.outlet.proofs.outlet_tests.alone.Goals as goal
+use Rattle.outlet.proofs.tests.alone.Goals as goal
 
 pub returns : goal.returns
 returns c = λ before open_is.

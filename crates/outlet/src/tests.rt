@@ -1,4 +1,4 @@
-//! Events that come to an outlet, and what stands in standard output then.
+//! Events that come to an outlet, and what is in standard output then.
 ghost use Rattle.std.specs.Prelude.{◌≡◌, ◌++◌, List, true, false, IfOk};
 ghost use Rattle.mlr_event.specs.declared.event.Event.{Event as SpecEvent};
 ghost use Rattle.mlr_event.specs.Verb.{is_last, is_list, is_open};
@@ -66,7 +66,7 @@ fn body_of(alloc: Global, line: &str) -> Result<Body, NoMemory> {
     }
 }
 
-/// A piece for a target, of what stands behind its mark.
+/// A piece for a target, of what follows its mark.
 fn piece_of(alloc: Global, target: Target, line: &str) -> Result<Event, NoMemory>
     ensures { IfOk result (λ event. is_last event ≡ false) }
 {
@@ -78,7 +78,7 @@ fn piece_of(alloc: Global, target: Target, line: &str) -> Result<Event, NoMemory
     Ok(Event::Out(target, piece))
 }
 
-/// The event of a line: a piece for standard output behind `1>`, one for standard error behind `2>`.
+/// The event of a line: a piece for standard output after `1>`, one for standard error after `2>`.
 fn event_of(alloc: Global, line: &str) -> Result<Event, NoMemory>
     ensures { IfOk result (λ event. is_last event ≡ false) }
 {
@@ -164,7 +164,7 @@ fn last(faulty: bool) -> Event {
     }
 }
 
-/// A format, events, whether they end in a fault, and what stands in standard output.
+/// A format, events, whether they end in a fault, and what is in standard output.
 type Row = (Format, &'static str, bool, &'static str);
 
 const ROWS: [Row; 8] = [
@@ -206,7 +206,7 @@ const ROWS: [Row; 8] = [
         true,
         "[\n{\n  \"a\": 1\n},\n{\n  \"b\": 2\n}",
     ),
-    // Pieces for standard output stand among the others.
+    // Pieces for standard output come among the others.
     (
         Format::Dkvp,
         "a=1/1>a=2|2>a=3/1>#x|2>#y|#z",
@@ -216,7 +216,7 @@ const ROWS: [Row; 8] = [
     (Format::Csv, "2>a=1/2>#x|2>b=2", false, ""),
 ];
 
-/// What is answered at the end.
+/// What is returned at the end.
 fn ending(faulty: bool) -> Let {
     if faulty {
         Let::Over(Some(FAULT))
@@ -234,47 +234,24 @@ fn bytes_of<'a>(outputs: &'a SureOutputs, target: &Target) -> &'a [u8] {
 }
 
 #[test]
-fn events_of_several_calls(rt: HostRuntime) -> Result<(), NoMemory> {
+fn events_are_written_in_lists_as_one_at_a_time(rt: HostRuntime) -> Result<(), NoMemory> {
     let alloc = rt.alloc();
     for (i, row) in ROWS.iter().enumerate() {
         let (format, texts, faulty, want) = *row;
-        let mut outlet = Outlet::new(alloc, &plain(alloc, format)?)?;
-        let mut outputs = SureOutputs::new(alloc, Vec::new(alloc))?;
-        let answer = give_all(alloc, &mut outlet, texts, last(faulty), &mut outputs)?;
-        assert_eq!(rt; answer, ending(faulty), "row {i}");
-        assert_eq!(rt;
-            bytes_of(&outputs, &Target::Stdout),
-            want.as_bytes(),
-            "row {i}"
-        );
-        assert_eq!(rt;
-            bytes_of(&outputs, &Target::Stderr),
-            b"".as_slice(),
-            "row {i}"
-        );
-    }
-    Ok(())
-}
-
-#[test]
-fn events_one_at_a_time(rt: HostRuntime) -> Result<(), NoMemory> {
-    let alloc = rt.alloc();
-    for (i, row) in ROWS.iter().enumerate() {
-        let (format, texts, faulty, want) = *row;
-        let mut outlet = Outlet::new(alloc, &plain(alloc, format)?)?;
-        let mut outputs = SureOutputs::new(alloc, Vec::new(alloc))?;
-        let answer = give_each(alloc, &mut outlet, texts, last(faulty), &mut outputs)?;
-        assert_eq!(rt; answer, ending(faulty), "row {i}");
-        assert_eq!(rt;
-            bytes_of(&outputs, &Target::Stdout),
-            want.as_bytes(),
-            "row {i}"
-        );
-        assert_eq!(rt;
-            bytes_of(&outputs, &Target::Stderr),
-            b"".as_slice(),
-            "row {i}"
-        );
+        for each in [false, true] {
+            let mut outlet = Outlet::new(alloc, &plain(alloc, format)?)?;
+            let mut outputs = SureOutputs::new(alloc, Vec::new(alloc))?;
+            let end = if each {
+                give_each(alloc, &mut outlet, texts, last(faulty), &mut outputs)?
+            } else {
+                give_all(alloc, &mut outlet, texts, last(faulty), &mut outputs)?
+            };
+            let written = bytes_of(&outputs, &Target::Stdout);
+            let errors = bytes_of(&outputs, &Target::Stderr);
+            assert_eq!(rt; end, ending(faulty), "row {i}, each alone: {each}");
+            assert_eq!(rt; written, want.as_bytes(), "row {i}, each alone: {each}");
+            assert_eq!(rt; errors, b"".as_slice(), "row {i}, each alone: {each}");
+        }
     }
     Ok(())
 }
@@ -301,7 +278,7 @@ fn outputs(alloc: Global, room: usize, failing: &[u64]) -> Result<MemOutputs, No
     MemOutputs::new(alloc, held, room, Vec::from_slice(alloc, failing)?)
 }
 
-/// The room, the calls that fail, and what stands in standard output: a call that fails leaves half of its text.
+/// The room, the calls that fail, and what is in standard output: a call that fails leaves half of its text.
 const FAILING: [(usize, &[u64], &[u8]); 3] = [
     (100, &[1], b"before\na=1\n"),
     (100, &[2], b"before\na=1\nb=2\nc="),
@@ -309,23 +286,19 @@ const FAILING: [(usize, &[u64], &[u8]); 3] = [
 ];
 
 #[test]
-fn a_write_that_fails(rt: HostRuntime) -> Result<(), NoMemory> {
+fn a_write_that_fails_ends_the_outlet_and_a_shut_outlet_writes_nothing(
+    rt: HostRuntime,
+) -> Result<(), NoMemory> {
     let alloc = rt.alloc();
     for (i, row) in FAILING.iter().enumerate() {
         let (room, failing, want) = *row;
         let mut outlet = Outlet::new(alloc, &plain(alloc, Format::Dkvp)?)?;
         let mut outputs = outputs(alloc, room, failing)?;
         let texts = "a=1|b=2/c=3/d=4";
-        let answer = give_all(alloc, &mut outlet, texts, last(false), &mut outputs)?;
-        assert_eq!(rt; answer, Let::Failed(Target::Stdout), "row {i}");
+        let end = give_all(alloc, &mut outlet, texts, last(false), &mut outputs)?;
+        assert_eq!(rt; end, Let::Failed(Target::Stdout), "row {i}");
         assert!(rt; outputs.bytes_of(&Target::Stdout) == Some(want), "row {i}");
     }
-    Ok(())
-}
-
-#[test]
-fn shut(rt: HostRuntime) -> Result<(), NoMemory> {
-    let alloc = rt.alloc();
     let mut outlet = Outlet::new(alloc, &plain(alloc, Format::Json)?)?;
     let mut outputs = outputs(alloc, 100, &[])?;
     assert_eq!(rt; outlet.shut(&mut outputs), Let::Over(None));

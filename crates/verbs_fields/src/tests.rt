@@ -1,0 +1,405 @@
+//! What the functions on fields make of records, by tables.
+
+use crate::{
+    Renaming, Unspace, UnspacePart, all_defined, altkv, any_defined, are_distinct, drop_named,
+    has_all, has_no_others, keep_named, label, pick_named, rename_each, reorder_first,
+    reorder_last, sort_within, sparsify, template,
+};
+use mlr_event::Names;
+use mlr_record::Record;
+use mlr_spec::{InferOpts, NoMemory};
+use mlr_value::{ArrayValue, Bytes, MapValue, Value, from_data};
+use std::alloc::Global;
+use text_forms::append_shown;
+
+/// The record of a text such as `a=1,b=2`, with its values as data.
+fn row(alloc: Global, text: &str) -> Result<Record, NoMemory> {
+    let mut made = Record::new(alloc)?;
+    for field in text.split(',') {
+        if let Some((name, value)) = field.split_once('=') {
+            let value = from_data(alloc, value.as_bytes(), InferOpts::plain())?;
+            made.put(name.as_bytes(), value)?;
+        }
+    }
+    Ok(made)
+}
+
+/// The names of a text such as `a,b`.
+fn names(alloc: Global, text: &str) -> Result<Names, NoMemory> {
+    let mut made = Names::new(alloc);
+    for name in text.split(',') {
+        made.push(Bytes::copy_of(alloc, name.as_bytes())?)?;
+    }
+    Ok(made)
+}
+
+/// Whether the record is that of the text, field by field.
+fn is_row(alloc: Global, made: &Record, text: &str) -> Result<bool, NoMemory> {
+    let mut shown = Bytes::new(alloc);
+    for place in 0..made.len() {
+        let (name, value) = made.entry(place);
+        if place > 0 {
+            shown.append(b",")?;
+        }
+        shown.append(name)?;
+        shown.append(b"=")?;
+        append_shown(value, &mut shown)?;
+    }
+    Ok(shown.as_slice() == text.as_bytes())
+}
+
+/// The names `k0` to `k999` with their numbers, as fields.
+fn thousand(alloc: Global) -> Result<Record, NoMemory> {
+    let mut made = Record::new(alloc)?;
+    for number in 0..1000u32 {
+        let mut name = Bytes::copy_of(alloc, b"k")?;
+        let mut buffer = itoa::Buffer::new();
+        let text = buffer.format(number);
+        name.append(text.as_bytes())?;
+        made.put(
+            name.as_slice(),
+            from_data(alloc, text.as_bytes(), InferOpts::plain())?,
+        )?;
+    }
+    Ok(made)
+}
+
+/// A change of a record, with the names and texts that it is given.
+enum Change {
+    Keep(&'static str),
+    Drop(&'static str),
+    Pick(&'static str),
+    Template(&'static str, &'static str),
+    Sparsify(Option<&'static str>),
+    First(&'static str),
+    Last(&'static str),
+    Sort(bool),
+    Label(&'static str),
+    Rename(&'static [(&'static str, &'static str)]),
+    Altkv,
+    Spaces(&'static str, UnspacePart),
+}
+
+use Change::*;
+
+/// The record after the change.
+fn changed(alloc: Global, change: &Change, from: Record) -> Result<Record, NoMemory> {
+    Ok(match change {
+        Keep(texts) => keep_named(&names(alloc, texts)?, from),
+        Drop(texts) => drop_named(&names(alloc, texts)?, from),
+        Pick(texts) => pick_named(&names(alloc, texts)?, from)?,
+        Template(texts, fill) => template(alloc, &names(alloc, texts)?, fill.as_bytes(), from)?,
+        Sparsify(None) => sparsify(None, from),
+        Sparsify(Some(texts)) => sparsify(Some(&names(alloc, texts)?), from),
+        First(texts) => reorder_first(&names(alloc, texts)?, from)?,
+        Last(texts) => reorder_last(&names(alloc, texts)?, from)?,
+        Sort(deep) => sort_within(alloc, *deep, from)?,
+        Label(texts) => {
+            let labels = names(alloc, texts)?;
+            if !are_distinct(&labels) {
+                return Ok(from);
+            }
+            label(&labels, from)?
+        }
+        Rename(pairs) => rename_each(renamings(alloc, pairs)?.as_slice(), from)?,
+        Altkv => altkv(alloc, from)?,
+        Spaces(text, part) => {
+            let text = Bytes::copy_of(alloc, text.as_bytes())?;
+            Unspace { text, part: *part }.take(alloc, from)?
+        }
+    })
+}
+
+/// The renamings of these names.
+fn renamings(alloc: Global, pairs: &[(&str, &str)]) -> Result<Vec<Renaming>, NoMemory> {
+    let mut made = Vec::new(alloc);
+    for (old, new) in pairs {
+        made.push(Renaming {
+            old: Bytes::copy_of(alloc, old.as_bytes())?,
+            new: Bytes::copy_of(alloc, new.as_bytes())?,
+        })?;
+    }
+    Ok(made)
+}
+
+/// A change, a record, and the record after the change.
+const CHANGES: [(Change, &str, &str); 85] = [
+    // Fields are kept, dropped and picked by their names.
+    (Keep("a,c"), "c=3,b=2,a=1", "c=3,a=1"),
+    (Drop("a,c"), "c=3,b=2,a=1", "b=2"),
+    (Pick("a,c"), "c=3,b=2,a=1", "a=1,c=3"),
+    (Keep("a,a,c"), "c=3,b=2,a=1", "c=3,a=1"),
+    (Drop("a,a,c"), "c=3,b=2,a=1", "b=2"),
+    (Pick("a,a,c"), "c=3,b=2,a=1", "a=1,c=3"),
+    (Keep("c,a,c"), "c=3,b=2,a=1", "c=3,a=1"),
+    (Drop("c,a,c"), "c=3,b=2,a=1", "b=2"),
+    (Pick("c,a,c"), "c=3,b=2,a=1", "c=3,a=1"),
+    (Keep("x,y"), "a=1,b=2", ""),
+    (Drop("x,y"), "a=1,b=2", "a=1,b=2"),
+    (Pick("x,y"), "a=1,b=2", ""),
+    (Keep(""), "=1,b=2", "=1"),
+    (Drop(""), "=1,b=2", "b=2"),
+    (Pick(""), "=1,b=2", "=1"),
+    (Keep("a b,="), "a b=1,a=2", "a b=1"),
+    (Drop("a b,="), "a b=1,a=2", "a=2"),
+    (Pick("a b,="), "a b=1,a=2", "a b=1"),
+    (Keep("ab,a"), "a=1,ab=2,abc=3", "a=1,ab=2"),
+    (Drop("ab,a"), "a=1,ab=2,abc=3", "abc=3"),
+    (Pick("ab,a"), "a=1,ab=2,abc=3", "ab=2,a=1"),
+    (Keep("a"), "", ""),
+    (Drop("a"), "", ""),
+    (Pick("a"), "", ""),
+    // A template fills missing fields.
+    (Template("z,a,b", ""), "b=2,a=1,c=3", "z=,a=1,b=2"),
+    (Template("z,a,z", "X"), "b=2,a=1,c=3", "z=X,a=1"),
+    (Template("a,b", "0"), "", "a=0,b=0"),
+    (Template("a", "X"), "a=", "a="),
+    (Template("", "a b"), "a=1", "=a b"),
+    (Template("a,a,a", "X"), "a=5", "a=5"),
+    // Empty fields are dropped, all or only the named ones.
+    (Sparsify(None), "a=1,b=,c=3,=", "a=1,c=3"),
+    (Sparsify(None), "a=,b=", ""),
+    (Sparsify(Some("a,b")), "a=1,b=,c=,d=4", "a=1,c=,d=4"),
+    (Sparsify(Some("a,b")), "a= ,c=", "a= ,c="),
+    // The named fields come first or last.
+    (First("a,b"), "d=4,b=2,a=1,c=3", "a=1,b=2,d=4,c=3"),
+    (Last("a,b"), "d=4,b=2,a=1,c=3", "d=4,c=3,a=1,b=2"),
+    (First("b,a,b"), "a=1,b=2,c=3", "b=2,a=1,c=3"),
+    (Last("b,a,b"), "a=1,b=2,c=3", "c=3,b=2,a=1"),
+    (First("x"), "a=1,b=2", "a=1,b=2"),
+    (Last("x"), "a=1,b=2", "a=1,b=2"),
+    (First(""), "a=1,=2", "=2,a=1"),
+    (Last(""), "a=1,=2", "a=1,=2"),
+    (First("a"), "", ""),
+    (Last("a"), "", ""),
+    // Fields are sorted by the bytes of their names.
+    (Sort(false), "c=1,a=2,b=3", "a=2,b=3,c=1"),
+    (Sort(true), "c=1,a=2,b=3", "a=2,b=3,c=1"),
+    (Sort(false), "ab=1,b=2,a=3,=4,B=5", "=4,B=5,a=3,ab=1,b=2"),
+    (Sort(true), "ab=1,b=2,a=3,=4,B=5", "=4,B=5,a=3,ab=1,b=2"),
+    (Sort(false), "k10=1,k9=2,k1=3", "k1=3,k10=1,k9=2"),
+    (Sort(true), "k10=1,k9=2,k1=3", "k1=3,k10=1,k9=2"),
+    (Sort(false), "a=1", "a=1"),
+    (Sort(true), "a=1", "a=1"),
+    (Sort(false), "", ""),
+    (Sort(true), "", ""),
+    // Labels replace the first names.
+    (Label("d"), "a=1,b=2,c=3", "d=1,b=2,c=3"),
+    (Label("d,e"), "a=1,b=2,c=3", "d=1,e=2,c=3"),
+    (Label("c"), "a=1,b=2,c=3", "c=1,b=2"),
+    (Label("b,a"), "a=1,b=2,c=3", "b=1,a=2,c=3"),
+    (Label("c,b,a"), "a=1,b=2,c=3", "c=1,b=2,a=3"),
+    (Label("d,e,f,c"), "a=1,b=2,c=3", "d=1,e=2,f=3"),
+    (Label("d,e,f,g"), "", ""),
+    (Label(""), "a=1,=2,c=3", "=1,c=3"),
+    (Label("a b"), "a=1,a b=2,c=3", "a b=1,c=3"),
+    // Fields are renamed in turn.
+    (Rename(&[("a", "b"), ("b", "d")]), "a=1,b=2,c=3", "d=1,c=3"),
+    (Rename(&[("a", "c")]), "a=1,b=2,c=3", "c=1,b=2"),
+    (Rename(&[("a", "c")]), "b=2,c=3", "b=2,c=3"),
+    (
+        Rename(&[("", "x y"), ("c", "c"), ("z", "")]),
+        "=1,c=3",
+        "x y=1,c=3",
+    ),
+    // Values become keys and values in turn.
+    (Altkv, "a=p,b=q,c=r,d=s", "p=q,r=s"),
+    (Altkv, "a=p,b=q,c=r", "p=q,2=r"),
+    (Altkv, "a=p", "1=p"),
+    (Altkv, "", ""),
+    (Altkv, "a=p,b=1,c=q,d=2,e=p,f=3", "p=3,q=2"),
+    (Altkv, "a=0x0F,b=1,c=,d=2", "0x0F=1,=2"),
+    (Altkv, "a=2,b=x,c=y", "2=y"),
+    // A text replaces spaces.
+    (
+        Spaces("_", UnspacePart::Both),
+        "a b=c d,e= f ",
+        "a_b=c_d,e=_f_",
+    ),
+    (
+        Spaces("_", UnspacePart::Keys),
+        "a b=c d,e f=g",
+        "a_b=c d,e_f=g",
+    ),
+    (
+        Spaces("_", UnspacePart::Values),
+        "a b=c d,e f=g",
+        "a b=c_d,e f=g",
+    ),
+    (Spaces("_", UnspacePart::Both), "a=1,b=", "a=1,b="),
+    (Spaces("", UnspacePart::Both), "a b= , =1 2", "ab=,=12"),
+    (
+        Spaces("::", UnspacePart::Both),
+        "a  b=c  d",
+        "a::::b=c::::d",
+    ),
+    (Spaces(" ", UnspacePart::Both), "a b=c d", "a b=c d"),
+    (
+        Spaces("_", UnspacePart::Both),
+        "a b=1,c=2,a_b=3",
+        "a_b=3,c=2",
+    ),
+    (Spaces("_", UnspacePart::Both), "a_b=1,a b=2", "a_b=2"),
+    (
+        Spaces("_", UnspacePart::Values),
+        "a b=1,a_b=2",
+        "a b=1,a_b=2",
+    ),
+    (Spaces("_", UnspacePart::Both), "", ""),
+];
+
+/// A record of a thousand fields is changed, and has so many fields then, of which this one is at this place.
+const OF_A_THOUSAND: [(Change, usize, usize, &str); 11] = [
+    (Keep("k999,k0,k500"), 3, 0, "k0"),
+    (Keep("k999,k0,k500"), 3, 1, "k500"),
+    (Keep("k999,k0,k500"), 3, 2, "k999"),
+    (Pick("k999,k0,k500"), 3, 0, "k999"),
+    (Pick("k999,k0,k500"), 3, 1, "k0"),
+    (Pick("k999,k0,k500"), 3, 2, "k500"),
+    (Drop("k999,k0,k500"), 997, 0, "k1"),
+    (First("k999"), 1000, 0, "k999"),
+    (First("k999"), 1000, 999, "k998"),
+    (Sort(true), 1000, 2, "k10"),
+    (Sort(true), 1000, 999, "k999"),
+];
+
+#[test]
+fn records_have_these_fields_after_a_change(rt: HostRuntime) -> Result<(), NoMemory> {
+    let alloc = rt.alloc();
+    for (i, (change, from, want)) in CHANGES.iter().enumerate() {
+        let made = changed(alloc, change, row(alloc, from)?)?;
+        assert!(rt; is_row(alloc, &made, want)?, "at {i}: {from} to {want}");
+    }
+    for (change, len, place, want) in &OF_A_THOUSAND {
+        let made = changed(alloc, change, thousand(alloc)?)?;
+        assert_eq!(rt; made.len(), *len, "{want} at {place}");
+        let name = made.at(*place).map(|field| field.0);
+        assert_eq!(rt; name, Some(want.as_bytes()), "{want} at {place}");
+    }
+    let made = changed(alloc, &Keep("k999,k0,k500"), thousand(alloc)?)?;
+    assert!(rt; is_row(alloc, &made, "k0=0,k500=500,k999=999")?);
+    let made = changed(alloc, &Pick("k999,k0,k500"), thousand(alloc)?)?;
+    assert!(rt; is_row(alloc, &made, "k999=999,k0=0,k500=500")?);
+    Ok(())
+}
+
+/// Names, a record, and whether it has all names, none beyond them, all defined, and one defined.
+const HAVINGS: [(&str, &str, [bool; 4]); 7] = [
+    ("a,b", "b=2,a=1", [true, true, true, true]),
+    ("a,b", "b=2,a=1,c=3", [true, false, true, true]),
+    ("a,b", "a=1", [false, true, false, true]),
+    ("a,b", "a=,b=2", [true, true, false, true]),
+    ("a,b", "a=,b=,c=3", [true, false, false, false]),
+    ("a,b", "", [false, true, false, false]),
+    ("", "=0", [true, true, true, true]),
+];
+
+/// Names, and whether they are distinct.
+const DISTINCT: [(&str, bool); 13] = [
+    ("a,b,a", false),
+    ("a,b,b", false),
+    (",", false),
+    ("a,ab,", true),
+    ("d", true),
+    ("d,e", true),
+    ("c", true),
+    ("b,a", true),
+    ("c,b,a", true),
+    ("d,e,f,c", true),
+    ("d,e,f,g", true),
+    ("", true),
+    ("a b", true),
+];
+
+/// Texts of options: two lie inline, and one doesn't.
+const TEXTS: [&str; 3] = ["", "_", "a text of more bytes than lie inline"];
+
+#[test]
+fn names_are_compared_and_options_are_copied(rt: HostRuntime) -> Result<(), NoMemory> {
+    let alloc = rt.alloc();
+    for (i, (texts, from, want)) in HAVINGS.iter().enumerate() {
+        let names = names(alloc, texts)?;
+        let from = row(alloc, from)?;
+        let have = [
+            has_all(&names, &from),
+            has_no_others(&names, &from),
+            all_defined(&names, &from),
+            any_defined(&names, &from),
+        ];
+        assert_eq!(rt; have, *want, "at {i}");
+    }
+    for (texts, want) in &DISTINCT {
+        assert_eq!(rt; are_distinct(&names(alloc, texts)?), *want, "{texts}");
+    }
+    for text in &TEXTS {
+        let renaming = Renaming {
+            old: Bytes::copy_of(alloc, text.as_bytes())?,
+            new: Bytes::copy_of(alloc, b"new")?,
+        };
+        let copy = renaming.copy(alloc)?;
+        assert!(rt;
+            copy.old == renaming.old && copy.new == renaming.new,
+            "{text}"
+        );
+        let unspace = Unspace {
+            text: copy.old,
+            part: UnspacePart::Keys,
+        };
+        let copy = unspace.copy(alloc)?;
+        assert_eq!(rt; copy.text.as_slice(), text.as_bytes(), "{text}");
+        assert_eq!(rt; copy.part, UnspacePart::Keys, "{text}");
+    }
+    Ok(())
+}
+
+/// A record with the field `m`, a map of the keys `b` and `a`, and with `l`, an array of such a map.
+fn nested(alloc: Global) -> Result<Record, NoMemory> {
+    let mut map = MapValue::new(alloc)?;
+    map.put(b"b", Value::Bool(true))?;
+    map.put(b"a", Value::Empty)?;
+    let mut outer = MapValue::new(alloc)?;
+    outer.put(b"z", Value::Map(map.copy(alloc)?))?;
+    outer.put(b"y", Value::Error)?;
+    let mut array = ArrayValue::new(alloc);
+    array.push(Value::Map(map))?;
+    let mut made = Record::new(alloc)?;
+    made.put(b"m", Value::Map(outer))?;
+    made.put(b"l", Value::Array(array))?;
+    Ok(made)
+}
+
+#[test]
+fn collections_and_inferred_values_are_changed(rt: HostRuntime) -> Result<(), NoMemory> {
+    let alloc = rt.alloc();
+    let made = changed(alloc, &Sort(false), nested(alloc)?)?;
+    let want =
+        "l=[{\"b\": true, \"a\": \"\"}],m={\"z\": {\"b\": true, \"a\": \"\"}, \"y\": (error)}";
+    assert!(rt; is_row(alloc, &made, want)?);
+    let made = changed(alloc, &Sort(true), nested(alloc)?)?;
+    let want =
+        "l=[{\"a\": \"\", \"b\": true}],m={\"y\": (error), \"z\": {\"a\": \"\", \"b\": true}}";
+    assert!(rt; is_row(alloc, &made, want)?);
+
+    let mut array = ArrayValue::new(alloc);
+    array.push(Value::Bool(true))?;
+    array.push(Value::Empty)?;
+    let mut from = Record::new(alloc)?;
+    from.put(b"a", Value::Array(array))?;
+    from.put(b"b", Value::Bool(false))?;
+    let made = changed(alloc, &Altkv, from)?;
+    assert!(rt; is_row(alloc, &made, "[true, \"\"]=false")?);
+
+    let mut array = ArrayValue::new(alloc);
+    array.push(Value::Str(Bytes::copy_of(alloc, b"x y")?))?;
+    let mut from = Record::new(alloc)?;
+    from.put(b"a b", Value::Array(array))?;
+    let made = changed(alloc, &Spaces("_", UnspacePart::Both), from)?;
+    assert!(rt; is_row(alloc, &made, "a_b=[\"x y\"]")?);
+
+    let from = row(alloc, "a= 1 2,b= ,c=x y")?;
+    let made = changed(alloc, &Spaces("", UnspacePart::Both), from)?;
+    assert!(rt; matches!(made.get(b"a"), Some(Value::Int(int)) if int.n == 12));
+    assert!(rt; matches!(made.get(b"b"), Some(Value::Empty)));
+    assert!(rt; matches!(made.get(b"c"), Some(Value::Str(_))));
+    Ok(())
+}
