@@ -16,10 +16,10 @@ lexeme_seen lexeme.Quote = text.quote
 lexeme_seen (lexeme.Raw bytes) = text.piece (raw bytes.now)
 lexeme_seen (lexeme.Unit u) = text.piece (unit u)
 
-abbrev pub lexeme_seen : Scanned → text.Scanned
-lexeme_seen (Found l len) = text.found (lexeme_seen l) len
-lexeme_seen Begun = text.begun
-lexeme_seen (Bad offset) = text.bad offset
+abbrev pub scan_seen : Scanned → text.Scanned
+scan_seen (Found l len) = text.found (lexeme_seen l) len
+scan_seen Begun = text.begun
+scan_seen (Bad offset) = text.bad offset
 
 -- a lexeme has at least one byte, and no more than the text; a bad byte is a byte of the text
 abbrev pub IsWithin : ℕ → Scanned → Type 0

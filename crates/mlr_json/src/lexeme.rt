@@ -3,7 +3,7 @@ ghost use Rattle.std.specs.Prelude.{◌≡◌, ◌+◌, ◌*◌, ◌<◌, ◌≤
 ghost use Rattle.std.specs.List.{prefix_len};
 ghost use Rattle.mlr_spec.specs.Infer.{digit, number};
 ghost use Rattle.mlr_spec.specs.JsonTokens.{is_blank, is_word_byte, is_raw, is_hex, mark_of, escape_of, lexeme_unmarked, lexeme_outside, lexeme_inside, lexeme_of_escape, lexeme_of_unit, first_lexeme};
-ghost use Rattle.mlr_json.specs.Seen.{lexeme_seen, IsWithin, EscapeIs};
+ghost use Rattle.mlr_json.specs.Seen.{scan_seen, IsWithin, EscapeIs};
 
 use mlr_spec::JsonMark;
 
@@ -39,7 +39,7 @@ pub enum Scanned<'a> {
 /// The lexeme at the start of a text, within a string or outside. It doesn't allocate.
 #[inline]
 pub fn first_lexeme(inside: bool, text: &[u8]) -> Scanned<'_>
-    ensures prefix { lexeme_seen result ≡ first_lexeme inside text.now }
+    ensures prefix { scan_seen result ≡ first_lexeme inside text.now }
     ensures within { IsWithin (length text.now) result }
 {
     if inside {
@@ -52,7 +52,7 @@ pub fn first_lexeme(inside: bool, text: &[u8]) -> Scanned<'_>
 #[inline]
 #[tactic(auto, unfolding(mlr_spec::specs::JsonTokens::lexeme_outside))]
 fn lexeme_outside(text: &[u8]) -> Scanned<'_>
-    ensures prefix { lexeme_seen result ≡ lexeme_outside text.now }
+    ensures prefix { scan_seen result ≡ lexeme_outside text.now }
     ensures within { IsWithin (length text.now) result }
 {
     match text {
@@ -82,7 +82,7 @@ fn mark_of(byte: u8) -> Option<JsonMark>
 /// What is between marks.
 fn lexeme_unmarked(text: &[u8]) -> Scanned<'_>
     requires { 0 < length text.now }
-    ensures prefix { lexeme_seen result ≡ lexeme_unmarked text.now }
+    ensures prefix { scan_seen result ≡ lexeme_unmarked text.now }
     ensures within { IsWithin (length text.now) result }
 {
     let first = text[0];
@@ -162,7 +162,7 @@ fn raw_len(text: &[u8]) -> usize
 #[inline]
 #[tactic(auto, unfolding(mlr_spec::specs::JsonTokens::lexeme_inside))]
 fn lexeme_inside(text: &[u8]) -> Scanned<'_>
-    ensures prefix { lexeme_seen result ≡ lexeme_inside text.now }
+    ensures prefix { scan_seen result ≡ lexeme_inside text.now }
     ensures within { IsWithin (length text.now) result }
 {
     match text {
@@ -178,7 +178,7 @@ fn lexeme_inside(text: &[u8]) -> Scanned<'_>
 
 /// What follows a backslash. The lengths count the backslash too.
 fn lexeme_of_escape(text: &[u8]) -> Scanned<'_>
-    ensures prefix { lexeme_seen result ≡ lexeme_of_escape text.now }
+    ensures prefix { scan_seen result ≡ lexeme_of_escape text.now }
     ensures within { IsWithin (1 + length text.now) result }
 {
     match text {
@@ -210,7 +210,7 @@ fn escape_of(letter: u8) -> Option<&'static [u8]>
 
 /// What follows `\u`. The lengths count these two bytes too.
 fn lexeme_of_unit(text: &[u8]) -> Scanned<'_>
-    ensures prefix { lexeme_seen result ≡ lexeme_of_unit text.now }
+    ensures prefix { scan_seen result ≡ lexeme_of_unit text.now }
     ensures within { IsWithin (2 + length text.now) result }
 {
     let digits = hex_len(text);
