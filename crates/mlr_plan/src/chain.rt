@@ -1,3 +1,4 @@
+//! The verbs of a plan as a chain.
 ghost use Rattle.std.specs.Prelude.{◌≡◌, ◌++◌, ◌∷◌, [], IfOk, OnOk};
 ghost use Rattle.chain_core.specs.Chain.{chain};
 ghost use Rattle.chain_core.specs.Represents.{Represents, verbs_in};
@@ -10,8 +11,8 @@ use mlr_event::{Events, Step};
 use mlr_spec::NoMemory;
 use std::alloc::Global;
 
-/// The verbs of a plan one behind the other, without the source. They have begun, and `made` gets what they make before
-/// the first event. It takes memory for each verb.
+/// The verbs of a plan one after another, without the source. They have begun, and `made` gets what they make
+/// before the first event. It allocates for each verb.
 pub fn chain_of(
     alloc: Global,
     verbs: &[VerbSpec],
@@ -31,7 +32,7 @@ pub fn chain_of(
     Ok(stages)
 }
 
-/// The verbs behind the source, or all where there is none.
+/// The verbs after the source, or all where there is none.
 fn without_source(verbs: &[VerbSpec]) -> &[VerbSpec]
     requires { AreSound verbs.now }
     ensures sound { AreVerbs result.now }
@@ -43,7 +44,7 @@ fn without_source(verbs: &[VerbSpec]) -> &[VerbSpec]
     }
 }
 
-/// Makes the verb of these options, begins it, and puts it last.
+/// Makes the verb of these options, begins it, and appends it.
 fn push_verb(
     alloc: Global,
     spec: &VerbSpec,

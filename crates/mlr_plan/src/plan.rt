@@ -1,3 +1,4 @@
+//! A command as a plan: inputs, verbs and styles.
 ghost use Rattle.std.specs.Prelude.{◌≡◌, IfOk};
 ghost use Rattle.mlr_plan.specs.Plans.{AreSameVerbs, IsCopy, IsSound};
 

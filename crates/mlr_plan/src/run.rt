@@ -1,3 +1,4 @@
+//! The run of a plan.
 ghost use Rattle.std.specs.Prelude.{◌≡◌, ◌≤◌, [], true, IfOk};
 ghost use Rattle.mlr_event.specs.declared.names.InputName.{InputName};
 ghost use Rattle.mlr_event.specs.declared.names.Target.TheVariants.{Stdout};
@@ -25,8 +26,8 @@ use serial_core::{Ended, Reader, Serial};
 use std::alloc::Global;
 use verbs_seq::{SeqSource, SeqSpec};
 
-/// Runs a plan, one thing after the other, and answers how the run ended. It writes no message. A read is made only where
-/// the result isn't fixed, and all text that is fixed is written before it.
+/// Runs a plan from start to end, and returns how the run ended. It writes no message. A read is made only
+/// where the result isn't fixed, and all text that is fixed is written before it.
 pub fn run_serial<I: Inputs, O: Outputs>(
     alloc: Global,
     plan: &Plan,
@@ -34,7 +35,7 @@ pub fn run_serial<I: Inputs, O: Outputs>(
     outputs: &mut O,
 ) -> Ended
     requires { IsSound plan.now }
-    // What was taken, what the answer says of it, and what standard output is left with.
+    // What was taken, what the outcome says of it, and what standard output is left with.
     ensures run { (command : Command) → IsCommandOf plan.now command
         → Run result command (I.contents inputs.old) (I.taken inputs.old) (I.taken inputs.new)
         (I.open_name inputs.new) (O.held outputs.old) (O.held outputs.new) }
@@ -44,7 +45,7 @@ pub fn run_serial<I: Inputs, O: Outputs>(
     ensures counts { Counted (has_failed result) (O.faults outputs.old) (O.faults outputs.new)
         Stdout }
     ensures shortages { O.shortages outputs.old ≤ O.shortages outputs.new }
-    // Where no call fails, the answer is that of all that the inputs hold.
+    // Where no call fails, the outcome is that of all that the inputs hold.
     ensures completes { (command : Command) → IsCommandOf plan.now command
         → (holds : HoldsAll command (I.contents inputs.old) (I.taken inputs.old))
         → ((name : InputName) → ¬ Rose (I.faults inputs.old name) (I.faults inputs.new name))

@@ -1,3 +1,4 @@
+//! Verbs of a chain, of any kind.
 ghost use Rattle.std.specs.Prelude.{◌≡◌, ◌++◌, ◌∷◌, [], IfOk, OnOk};
 ghost use Rattle.mlr_plan.specs.Plans.{IsVerb, verbs_of};
 
@@ -39,7 +40,7 @@ impl Verb {
         }
     }
 
-    /// Puts what the verb makes before all events behind `out`. It is called once, before the first step.
+    /// Appends what the verb makes before all events. It is called once, before the first step.
     pub fn begin(&mut self, out: &mut Events) -> Result<(), NoMemory>
         requires { ⟦<Verb as Step>⟧.represents self.old [] }
         ensures verb { ⟦<Verb as Step>⟧.verb self.new ≡ ⟦<Verb as Step>⟧.verb self.old }

@@ -1,3 +1,4 @@
+//! Verbs of a plan, of any kind, with their options.
 ghost use Rattle.std.specs.Prelude.{IfOk};
 ghost use Rattle.mlr_plan.specs.Plans.{AreSame};
 

@@ -1,4 +1,4 @@
--- What standard output gets of a list goes on as the list goes on.
+-- What standard output gets of a longer list extends what it gets of a shorter one.
 use Rattle.std.proofs.Common.{◌≡◌, ℕ, Bool, true, false, not, ◌||◌, List, [], ◌∷◌, ◌++◌, Some, None, refl, ap, ap₂, sym, ◌∙◌}
 use Rattle.std.specs.List.{list_any}
 use Rattle.std.proofs.lemmas.Bool.{not-true, or_parts}
@@ -46,7 +46,7 @@ end-following events following open_is = list_any-append is_end events following
 pub bodies-append : (events following : List Event) → bodies (events ++ following) ≡ bodies events ++ bodies following
 bodies-append events following = flat_map-append event_bodies events following
 
--- the text of an open list, and of one behind it
+-- the text of an open list, and of one after it
 pub out-open : (opts : WriteOpts) (events : List Event) → is_open events ≡ true → out_of opts events ≡ written opts (bodies events) false
 out-open opts events open_is = ap (written opts (bodies events)) (no-end events open_is)
 

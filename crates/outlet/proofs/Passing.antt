@@ -1,4 +1,4 @@
--- The events of a list are put one after another; those that are left stand in the turned order.
+-- The events of a list are appended one after another; the remaining ones are in reverse order.
 use Rattle.std.proofs.Common.{◌≡◌, ℕ, Bool, true, false, not, ◌&&◌, List, [], ◌∷◌, ◌++◌, reverse, Option, Some, None, refl, ap, sym, ◌∙◌, subst, append_assoc}
 use Rattle.std.proofs.lemmas.Bool.{and_parts, not-true, true≢false}
 use Rattle.std.proofs.lemmas.List.{append-nil, reverse-append, reverse-reverse}
@@ -19,7 +19,7 @@ adds-both : (first now later before middle after : List ℕ) → Adds first now 
 adds-both first now later before middle after a b =
     (a.0 ++ b.0, b.1 ∙ ap (λ t. t ++ b.0) a.1 ∙ append_assoc before a.0 b.0, b.2 ∙ ap (λ t. t ++ b.0) a.2 ∙ append_assoc first a.0 b.0)
 
--- nothing stands behind a last event
+-- nothing follows a last event
 last-alone : (xs : List Event) (y : Event) (ys : List Event) → is_list (xs ++ y ∷ ys) ≡ true → is_last y ≡ true → ys ≡ []
 last-alone [] y [] list last = refl
 last-alone [] y (z ∷ ys) list last = absurd (true≢false (sym last ∙ not-true (is_last y) (and_parts (not (is_last y)) (is_list (z ∷ ys)) list).0))
@@ -93,7 +93,7 @@ module _ (first : Outlet) (events : List Event) (now : Outlet) (left : List Even
       whole : events ≡ so_far.passed ++ e ∷ []
       whole = rest-is ∙ ap (λ t. so_far.passed ++ e ∷ t) nothing-left
 
-  -- so nothing is left
+  -- so nothing remains
   pub last-left : (fault : Option Fault) → over_by e ≡ Some fault → (before : List Event) → is_list (before ++ events) ≡ true → left ≡ []
   last-left fault is before list = sym (reverse-reverse left) ∙ ap reverse (last-alone (before ++ so_far.passed) e (reverse left) (list-is before list) (over-last e fault is))
 

@@ -40,7 +40,7 @@ pub answers-over : (over : Option (Option Fault)) → AnswersFor over (let_of ov
 answers-over None = refl
 answers-over (Some fault) = refl
 
--- what it answers of what was put
+-- what it returns of what was appended
 says-of : (over : Option (Option Fault)) (answer : Let) (events : List Event) → AnswersFor over answer → LetSays (let_of over) events → LetSays answer events
 says-of over Went events is says = subst (λ o. LetSays (let_of o) events) is says
 says-of over (Over fault) events is says = subst (λ o. LetSays (let_of o) events) is says

@@ -42,6 +42,6 @@ abbrev pub fault_in : List Event → Option Fault
 fault_in [] = None
 fault_in (e ∷ events) = elim (fault_of e) [ Some fault ↦ Some fault | None ↦ fault_in events ]
 
--- the text: that of all records and texts in order, with what stands at the end once the list has ended
+-- the text: that of all records and texts in order, with what is written at the end once the list has ended
 abbrev pub out_of : WriteOpts → List Event → List ℕ
 out_of opts events = written opts (bodies events) (list_any is_end events)

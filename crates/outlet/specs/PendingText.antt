@@ -1,4 +1,4 @@
--- What an outlet puts into its text before it writes it.
+-- What an outlet appends to its text before it writes it.
 use Rattle.std.specs.Prelude.{◌≡◌, true, List, ◌++◌, Option, Some, None}
 use Rattle.mlr_event.specs.Adding.{Adds}
 use Rattle.mlr_event.specs.declared.event.Event.{Event}
@@ -22,12 +22,12 @@ over_by (event.Out target piece) = None
 over_by (event.End ctx) = Some None
 over_by (event.Fault fault) = Some (Some fault)
 
--- what is answered once all is written
+-- the result once all is written
 abbrev pub let_of : Option (Option Fault) → Let
 let_of None = Went
 let_of (Some fault) = Over fault
 
--- an answer of a write of all that was put
+-- a result of a write of all that was appended
 abbrev pub AnswersFor : Option (Option Fault) → Let → Type 0
 AnswersFor over Went = over ≡ None
 AnswersFor over (Over fault) = over ≡ Some fault
@@ -40,7 +40,8 @@ pub record IsAt (opts : WriteOpts) (events : List Event) (outlet : Outlet) : Typ
   pub represents : writer.Represents opts outlet.writer (bodies events)
   pub writes : writer.IsOpen outlet.writer
 
--- What was put of events behind others: what standard output gets more of the longer list.
+-- What was appended for events after others: what standard output gets of the longer list beyond the shorter
+-- one.
 pub record Appends (over : Option (Option Fault)) (opts : WriteOpts) (before events : List Event) (outlet outlet' : Outlet) : Type 0 where
   pub says : LetSays (let_of over) (before ++ events)
   pub adds : Adds outlet.text outlet'.text (out_of opts before) (out_of opts (before ++ events))

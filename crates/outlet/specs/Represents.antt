@@ -25,7 +25,7 @@ has_failed (Over fault) = false
 has_failed (Failed target) = true
 has_failed NoMemory = false
 
--- what an answer says of all events that were given
+-- what a result says of all events that were given
 abbrev pub LetSays : Let → List Event → Type 0
 LetSays Went events = is_open events ≡ true
 LetSays (Over None) events = list_any is_end events ≡ true
@@ -33,18 +33,19 @@ LetSays (Over (Some fault)) events = fault_in events ≡ Some fault
 LetSays (Failed target) events = target ≡ Stdout
 LetSays NoMemory events = Unit {0}
 
--- a front of a text was put behind what a target holds
+-- a prefix of a text was appended to what a target holds
 abbrev pub AppendsPrefix : List ℕ → Option (List ℕ) → Option (List ℕ) → Type 0
 AppendsPrefix text before now = (prefix : List ℕ) × IsPrefixOf text prefix × (now ≡ with_bytes prefix before)
 
--- what an answer leaves of a text in standard output
+-- what a result leaves of a text in standard output
 abbrev pub LetLeaves : Let → List ℕ → Option (List ℕ) → Option (List ℕ) → Type 0
 LetLeaves Went text before now = now ≡ with_bytes text before
 LetLeaves (Over fault) text before now = now ≡ with_bytes text before
 LetLeaves (Failed target) text before now = AppendsPrefix text before now
 LetLeaves NoMemory text before now = AppendsPrefix text before now
 
--- What a call did with events behind others: it wrote what standard output gets more of the longer list.
+-- What a call did with events after others: it wrote what standard output gets of the longer list beyond the
+-- shorter one.
 pub record Took (answer : Let) (opts : WriteOpts) (before events : List Event) (held held' : Option Held) : Type 0 where
   pub says : LetSays answer (before ++ events)
   pub more : List ℕ

@@ -1,3 +1,4 @@
+//! The end of a chain: what standard output gets of events.
 ghost use Rattle.std.specs.Prelude.{◌≡◌, ◌≤◌, ◌++◌, ◌∷◌, [], List, true, None, IfOk, OnOk};
 ghost use Rattle.mlr_event.specs.declared.event.Event.{Event as SpecEvent};
 ghost use Rattle.mlr_event.specs.declared.event.Event.TheVariants.{Out};
@@ -18,7 +19,7 @@ use mlr_world::{Done, Outputs};
 use std::alloc::Global;
 use writers::{WriteOpts, Writer};
 
-/// What an outlet answers.
+/// The result of a call of an outlet.
 #[derive(Debug, PartialEq, Eq, Drop)]
 pub enum Let {
     /// All that the events become was written, and more may come.
@@ -31,8 +32,8 @@ pub enum Let {
     NoMemory,
 }
 
-/// The end of a chain: it writes what standard output gets of the events that come. It stands for the list of events that
-/// it was given.
+/// The end of a chain: it writes what standard output gets of the events. It represents the list of events
+/// that it was given.
 pub struct Outlet {
     writer: Writer,
     /// What is to be written next.
@@ -77,8 +78,8 @@ impl Outlet {
         }
     }
 
-    /// Takes all events of a list, writes what they become with one call, and leaves the list empty where it answers Went.
-    /// It takes memory for the text.
+    /// Takes all events of a list, writes what they become with one call, and leaves the list empty where it
+    /// returns Went. It allocates for the text.
     pub fn take_all<O: Outputs>(&mut self, events: &mut Events, outputs: &mut O) -> Let
         requires { (opts : Options) × (before : List SpecEvent) × Represents opts before self.old
             × (is_list (before ++ events.old) ≡ true) }
@@ -108,7 +109,7 @@ impl Outlet {
         Let::Over(None)
     }
 
-    /// Puts what an event becomes into the text. It answers whether the event is the last, with the fault that it is.
+    /// Appends what an event becomes to the text. Returns whether the event is the last, with its fault.
     fn put(&mut self, event: Event) -> Result<Option<Option<Fault>>, NoMemory>
         requires { (opts : Options) × (before : List SpecEvent) × IsAt opts before self.old }
         ensures over { IfOk result (λ over. over ≡ over_by event) }
@@ -127,7 +128,7 @@ impl Outlet {
         }
     }
 
-    /// Puts what a piece becomes into the text, if it is for standard output.
+    /// Appends what a piece becomes to the text, if it is for standard output.
     fn put_piece(&mut self, target: Target, piece: Piece) -> Result<Option<Option<Fault>>, NoMemory>
         requires { IsOpen self.old.writer }
         ensures over { IfOk result (λ over. over ≡ None) }
@@ -142,7 +143,7 @@ impl Outlet {
         }
     }
 
-    /// Puts what a record or a text becomes into the text. No such event is the last.
+    /// Appends what a record or a text becomes to the text. No such event is the last.
     fn put_body(&mut self, body: Body) -> Result<Option<Option<Fault>>, NoMemory>
         requires { IsOpen self.old.writer }
         ensures over { IfOk result (λ over. over ≡ None) }
@@ -155,7 +156,7 @@ impl Outlet {
         Ok(None)
     }
 
-    /// Puts what the events of a list become into the text, and takes them out, up to one that is the last.
+    /// Appends what the events of a list become to the text, and takes them out, up to one that is the last.
     fn put_all(&mut self, events: &mut Events) -> Result<Option<Option<Fault>>, NoMemory>
         requires { (opts : Options) × (before : List SpecEvent) × IsAt opts before self.old
             × (is_list (before ++ events.old) ≡ true) }
@@ -173,7 +174,7 @@ impl Outlet {
         Ok(None)
     }
 
-    /// Writes the text, and answers by whether the events are over.
+    /// Writes the text, and returns whether the events are over.
     fn write<O: Outputs>(&mut self, over: Option<Option<Fault>>, outputs: &mut O) -> Let
         ensures leaves { ChangesAt Stdout (LetLeaves result self.old.text) (O.held outputs.old)
             (O.held outputs.new) }
@@ -197,7 +198,7 @@ impl Outlet {
     }
 }
 
-/// What is answered once all is written.
+/// The result once all is written.
 fn let_of(over: Option<Option<Fault>>) -> Let
     ensures { result ≡ let_of over }
 {

@@ -1,4 +1,4 @@
-//! Events that come to an outlet, and what is in standard output then.
+//! Events that come to an outlet, and what standard output then contains.
 ghost use Rattle.std.specs.Prelude.{◌≡◌, ◌++◌, List, true, false, IfOk};
 ghost use Rattle.mlr_event.specs.declared.event.Event.{Event as SpecEvent};
 ghost use Rattle.mlr_event.specs.Verb.{is_last, is_list, is_open};

@@ -18,7 +18,7 @@ use Rattle.writers.specs.Written.{after, end_text, given, record_after, record_t
 use Rattle.writers.specs.Xtab.{xtab_after}
 use Rattle.writers.proofs.Growing.{run-append, written-append}
 
--- how far an output has come behind a text
+-- the state of the output after a text
 abbrev text_over : Run → Run
 text_over run = record run { mid = false }
 

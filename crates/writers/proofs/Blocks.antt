@@ -15,7 +15,7 @@ use Rattle.writers.specs.Runs.{Record, all_but_last, filled, runs_of, tables, wi
 use Rattle.writers.proofs.Runs.{first-begins, joined-is, joined_after, same_texts-is, same_texts-self}
 use Rattle.writers.proofs.Wholes.{last_text, whole}
 
--- the open run and the runs behind it, the first of which may go on with it
+-- the open run and the runs after it, the first of which may continue it
 abbrev joined_run : Bool → List Record → List Record → List (List Record) → List (List Record)
 joined_run same rows run more = if same then (rows ++ run) ∷ more else rows ∷ run ∷ more
 
@@ -106,7 +106,7 @@ module _ (opts : WriteOpts) (ended : Bool) where
       by true = sym (block-first run [] ∙ append-nil (block_end opts run))
       by false = refl
 
-  -- a record that ends the open run, at runs that are known behind it
+  -- a record that ends the open run, at runs that are known after it
   closes : (run : Run) (next : List Record) (more : List (List Record)) (text : List ℕ) → text ≡ blocks_after (run.any || are_some run.rows) (seen ended (next ∷ more))
       → block_end opts run ++ text ≡ blocks_after run.any (seen ended (run.rows ∷ next ∷ more))
   closes run next more text is =

@@ -32,7 +32,7 @@ still-some : (found : Option ℕ) → is_some (option_map (λ place. place + 1) 
 still-some None = refl
 still-some (Some place) = refl
 
--- a byte among others, at the front of a text or behind it
+-- a byte among others, at the start of a text or later
 among-all : (here special later following : Bool) (found : Option ℕ) → following ≡ (later || is_some found)
     → (special || here || following) ≡ (special || later || is_some (if here && true then Some 0 else option_map (λ place. place + 1) found))
 among-all true true later following found is = refl
@@ -41,7 +41,7 @@ among-all true false false following found is = refl
 among-all false true later following found is = refl
 among-all false false later following found is = is ∙ ap (λ t. later || t) (sym (still-some found))
 
--- a separator of one byte stands where the byte does
+-- a separator of one byte is where the byte is
 one-byte : (test : ℕ → Bool) (s : ℕ) (text : List ℕ) → list_any (λ b. test b || b == s) text ≡ (list_any test text || is_some (place_in (s ∷ []) text))
 one-byte test s [] = refl
 one-byte test s (b ∷ text) = among-all (b == s) (test b) (list_any test text) (list_any (λ b. test b || b == s) text) (place_in (s ∷ []) text) (one-byte test s text)

@@ -1,4 +1,4 @@
--- What is written of worked examples: each computes to the text that stands beside it.
+-- What is written of worked examples: each computes to the text beside it.
 use Rattle.std.specs.Prelude.{◌≡◌, ℕ, Bool, true, false, List, [], ◌∷◌, ◌++◌, map, codes, refl, pos}
 use Rattle.bstr.specs.Utf8.{pieces_from}
 use Rattle.mlr_spec.specs.declared.json.JsonStyle.TheVariants.{Single}
@@ -148,6 +148,6 @@ json_begun = refl
 json_none : (list_of (json_record Single) [] ≡ codes "[\n]\n") × (list_begun (json_record Single) [] ≡ [])
 json_none = (refl, refl)
 
--- a line end is missing behind a record of a list, and a text or the end writes it
+-- a line end is missing after a record of a list, and a text or the end writes it
 line_ends : (line_end_after bodies ≡ codes "\n") × (line_end_after (bodies ++ Text [] ∷ []) ≡ []) × (wants_line_end bodies true ≡ false) × (wants_line_end [] true ≡ true)
 line_ends = (refl, refl, refl, refl)

@@ -24,7 +24,7 @@ are_any-take n [] below = absurd (omega arith)
 are_any-take zero (x ∷ xs) below = refl
 are_any-take (suc n) (x ∷ xs) below = sym (lt-ltb 0 (suc n) (omega arith))
 
--- one more element of a list, with what stands before it
+-- one more element of a list, with its separator
 pub joined-more : {A : Type 0} (separator : List ℕ) (f : A → List ℕ) (xs : List A) (n : ℕ) (d : A) → n < length xs
     → joined separator (map f (take (n + 1) xs)) ≡ joined separator (map f (take n xs)) ++ separated separator (nat_lt 0 n) ++ f (get_or xs n d)
 joined-more separator f xs n d below =
@@ -41,7 +41,7 @@ joined-take separator texts n d below =
     ∙ joined-push separator (take n texts) (get_or texts n d)
     ∙ ap (λ any. joined separator (take n texts) ++ separated separator any ++ get_or texts n d) (are_any-take n texts below)
 
--- one more text behind those that were put
+-- one more text after those that were appended
 pub joined-next : (separator : List ℕ) (into so_far before following : List ℕ) (any : Bool) (text whole : List ℕ) → before ≡ (into ++ so_far) ++ separated separator any → following ≡ before ++ text
     → whole ≡ so_far ++ separated separator any ++ text → following ≡ into ++ whole
 joined-next separator into so_far before following any text whole before_is after_is whole_is =

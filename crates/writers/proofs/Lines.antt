@@ -9,7 +9,7 @@ use Rattle.writers.proofs.Runs.{joined-is, joined_after}
 use Rattle.writers.proofs.Wholes.{whole}
 
 module _ (last : Run → List ℕ) (ends : (run : Run) → last run ≡ []) where
-  -- each record by itself, wherever the output has come to
+  -- each record by itself, whatever the state of the output
   pub each-record : (line : Record → List ℕ) (after : Run → Record → Run) (rs : List Record) (run : Run) → whole (λ run r. line r) after last run rs ≡ flat_map line rs
   each-record line after [] run = ends run
   each-record line after (r ∷ rs) run = ap (λ t. line r ++ t) (each-record line after rs (after run r))

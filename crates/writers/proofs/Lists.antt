@@ -1,4 +1,4 @@
--- JSON: records are one list, or stand one behind another.
+-- JSON: records are one list, or one after another.
 use Rattle.std.proofs.Common.{◌≡◌, ℕ, Bool, true, false, if◌then◌else◌, List, [], ◌∷◌, ◌++◌, map, codes, refl, ap, sym, ◌∙◌, append_assoc}
 use Rattle.std.specs.List.{flat_map}
 use Rattle.std.proofs.lemmas.List.{append-nil}
@@ -26,7 +26,7 @@ module _ (item : Record → List ℕ) where
   abbrev json_whole : Bool → Bool → Run → List Record → List ℕ
   json_whole listed ended run rs = whole (text_in listed) (after_in listed) (end_in listed ended) run rs
 
-  -- behind a record of the list
+  -- after a record of the list
   abbrev within : Run
   within = record start { any = true; mid = true }
 

@@ -23,7 +23,7 @@ pub same_texts-self : (xs : List (List ℕ)) → same_texts xs xs ≡ true
 same_texts-self [] = refl
 same_texts-self (x ∷ xs) = and_from (bytes_eq x x) (same_texts xs xs) ((bytes_eq-Decides x x).1 refl) (same_texts-self xs)
 
--- a record put before runs is the first of a run
+-- a record before runs is the first of a run
 abbrev Begins : Record → List (List Record) → Type 0
 Begins r runs = (run : List Record) × (more : List (List Record)) × (runs ≡ (r ∷ run) ∷ more)
 

@@ -20,12 +20,12 @@ module _ (header row : Record → List ℕ) (last : Run → List ℕ) (ends : (r
   abbrev tables_after : Bool → List (List Record) → List ℕ
   tables_after any runs = joined_after (10 ∷ []) any (map (table_of header row) (filled runs))
 
-  -- a run that goes on with the keys of the open table, or begins another
+  -- a run that continues with the keys of the open table, or begins another
   abbrev with_run : Bool → Bool → Record → List Record → List (List Record) → List ℕ
   with_run same any r run more =
       if same then flat_map row (r ∷ run) ++ tables_after any more else tables_after any ((r ∷ run) ∷ more)
 
-  -- what runs give behind the open table, which has these keys; or where none is open
+  -- what runs give after the open table, which has these keys; or where none is open
   abbrev after_table : List (List ℕ) → Bool → List (List Record) → List ℕ
   after_table [] any runs = tables_after any runs
   after_table (key ∷ keys) any [] = []

@@ -1,4 +1,4 @@
--- Lists of texts that are compared, and texts put one part after another.
+-- Lists of texts that are compared, and texts joined part by part.
 use Rattle.std.proofs.Common.{◌≡◌, ℕ, suc, ◌+◌, ◌&&◌, false, List, [], ◌∷◌, ◌++◌, length, map, take, drop, codes, get_or, Some, slice_get, Result, Ok, Err, is_ok, is_some, OnOk, if◌then◌else◌, inl, inr, refl, ap, ap₂, ◌∙◌, arith}
 use Rattle.std.specs.Prelude.{nat_lt}
 use Rattle.std.specs.Str.{bytes_eq}
@@ -28,7 +28,7 @@ other-length (x ∷ xs) (y ∷ ys) differ =
       | inr other ↦ rw other refl
     ]
 
--- an empty separator stands in every text that isn't empty
+-- every text that isn't empty contains an empty separator
 pub empty-place : (separator text : List ℕ) → length separator ≡ 0 → nat_lt 0 (length text) ≡ is_some (place_in separator text)
 empty-place [] [] none = refl
 empty-place [] (b ∷ text) none = lt-ltb 0 (length (b ∷ text)) (omega arith)

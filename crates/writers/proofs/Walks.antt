@@ -1,4 +1,4 @@
--- Lists walked from place to place: what is left comes to what the whole comes to.
+-- Lists walked from place to place: what was done and the rest make up the whole.
 use Rattle.std.proofs.Common.{◌≡◌, ℕ, ◌+◌, List, ◌++◌, drop, Some, ap, sym, ◌∙◌, append_assoc}
 use Rattle.std.specs.Prelude.{slice_get}
 use Rattle.std.specs.List.{flat_map, fold}

@@ -38,7 +38,7 @@ widths-more first rows r =
 pub key-length : (r : List (List ℕ × Tree)) (column : ℕ) (field : List ℕ × Tree) → slice_get r column ≡ Some field → length_at Keys column r ≡ code_points (shown field.0)
 key-length r column field found = ap (λ f. elim f [ None ↦ 0 | Some here ↦ code_points (shown (part_text Keys here)) ]) found
 
--- a row is put last in a block that has none, or some
+-- a row is appended to a block that has none, or some
 pub widths-pushed : (rows : List (List (List ℕ × Tree))) (r : List (List ℕ × Tree)) (widths : List ℕ) → (length rows ≡ 0 → widths ≡ key_widths r) → (0 < length rows → widths ≡ block_widths rows)
     → widened r 0 widths ≡ block_widths (rows ++ r ∷ [])
 widths-pushed [] r widths none some = ap (widened r 0) (none refl) ∙ widths-first r

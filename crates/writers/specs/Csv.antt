@@ -22,7 +22,7 @@ quoted text = quote_mark ∷ flat_map csv_escaped text ++ quote_mark ∷ []
 abbrev pub wants_quotes : ℕ → Bool
 wants_quotes b = b == quote_mark || b == line_feed || b == carriage_return
 
--- a key or a value stands in quotes if it holds one of these or the separator, or if all do
+-- a key or a value is quoted if it contains one of these or the separator, or if all are
 abbrev pub csv_field : WriteOpts → List ℕ → List ℕ
 csv_field opts text = if opts.quote_all || list_any wants_quotes text || is_some (place_in opts.ofs text) then quoted text else text
 

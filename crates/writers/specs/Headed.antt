@@ -1,5 +1,5 @@
--- Rows under headers, as in CSV, TSV and Markdown: a header stands before each run of records with equal keys in equal
--- order. A record without fields writes nothing and ends the run.
+-- Rows under headers, as in CSV, TSV and Markdown: a header precedes each run of records with equal keys in
+-- equal order. A record without fields writes nothing and ends the run.
 use Rattle.std.specs.Prelude.{ℕ, Bool, true, if◌then◌else◌, List, [], ◌∷◌, ◌++◌}
 use Rattle.mlr_spec.specs.Ascii.{line_feed}
 use Rattle.mlr_spec.specs.Tree.{Tree}
@@ -11,7 +11,7 @@ abbrev pub unless_empty : List (List ℕ × Tree) → List ℕ → List ℕ
 unless_empty [] text = []
 unless_empty (field ∷ r) text = text
 
--- a header that isn't the first stands behind an empty line
+-- a header that isn't the first follows an empty line
 abbrev pub after_gap : Run → List ℕ → List ℕ
 after_gap run text = (if run.any then line_feed ∷ [] else []) ++ text
 

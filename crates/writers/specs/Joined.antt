@@ -5,6 +5,6 @@ abbrev pub are_any : {A : Type 0} → List A → Bool
 are_any [] = false
 are_any (x ∷ xs) = true
 
--- what stands between two texts, if there is one before
+-- the separator of two texts, if there is one before
 abbrev pub separated : List ℕ → Bool → List ℕ
 separated separator any = if any then separator else []

@@ -1,5 +1,5 @@
--- JSON: all records as one list in brackets, or one behind another without. In the list no line end is written behind a
--- record until it is known what follows.
+-- JSON: all records as one list in brackets, or one after another without. In the list no line end is written
+-- after a record until it is known what follows.
 use Rattle.std.specs.Prelude.{ℕ, true, if◌then◌else◌, List, [], ◌∷◌, ◌++◌, codes}
 use Rattle.mlr_spec.specs.Ascii.{line_feed}
 use Rattle.mlr_spec.specs.declared.json.JsonStyle.{JsonStyle}
@@ -12,7 +12,7 @@ use Rattle.writers.specs.Run.{Run}
 abbrev pub style_of : WriteOpts → JsonStyle
 style_of opts = if opts.stacked then Stacked else Single
 
--- the bracket that begins the list, or the comma behind another record
+-- the bracket that begins the list, or the comma after another record
 abbrev pub list_lead : Run → List ℕ
 list_lead run = if run.any then codes ",\n" else codes "[\n"
 
@@ -23,7 +23,7 @@ json_written opts run r =
 abbrev pub json_after : WriteOpts → Run → Run
 json_after opts run = record run { any = true; mid = opts.listwrap }
 
--- the line end that is missing behind a record
+-- the line end that is missing after a record
 abbrev pub line_end_missing : Run → List ℕ
 line_end_missing run = if run.mid then line_feed ∷ [] else []
 

@@ -1,4 +1,5 @@
--- Markdown tables: a header, a line of dashes and rows, all between bars; a bar in a cell stands behind a backslash.
+-- Markdown tables: a header, a line of dashes and rows, all between bars; a bar in a cell follows a
+-- backslash.
 use Rattle.std.specs.Prelude.{ℕ, false, ◌==◌, if◌then◌else◌, List, [], ◌∷◌, ◌++◌, map, codes}
 use Rattle.std.specs.List.{flat_map}
 use Rattle.mlr_spec.specs.Ascii.{vertical_bar}

@@ -67,7 +67,7 @@ abbrev pub are_some : List (List (List ℕ × Tree)) → Bool
 are_some [] = false
 are_some (first ∷ rows) = true
 
--- the text of the block that is open, behind an empty line if it isn't the first; nothing where none is
+-- the text of the open block, after an empty line if it isn't the first; nothing where none is open
 abbrev pub block_end : WriteOpts → Run → List ℕ
 block_end opts run = if are_some run.rows then after_gap run (block opts run.rows) else []
 

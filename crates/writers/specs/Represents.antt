@@ -1,4 +1,4 @@
--- Which records and texts a writer stands for.
+-- Which records and texts a writer represents.
 use Rattle.std.specs.Prelude.{◌≡◌, List}
 use Rattle.mlr_event.specs.declared.event.Body.{Body}
 use Rattle.writers.specs.declared.options.WriteOpts.{WriteOpts}

@@ -23,7 +23,7 @@ escaped_in row.Csv b = csv_escaped b
 escaped_in row.Tsv b = tsv_escaped b
 escaped_in row.Markdown b = bar_escaped b
 
--- whether a byte is written otherwise than it stands
+-- whether a byte is escaped
 abbrev pub is_escaped : RowStyle → ℕ → Bool
 is_escaped row.Csv b = b == quote_mark
 is_escaped row.Tsv b = b == tab || b == line_feed || b == backslash

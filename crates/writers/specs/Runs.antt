@@ -14,7 +14,7 @@ use Rattle.writers.specs.Xtab.{longest_key, xtab_line}
 abbrev pub Record : Type 0
 Record = List (List ℕ × Tree)
 
--- records one behind another that have equal keys in equal order are a run; a record without fields is a run of its own,
+-- neighbouring records with equal keys in equal order are a run; a record without fields is a run of its own,
 -- with nothing in it
 abbrev pub with_first : Record → List (List Record) → List (List Record)
 with_first r [] = (r ∷ []) ∷ []
@@ -64,7 +64,7 @@ abbrev pub list_of : (Record → List ℕ) → List Record → List ℕ
 list_of item [] = codes "[\n]\n"
 list_of item (first ∷ more) = codes "[\n" ++ joined (codes ",\n") (map item (first ∷ more)) ++ codes "\n]\n"
 
--- the line end that a list lacks where a record was last
+-- the line end that is missing in a list where a record was last
 abbrev pub line_end_after : List Body → List ℕ
 line_end_after [] = []
 line_end_after (Rec r ∷ []) = line_feed ∷ []

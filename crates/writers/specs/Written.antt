@@ -19,7 +19,7 @@ use Rattle.writers.specs.Jsonl.{jsonl_record}
 use Rattle.writers.specs.Xtab.{xtab_record, xtab_after}
 use Rattle.writers.specs.Pprint.{pprint_record, pprint_after, block_end}
 
--- what is written when a record comes, and how far the output has come behind it
+-- what is written when a record comes, and the state of the output after it
 abbrev pub record_text : Format → WriteOpts → Run → List (List ℕ × Tree) → List ℕ
 record_text Csv opts run r = csv_record opts run r
 record_text Tsv opts run r = tsv_record opts run r
@@ -54,7 +54,7 @@ end_text Xtab opts run = []
 end_text Pprint opts run = block_end opts run
 end_text Markdown opts run = []
 
--- a text is written at once, as it is, behind the line end that is missing
+-- a text is written at once, as it is, after the missing line end
 abbrev pub gives : WriteOpts → Run → Body → List ℕ
 gives opts run (Rec r) = record_text opts.format opts run (shaped opts r)
 gives opts run (Text text) = line_end_missing run ++ text

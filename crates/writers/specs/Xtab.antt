@@ -1,4 +1,4 @@
--- XTAB: a line for each field, whose values stand in one column; an empty line between records.
+-- XTAB: a line for each field, whose values are in one column; an empty line between records.
 use Rattle.std.specs.Prelude.{ℕ, ◌-◌, true, max, List, [], ◌∷◌, ◌++◌, replicate}
 use Rattle.writers.specs.Width.{code_points}
 use Rattle.std.specs.List.{flat_map, fold}
@@ -8,7 +8,7 @@ use Rattle.text_forms.specs.Shown.{shown}
 use Rattle.writers.specs.Headed.{unless_empty, after_gap}
 use Rattle.writers.specs.Run.{Run}
 
--- a text and the spaces behind it that fill its column, whose width counts code points
+-- a text and the spaces after it that fill its column, whose width counts code points
 abbrev pub padded : ℕ → List ℕ → List ℕ
 padded width text = text ++ replicate (width - code_points text) space
 

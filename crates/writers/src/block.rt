@@ -1,3 +1,4 @@
+//! The rows of a PPRINT block with the widths of its columns.
 ghost use Rattle.std.specs.Prelude.{◌≡◌, ◌++◌, ◌∷◌, [], OnOk, IfOk};
 ghost use Rattle.writers.specs.declared.form.Part.TheVariants.{Values};
 ghost use Rattle.writers.specs.Columns.{block_widths, key_widths, widened};
@@ -30,7 +31,7 @@ impl Block {
         }
     }
 
-    /// Puts a record last, and widens the columns to it. Without memory for that it lets all records go.
+    /// Appends a record, and widens the columns to it. Where memory runs out it drops all records.
     pub(crate) fn push(&mut self, fields: Record, scratch: &mut Bytes) -> Result<(), NoMemory>
         ensures { OnOk result (self.new.rows.items ≡ self.old.rows.items ++ fields ∷ []) }
     {
@@ -46,7 +47,7 @@ impl Block {
     }
 }
 
-/// Puts a row last, and widens the columns to it. Without memory for that it lets all rows go.
+/// Appends a row, and widens the columns to it. Where memory runs out it drops all rows.
 fn push_row(
     fields: Record,
     rows: &mut Vec<Record>,
@@ -65,7 +66,7 @@ fn push_row(
     Ok(())
 }
 
-/// Puts a row last, and widens the columns to it.
+/// Appends a row, and widens the columns to it.
 fn put_row(
     fields: Record,
     rows: &mut Vec<Record>,
@@ -84,7 +85,7 @@ fn put_row(
     Ok(())
 }
 
-/// Puts the lengths of the keys in the place of other widths.
+/// Replaces the widths by the lengths of the keys.
 fn put_key_widths(first: &Record, widths: &mut Vec<usize>) -> Result<(), NoMemory>
     ensures { OnOk result (widths.new.items ≡ key_widths first.now) }
 {

@@ -1,3 +1,4 @@
+//! Records as formats without nested values write them: flattened or unflattened by the options.
 ghost use Rattle.std.specs.Prelude.{◌≡◌, ◌++◌, IfOk, OnOk};
 ghost use Rattle.mlr_value.specs.Value.{tree_of};
 ghost use Rattle.writers.specs.Cells.{part_text, shaped};
@@ -22,7 +23,7 @@ pub(crate) fn shaped(opts: &WriteOpts, fields: Record) -> Result<Record, NoMemor
     Ok(fields)
 }
 
-/// Puts the key or the value of a field behind `out`.
+/// Appends the key or the value of a field.
 #[inline]
 pub(crate) fn append_part(
     part: Part,

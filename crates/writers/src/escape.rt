@@ -1,3 +1,4 @@
+//! Texts escaped or quoted as a format of rows needs it.
 ghost use Rattle.std.specs.Prelude.{◌≡◌, ◌++◌, ◌==◌, ◌||◌, Bool, OnOk, is_some};
 ghost use Rattle.std.specs.List.{flat_map, list_any};
 ghost use Rattle.mlr_spec.specs.Split.{place_in};
@@ -10,7 +11,7 @@ use mlr_record::split::separator_place;
 use mlr_spec::NoMemory;
 use mlr_value::Bytes;
 
-/// Puts a key or a value behind `out`, as it is written in this style.
+/// Appends a key or a value, as it is written in this style.
 #[inline]
 pub(crate) fn append_field(
     style: RowStyle,
@@ -38,7 +39,7 @@ fn append_csv(opts: &WriteOpts, text: &[u8], out: &mut Bytes) -> Result<(), NoMe
     }
 }
 
-/// Whether a quote, LF, CR or the separator stands in the text.
+/// Whether the text contains a quote, LF, CR or the separator.
 #[inline]
 fn is_special(separator: &[u8], text: &[u8]) -> bool
     ensures { result ≡ (list_any wants_quotes text.now
@@ -51,8 +52,8 @@ fn is_special(separator: &[u8], text: &[u8]) -> bool
     }
 }
 
-/// Whether a quote, LF, CR or the byte stands in the text. Most texts are short, so that one walk is the fastest, and
-/// most bytes are above all of these.
+/// Whether the text contains a quote, LF, CR or the byte. Most texts are short, so that one walk is the
+/// fastest, and most bytes are above all of these.
 #[inline]
 fn has_special_or(byte: u8, text: &[u8]) -> bool
     ensures { result ≡ list_any (λ b. wants_quotes b || b == byte) text.now }
@@ -61,7 +62,7 @@ fn has_special_or(byte: u8, text: &[u8]) -> bool
     text.iter().any(|b| *b <= highest && (*b == b'"' || *b == b'\n' || *b == b'\r' || *b == byte))
 }
 
-/// Whether a quote, LF or CR stands in the text.
+/// Whether the text contains a quote, LF or CR.
 #[inline]
 fn has_special(text: &[u8]) -> bool
     ensures { result ≡ list_any wants_quotes text.now }
@@ -70,7 +71,7 @@ fn has_special(text: &[u8]) -> bool
         .any(|b| *b == b'"' || *b == b'\n' || *b == b'\r')
 }
 
-/// Whether the separator stands in the text. An empty one stands in every text that isn't empty.
+/// Whether the text contains the separator. Every text that isn't empty contains an empty one.
 #[inline]
 fn holds(separator: &[u8], text: &[u8]) -> bool
     ensures { result ≡ is_some (place_in separator.now text.now) }
@@ -89,7 +90,7 @@ fn append_quoted(text: &[u8], out: &mut Bytes) -> Result<(), NoMemory>
     out.push(b'"')
 }
 
-/// Puts the text with its escapes behind `out`: at once, if it has none.
+/// Appends the text with its escapes: at once, if it has none.
 #[inline]
 fn append_escaped(style: RowStyle, text: &[u8], out: &mut Bytes) -> Result<(), NoMemory>
     ensures { OnOk result (out.new ≡ out.old ++ flat_map (escaped_in style) text.now) }
@@ -108,7 +109,7 @@ fn has_escape(style: RowStyle, text: &[u8]) -> bool
     text.iter().any(|b| is_escaped(style, *b))
 }
 
-/// Whether a byte is written otherwise than it stands.
+/// Whether a byte is escaped.
 #[inline]
 fn is_escaped(style: RowStyle, byte: u8) -> bool
     ensures { result ≡ is_escaped style byte }
@@ -120,7 +121,7 @@ fn is_escaped(style: RowStyle, byte: u8) -> bool
     }
 }
 
-/// Puts the text behind `out`, byte by byte.
+/// Appends the text, byte by byte.
 fn append_each(style: RowStyle, text: &[u8], out: &mut Bytes) -> Result<(), NoMemory>
     ensures { OnOk result (out.new ≡ out.old ++ flat_map (escaped_in style) text.now) }
 {

@@ -1,3 +1,4 @@
+//! Fields of a record as one line: in DKVP and NIDX, and in rows.
 ghost use Rattle.std.specs.Prelude.{◌≡◌, ◌++◌, OnOk, map, codes};
 ghost use Rattle.mlr_spec.specs.Json.{joined};
 ghost use Rattle.mlr_value.specs.Value.{tree_of};
@@ -16,7 +17,7 @@ use mlr_spec::NoMemory;
 use mlr_value::{Bytes, Value};
 use text_forms::{append_shown, held_text};
 
-/// Puts a record behind `out` as one line, of fields between OFS.
+/// Appends a record as one line, of fields between OFS.
 pub(crate) fn append_line(
     form: FieldForm,
     opts: &WriteOpts,
@@ -30,7 +31,7 @@ pub(crate) fn append_line(
     out.push(b'\n')
 }
 
-/// Puts all fields of the record behind `out`, with a separator between each two.
+/// Appends all fields of the record, with a separator between each two.
 pub(crate) fn append_fields(
     form: FieldForm,
     opts: &WriteOpts,
@@ -50,7 +51,7 @@ pub(crate) fn append_fields(
     Ok(())
 }
 
-/// Puts what stands between two texts behind `out`. Most often it is one byte.
+/// Appends a separator. Most often it is one byte.
 #[inline(always)]
 pub(crate) fn append_mark(mark: &[u8], out: &mut Bytes) -> Result<(), NoMemory>
     ensures { OnOk result (out.new ≡ out.old ++ mark.now) }
@@ -105,7 +106,7 @@ fn append_pair(opts: &WriteOpts, key: &[u8], value: &Value, out: &mut Bytes) -> 
     append_shown(value, out)
 }
 
-/// A value in a row: out of the text that it holds, or out of what it prints, which is put into a buffer that is kept.
+/// A value in a row: the text that it holds, or what it prints, which is written to a buffer that is kept.
 #[inline]
 fn append_value(
     style: RowStyle,

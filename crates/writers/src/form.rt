@@ -1,3 +1,4 @@
+//! The forms of a field: what is written of its key and its value.
 use mlr_spec::JsonStyle;
 
 /// The one or the other half of each field.

@@ -1,3 +1,4 @@
+//! Records as JSON: in one list, or each on lines of its own.
 ghost use Rattle.std.specs.Prelude.{◌≡◌, ◌++◌, [], OnOk};
 ghost use Rattle.mlr_spec.specs.Json.{json_record};
 ghost use Rattle.writers.specs.Json.{json_after, json_end, json_written, line_end_missing, list_lead, style_of};
@@ -11,7 +12,7 @@ use mlr_record::Record;
 use mlr_spec::{JsonStyle, NoMemory};
 use mlr_value::Bytes;
 
-/// Puts a record behind `out`: in a list, or on lines of its own.
+/// Appends a record: in a list, or on lines of its own.
 pub(crate) fn append_json(
     opts: &WriteOpts,
     state: &mut State,
@@ -36,7 +37,7 @@ pub(crate) fn append_json(
     Ok(())
 }
 
-/// Puts the bracket of the list or a comma behind `out`.
+/// Appends the bracket of the list or a comma.
 fn append_lead(state: &State, out: &mut Bytes) -> Result<(), NoMemory>
     ensures { OnOk result (out.new ≡ out.old ++ list_lead (run_of state.now)) }
 {
@@ -47,14 +48,14 @@ fn append_lead(state: &State, out: &mut Bytes) -> Result<(), NoMemory>
     }
 }
 
-/// Puts the line end behind `out` that is missing, if one is.
+/// Appends the missing line end, if one is missing.
 pub(crate) fn append_line_end(state: &State, out: &mut Bytes) -> Result<(), NoMemory>
     ensures { OnOk result (out.new ≡ out.old ++ line_end_missing (run_of state.now)) }
 {
     if state.mid { out.push(b'\n') } else { Ok(()) }
 }
 
-/// Puts the end of the list behind `out`, if there is a list.
+/// Appends the end of the list, if there is a list.
 pub(crate) fn append_json_end(
     opts: &WriteOpts,
     state: &State,
@@ -83,7 +84,7 @@ fn style_of(opts: &WriteOpts) -> JsonStyle
     }
 }
 
-/// Puts a record behind `out` as a map at the first level.
+/// Appends a record as a map at the first level.
 pub(crate) fn append_record(
     style: JsonStyle,
     opts: &WriteOpts,

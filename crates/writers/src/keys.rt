@@ -1,3 +1,4 @@
+//! The keys of a run of records.
 ghost use Rattle.std.specs.Prelude.{◌≡◌, [], OnOk};
 ghost use Rattle.std.specs.Str.{bytes_eq};
 ghost use Rattle.writers.specs.declared.form.Part.TheVariants.{Keys};
@@ -31,8 +32,8 @@ fn same_text(key: &[u8], other: &[u8]) -> bool
     key == other
 }
 
-/// Puts the keys of the record in the place of others. It takes memory for a key of more than 16 bytes, and for more
-/// keys than there ever were.
+/// Replaces the keys by those of the record. It allocates for a key of more than 16 bytes, and for more keys
+/// than there ever were.
 pub(crate) fn put_keys(
     alloc: Global,
     fields: &Record,

@@ -1,3 +1,4 @@
+//! Laws of what is written, on whole lists.
 ghost use Rattle.std.specs.Prelude.{◌≡◌, ℕ, Bool, true, false, if◌then◌else◌, List, [], ◌∷◌, ◌++◌, map};
 ghost use Rattle.std.specs.List.{flat_map};
 ghost use Rattle.mlr_event.specs.declared.event.Body.{Body};
@@ -65,8 +66,8 @@ pub fn line_laws()
         → written opts (map Rec rs) ended ≡ tables xtab_lines (map (shaped opts) rs) }
 {}
 
-/// Records in JSON: one list in brackets, with a comma and a line end between two records; before the end, what is
-/// behind the last record is missing. Without the list, each record and a line end. It does nothing.
+/// Records in JSON: one list in brackets, with a comma and a line end between two records; before the end,
+/// what follows the last record is missing. Without the list, each record and a line end. It does nothing.
 pub fn list_laws()
     ensures listed { (opts : WriteOpts) (rs : List Record) → opts.format ≡ Json
         → opts.listwrap ≡ true
@@ -82,9 +83,9 @@ pub fn list_laws()
         ≡ flat_map (λ r. json_record (style_of opts) r ++ 10 ∷ []) (map (shaped opts) rs) }
 {}
 
-/// A text among records is written at its place, as it is, and nothing else changes: so in PPRINT it stands before a
-/// block that is held back. In a JSON list it stands behind the line end that a record before it lacks; without the text
-/// that line end is written once another text or the end comes. It does nothing.
+/// A text among records is written at its place, as it is, and nothing else changes: so in PPRINT it precedes
+/// a block that is held back. In a JSON list it follows the missing line end of a record before it; without
+/// the text that line end is written once another text or the end comes. It does nothing.
 pub fn text_laws()
     ensures text { (opts : WriteOpts) (before following : List Body) (text : List ℕ) (ended : Bool)
         → (opts.format ≡ Json → opts.listwrap ≡ false) → (more : List ℕ)

@@ -1,3 +1,4 @@
+//! How records are written: the format, its separators and its flags.
 ghost use Rattle.std.specs.Prelude.{◌≡◌, IfOk};
 
 use mlr_event::Format;
@@ -9,17 +10,17 @@ use std::alloc::Global;
 #[derive(Debug, PartialEq, Eq)]
 pub struct WriteOpts {
     pub format: Format,
-    /// What stands between two fields (CSV, TSV, DKVP, NIDX).
+    /// The separator of fields (CSV, TSV, DKVP, NIDX).
     pub ofs: Bytes,
-    /// What stands between a key and its value (DKVP).
+    /// The separator of a key and its value (DKVP).
     pub ops: Bytes,
     /// No header is written (CSV, TSV, PPRINT).
     pub headerless: bool,
-    /// Every key and value stands in quotes (CSV).
+    /// Every key and value is quoted (CSV).
     pub quote_all: bool,
-    /// Columns stand between bars (PPRINT).
+    /// Columns are between bars (PPRINT).
     pub barred: bool,
-    /// Each field stands on a line of its own (JSON).
+    /// Each field has a line of its own (JSON).
     pub stacked: bool,
     /// All records are one list (JSON).
     pub listwrap: bool,

@@ -1,3 +1,4 @@
+//! PPRINT: blocks of aligned columns.
 ghost use Rattle.std.specs.Prelude.{◌≡◌, ◌++◌, ◌∷◌, [], ℕ, List, OnOk, IfOk, map, slice_index, if◌then◌else◌, replicate, codes, length, drop, ◌≤◌, ◌<◌, ◌+◌, ◌||◌, nat_lt};
 ghost use Rattle.writers.specs.Width.{code_points};
 ghost use Rattle.std.specs.List.{flat_map};
@@ -22,8 +23,8 @@ use mlr_spec::NoMemory;
 use mlr_value::{Bytes, Value};
 use std::alloc::Global;
 
-/// Takes a record into the block that is open, or ends that block, whose text is put behind `out`, and begins another
-/// with the record if that has fields.
+/// Takes a record into the open block, or ends that block, appends its text, and begins another with the
+/// record if that has fields.
 pub(crate) fn append_pprint(
     opts: &WriteOpts,
     state: &mut State,
@@ -62,7 +63,7 @@ fn open_block(
     put_keys(alloc, fields, &mut state.keys)
 }
 
-/// Puts the block that is open behind `out`, and opens none.
+/// Appends the open block, and opens none.
 pub(crate) fn end_block(
     opts: &WriteOpts,
     state: &mut State,
@@ -139,7 +140,8 @@ fn append_rows(
     Ok(())
 }
 
-/// Puts the key or the value of a field behind `out`, or a dash if it is empty. It answers how many code points it put.
+/// Appends the key or the value of a field, or a dash if it is empty. Returns how many code points it
+/// appended.
 #[inline]
 fn append_shown(part: Part, key: &[u8], value: &Value, out: &mut Bytes) -> Result<usize, NoMemory>
     ensures text { OnOk result (out.new ≡ out.old
@@ -155,7 +157,7 @@ fn append_shown(part: Part, key: &[u8], value: &Value, out: &mut Bytes) -> Resul
     Ok(count_points(following(out.as_slice(), before)))
 }
 
-/// Puts a line of keys or values behind `out`, in columns of these widths.
+/// Appends a line of keys or values, in columns of these widths.
 fn append_line(
     barred: bool,
     widths: &[usize],
@@ -209,7 +211,7 @@ fn is_filled(barred: bool, place: usize, count: usize) -> bool
     barred || place + 1 < count
 }
 
-/// Puts the key or the value of a field behind `out`, with the spaces that fill its column if it is to be filled.
+/// Appends the key or the value of a field, and the spaces that fill its column where it is filled.
 #[inline]
 fn append_column(
     part: Part,
@@ -241,7 +243,7 @@ fn width_at(widths: &[usize], place: usize) -> usize
     }
 }
 
-/// Puts a line of dashes behind `out`, if there are bars.
+/// Appends a line of dashes, if there are bars.
 fn append_dashes(barred: bool, widths: &[usize], out: &mut Bytes) -> Result<(), NoMemory>
     ensures { OnOk result (out.new ≡ out.old ++ dashes barred widths.now) }
 {

@@ -1,3 +1,4 @@
+//! Rows under headers: CSV, TSV and Markdown.
 ghost use Rattle.std.specs.Prelude.{◌≡◌, ◌++◌, ◌∷◌, [], OnOk, map};
 ghost use Rattle.writers.specs.declared.form.Part.TheVariants.{Keys};
 ghost use Rattle.writers.specs.Cells.{texts};
@@ -18,7 +19,7 @@ use mlr_spec::NoMemory;
 use mlr_value::Bytes;
 use std::alloc::Global;
 
-/// Puts a row behind `out`, with a header where a run begins.
+/// Appends a row, after a header where a run begins.
 pub(crate) fn append_row(
     style: RowStyle,
     opts: &WriteOpts,
@@ -40,7 +41,7 @@ pub(crate) fn append_row(
     append_line(style, opts, Part::Values, fields, scratch, out)
 }
 
-/// Where a record with fields doesn't go on with the run, puts the header of another behind `out`, and keeps its keys.
+/// Where a record with fields doesn't continue the run, appends a new header, and keeps its keys.
 fn begin_run(
     style: RowStyle,
     opts: &WriteOpts,
@@ -63,7 +64,7 @@ fn begin_run(
     put_keys(alloc, fields, &mut state.keys)
 }
 
-/// Puts a header behind `out`, if headers are written.
+/// Appends a header, if headers are written.
 fn append_heading(
     style: RowStyle,
     opts: &WriteOpts,
@@ -110,7 +111,7 @@ fn append_header(
     }
 }
 
-/// Puts a line of keys or values behind `out`.
+/// Appends a line of keys or values.
 fn append_line(
     style: RowStyle,
     opts: &WriteOpts,

@@ -1,3 +1,4 @@
+//! Whether a writer is open, has ended or is broken.
 /// What may still come.
 #[derive(Clone, Copy, Debug, PartialEq, Eq)]
 pub(crate) enum Stage {

@@ -1,3 +1,4 @@
+//! What a writer knows of the records before.
 ghost use Rattle.std.specs.Prelude.{◌≡◌};
 ghost use Rattle.writers.specs.Run.{start};
 ghost use Rattle.writers.specs.Represents.{run_of};

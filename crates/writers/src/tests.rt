@@ -66,7 +66,7 @@ fn value_of(alloc: Global, text: &[u8]) -> Result<Value, NoMemory> {
     }
 }
 
-/// Puts a field, of a key before `=` and a value.
+/// Sets a field, of a key before `=` and a value.
 fn put_field(alloc: Global, part: &[u8], record: &mut Record) -> Result<(), NoMemory> {
     match part.iter().position(|b| *b == b'=') {
         Some(place) => record.put(&part[..place], value_of(alloc, &part[place + 1..])?),

@@ -1,3 +1,4 @@
+//! The width of a text in code points.
 ghost use Rattle.std.specs.Prelude.{◌≡◌, ◌+◌, ◌++◌, ◌-◌, ◌<◌, ◌≤◌, OnOk, drop, length, nat_lt, replicate};
 ghost use Rattle.std.specs.List.{list_all};
 ghost use Rattle.writers.specs.Width.{code_points, points_of};
@@ -41,7 +42,7 @@ fn count_pieces(text: &[u8]) -> usize
     count
 }
 
-/// How many code points the first piece counts, and what stands behind it.
+/// How many code points the first piece counts, and the text after it.
 #[inline]
 fn next_piece(text: &[u8]) -> (usize, &[u8])
     requires { 0 < length text.now }
@@ -70,7 +71,7 @@ pub(crate) fn following(text: &[u8], place: usize) -> &[u8]
     &text[place..]
 }
 
-/// Puts a byte behind `out`, so many times.
+/// Appends a byte, so many times.
 #[inline]
 pub(crate) fn append_repeated(byte: u8, times: usize, out: &mut Bytes) -> Result<(), NoMemory>
     ensures { OnOk result (out.new ≡ out.old ++ replicate times byte) }
@@ -92,7 +93,7 @@ fn spaces(count: usize) -> &'static [u8]
     &b"                "[..count]
 }
 
-/// Puts the spaces behind `out` that a text of this length wants to fill its column.
+/// Appends the spaces that a text of this length needs to fill its column.
 #[inline(always)]
 pub(crate) fn append_padding(length: usize, width: usize, out: &mut Bytes) -> Result<(), NoMemory>
     ensures { OnOk result (out.new ≡ out.old ++ replicate (width - length) 32) }

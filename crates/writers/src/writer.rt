@@ -1,3 +1,4 @@
+//! A writer of records and texts in any of the nine formats.
 ghost use Rattle.std.specs.Prelude.{◌≡◌, ◌↔◌, ℕ, List, [], ◌++◌, ◌∷◌, true, false, IsTrue, IfOk, OnOk, OnErr};
 ghost use Rattle.mlr_event.specs.declared.event.Body.{Body};
 ghost use Rattle.writers.specs.declared.options.WriteOpts.{WriteOpts};
@@ -23,8 +24,8 @@ use mlr_spec::{JsonStyle, NoMemory};
 use mlr_value::Bytes;
 use std::alloc::Global;
 
-/// Writes one output: records and texts come one after another, and their text is put behind a buffer as soon as it is
-/// known. It keeps the keys of the last record, and in PPRINT the records of the open block.
+/// Writes one output: records and texts come one after another, and their text is appended to a buffer as
+/// soon as it is known. It keeps the keys of the last record, and in PPRINT the records of the open block.
 pub struct Writer {
     alloc: Global,
     opts: WriteOpts,
@@ -66,7 +67,7 @@ impl Writer {
         })
     }
 
-    /// Takes a record or a text, and puts what is known to be written now behind `out`.
+    /// Takes a record or a text, and appends what is now known to be written.
     pub fn take(&mut self, body: Body, out: &mut Bytes) -> Result<(), NoMemory>
         requires { IsOpen self.old }
         ensures represents { OnOk result ((opts : WriteOpts) (bodies : List Body)
@@ -85,7 +86,7 @@ impl Writer {
         taken
     }
 
-    /// Takes the end, and puts what is left behind `out`.
+    /// Takes the end, and appends the rest.
     pub fn end(&mut self, out: &mut Bytes) -> Result<(), NoMemory>
         requires { IsOpen self.old }
         ensures adds { OnOk result ((opts : WriteOpts) (bodies : List Body)

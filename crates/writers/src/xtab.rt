@@ -1,3 +1,4 @@
+//! XTAB: a line for each field.
 ghost use Rattle.std.specs.Prelude.{◌≡◌, ◌++◌, OnOk};
 ghost use Rattle.std.specs.List.{flat_map};
 ghost use Rattle.mlr_value.specs.Value.{tree_of};
@@ -11,7 +12,7 @@ use mlr_spec::NoMemory;
 use mlr_value::{Bytes, Value};
 use text_forms::append_shown;
 
-/// Puts a record behind `out`, behind an empty line if it isn't the first.
+/// Appends a record, after an empty line if it isn't the first.
 pub(crate) fn append_xtab(
     state: &mut State,
     fields: &Record,
