@@ -40,7 +40,7 @@ refused-there words number at = record {
   always = λ other there. ap (λ n. answer.Refused (record { word = n; why = why.NotBuilt })) (one-place words number other at there);
 }
 
--- where a command was run the answer isn't Refused
+-- where a command was run the outcome isn't Refused
 pub never-refused : (ended : Ended) (command : serial.Command) (given : List Take) → standing.Says ended command given → is_refused ended ≡ true → ⊥
 never-refused answer.Done command given says is = false≢true is
 never-refused (answer.Refused refusal) command given says is = says
@@ -75,7 +75,7 @@ ran-refused words number at contents taken name held =
       leaves = ChangesAt-none Stdout (standing.Leaves (answer.Refused (record { word = number; why = why.NotBuilt })) []) (λ before. refl) held;
     }
 
--- what holds where takes are told, before and now
+-- what holds where takes are known, before and now
 told-before : (contents : Option Contents) (taken taken' : Option (List Take)) (given : List Take) (P : Contents → Type 0) → taken' ≡ option_map (λ before. before ++ given) taken
     → IfSome contents (λ told. IfSome taken' (λ _. P told)) → IfSome contents (λ told. IfSome taken (λ _. P told))
 told-before None taken taken' given P is holds = tt
@@ -101,7 +101,7 @@ command-is words formats verbs names names' command line is =
     let same = one-reading words formats is.formats verbs is.verbs names names' line is.line in
     ap (λ f. command_of f verbs names words) same.0 ∙ ap (λ vs. command_of is.formats vs names words) same.1 ∙ ap (λ ns. command_of is.formats is.verbs ns words) same.2 ∙ sym is.command_is
 
--- where these hold, the answer is that of all that the inputs hold
+-- where these hold, the outcome is that of all that the inputs hold
 abbrev pub CompletesAs : Type 0 → Ended → Option Contents → Option (List Take) → Option Held → Option Held → serial.Command → Type 0
 CompletesAs Quiet ended contents taken held held' command = (holds : HoldsAll command contents taken) → Quiet → Complete ended command holds.whole held held'
 

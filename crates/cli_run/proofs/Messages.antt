@@ -8,7 +8,7 @@ use Rattle.mlr_event.specs.declared.names.Target.{Target}
 use Rattle.mlr_world.specs.Outputs.{Held, ChangesAt, IsPrefixOf, with_bytes}
 use Rattle.mlr_world.proofs.Changes.{ChangesAt-then, with_bytes-twice}
 
--- the pieces up to one, and what comes behind it
+-- the pieces up to one, and what follows it
 flat_map-at : {X : Type 0} (f : X → List ℕ) (xs : List X) (i : ℕ) (d : X) → i < length xs → flat_map f xs ≡ flat_map f (take i xs) ++ (f (get_or xs i d) ++ flat_map f (drop (suc i) xs))
 flat_map-at f xs i d below =
     ap (flat_map f) (sym (take-append-drop i xs)) ∙ flat_map-append f (take i xs) (drop i xs)
@@ -17,7 +17,7 @@ flat_map-at f xs i d below =
 abbrev Prefixes : List ℕ → Option (List ℕ) → Option (List ℕ) → Type 0
 Prefixes text before now = (prefix : List ℕ) × IsPrefixOf text prefix × (now ≡ with_bytes prefix before)
 
--- whole pieces, and then a front of the next
+-- whole pieces, and then a prefix of the next
 pub stopped : {X : Type 0} (f : X → List ℕ) (pieces : List X) (i : ℕ) (d : X) → i < length pieces → (target : Target) (before now later : Option Held)
     → ChangesAt target (λ b n. n ≡ with_bytes (flat_map f (take i pieces)) b) before now
     → ChangesAt target (Prefixes (f (get_or pieces i d))) now later

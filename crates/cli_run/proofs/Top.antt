@@ -59,7 +59,7 @@ leaves_all words names meant ended given result (Some a) (Some b) (Some c) f0 f1
   others = λ target not_out not_err. err.elsewhere target not_err ∙ out.elsewhere target not_out;
 }
 
--- why the answer is what it is, by the counts of the outputs
+-- why the outcome is what it is, by the counts of the outputs
 pub cause : (ended : Ended) (command : serial.Command) (given : List Take) (result : Done) (f0 f1 f2 : Target → ℕ)
     → standing.Says ended command given → (ended ≡ answer.Done → result ≡ done.Ok) → Counted (has_failed ended) f0 f1 Stdout → Counted (call_failed result) f1 f2 Stderr → OutputCause ended f0 f2
 cause answer.Done command given result f0 f1 f2 says silent first second =
@@ -72,7 +72,7 @@ cause (answer.Written target) command given result f0 f1 f2 says silent first se
 cause answer.TooLong command given result f0 f1 f2 says silent first second = tt
 cause answer.NoMemory command given result f0 f1 f2 says silent first second = tt
 
--- the same of words: those that are refused have the answer Refused
+-- the same of words: those that are refused have the outcome Refused
 pub cause_given : (ended : Ended) (words names : List (List ℕ)) (meant : Option serial.Command) (given : List Take) (result : Done) (f0 f1 f2 : Target → ℕ)
     → RefusesWhere words ended → Means words names meant → Says ended meant given → (ended ≡ answer.Done → result ≡ done.Ok) → Counted (has_failed ended) f0 f1 Stdout → Counted (call_failed result) f1 f2 Stderr → OutputCause ended f0 f2
 cause_given ended words names (Some command) given result f0 f1 f2 refused means says silent first second = cause ended command given result f0 f1 f2 says silent first second

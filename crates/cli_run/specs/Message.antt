@@ -1,4 +1,4 @@
--- The message of each answer, one line on standard error.
+-- The message of each outcome, one line on standard error.
 use Rattle.std.specs.Prelude.{◌≡◌, ℕ, List, [], ◌∷◌, codes, Option}
 use Rattle.std.specs.List.{flat_map}
 use Rattle.std.specs.Fmt.{decimal}
@@ -67,7 +67,7 @@ pieces_of words names answer.NoMemory = codes "mlr: out of memory\n" ∷ []
 abbrev pub message_of : List (List ℕ) → List (List ℕ) → Ended → List ℕ
 message_of words names ended = flat_map (λ piece. piece) (pieces_of words names ended)
 
--- a target after a text was written to it in pieces: all of it, or a front where a call couldn't write
+-- a target after a text was written to it in pieces: all of it, or a prefix where a call couldn't write
 abbrev pub Appends : List ℕ → Done → Option (List ℕ) → Option (List ℕ) → Type 0
 Appends text done.Ok before now = now ≡ with_bytes text before
 Appends text done.Failed before now = (prefix : List ℕ) × IsPrefixOf text prefix × (now ≡ with_bytes prefix before)

@@ -8,7 +8,7 @@ use Rattle.mlr_event.specs.declared.options.ReadOpts.{ReadOpts}
 use Rattle.writers.specs.declared.options.WriteOpts.{WriteOpts}
 use Rattle.cli_words.specs.declared.flags.Formats.{Formats}
 
--- what stands between two fields where nothing is given
+-- the separator of fields where none is given
 abbrev pub default_separator : Format → List ℕ
 default_separator Tsv = tab ∷ []
 default_separator Nidx = codes " "

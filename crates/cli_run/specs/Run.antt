@@ -1,4 +1,4 @@
--- What a run of a command line does to the inputs and the outputs, by its answer.
+-- What a run of a command line does to the inputs and the outputs, by its outcome.
 use Rattle.std.specs.Prelude.{◌≡◌, ◌⊎◌, ℕ, ◌≤◌, ◌^◌, List, [], ◌++◌, Option, Some, None, IfSome}
 use Rattle.std.specs.Option.{option_map}
 use Rattle.mlr_event.specs.declared.names.Target.{Target}
@@ -17,7 +17,7 @@ use Rattle.serial_core.specs.Represents as standing
 use Rattle.cli_run.specs.Meaning.{Means, inputs_for, text_for}
 use Rattle.cli_run.specs.Message.{message_of}
 
--- what an answer says of what was taken of the inputs: nothing was, where the words are refused
+-- what an outcome says of what was taken of the inputs: nothing was, where the words are refused
 abbrev pub Says : Ended → Option serial.Command → List Take → Type 0
 Says ended None given = given ≡ []
 Says ended (Some command) given = standing.Says ended command given
@@ -27,7 +27,7 @@ abbrev pub Stops : Option serial.Command → Contents → List Take → Type 0
 Stops None told given = Unit {0}
 Stops (Some command) told given = StopsEarly command told given
 
--- what a message leaves in standard error: all of it, or a front where a call couldn't write
+-- what a message leaves in standard error: all of it, or a prefix where a call couldn't write
 abbrev pub LeavesMessage : List ℕ → Type 0 → Option (List ℕ) → Option (List ℕ) → Type 0
 LeavesMessage message Unwritten before now = (now ≡ with_bytes message before) ⊎ (Unwritten × AppendsPrefix message before now)
 
@@ -37,15 +37,15 @@ pub record Leaves (words names : List (List ℕ)) (meant : Option serial.Command
   pub err : LeavesMessage (message_of words names ended) Unwritten (before Stderr) (now Stderr)
   pub others : (target : Target) → (target ≡ Stdout → ⊥) → (target ≡ Stderr → ⊥) → now target ≡ before target
 
--- a relation of what is held before and after, where it is told
+-- a relation of what is held before and after, where it is known
 abbrev pub WhereTold : (Held → Held → Type 0) → Option Held → Option Held → Type 0
 WhereTold step None None = Unit {0}
 WhereTold step None (Some now) = ⊥
 WhereTold step (Some before) None = ⊥
 WhereTold step (Some before) (Some now) = step before now
 
--- What was taken, and what the answer says of it: the inputs were opened and read in their order, no more than 2^60 bytes
--- together, and what was taken is told by the inputs where they tell it.
+-- What was taken, and what the outcome says of it: the inputs were opened and read in their order, no more
+-- than 2^60 bytes together, and what was taken is what the inputs report, where they report it.
 pub record Takes (meant : Option serial.Command) (ended : Ended) (given : List Take) (contents : Option Contents) (taken taken' : Option (List Take)) : Type 0 where
   pub order : InOrder (inputs_for meant) given
   pub few : total given ≤ 2 ^ 60
@@ -71,7 +71,7 @@ pub record Ran (words names : List (List ℕ)) (ended : Ended) (contents : Optio
   pub takes : Takes meant ended given contents taken taken'
   pub leaves : ChangesAt Stdout (standing.Leaves ended (text_for meant given)) held held'
 
--- what each answer says of the counts of the outputs
+-- what each outcome says of the counts of the outputs
 abbrev pub OutputCause : Ended → (Target → ℕ) → (Target → ℕ) → Type 0
 OutputCause answer.Done before now = (target : Target) → now target ≡ before target
 OutputCause (answer.Refused refusal) before now = Unit {0}
@@ -81,12 +81,12 @@ OutputCause (answer.Written target) before now = Rose (before target) (now targe
 OutputCause answer.TooLong before now = Unit {0}
 OutputCause answer.NoMemory before now = Unit {0}
 
--- the text of all that the inputs hold stands in standard output
+-- standard output contains the text of all that the inputs hold
 abbrev pub Holds : Ended → serial.Command → List Take → Option Held → Option Held → Type 0
 Holds ended command whole held held' =
     standing.Says ended command whole × WhereTold (λ before now. standing.Leaves ended (serial.text command whole) (before Stdout) (now Stdout)) held held'
 
--- the answer is that of all that the inputs hold, or there was no memory
+-- the outcome is that of all that the inputs hold, or memory ran out
 abbrev pub Completes : Ended → serial.Command → List Take → Option Held → Option Held → Type 0
 Completes answer.Done command whole held held' = Holds answer.Done command whole held held'
 Completes (answer.Refused refusal) command whole held held' = ⊥

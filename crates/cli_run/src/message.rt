@@ -1,3 +1,4 @@
+//! The message of an outcome.
 ghost use Rattle.std.specs.Prelude.{◌≡◌, ◌∷◌, []};
 ghost use Rattle.std.specs.List.{flat_map};
 ghost use Rattle.mlr_event.specs.declared.names.Target.TheVariants.{Stderr};
@@ -20,8 +21,9 @@ pub(crate) struct Digits {
     pub(crate) third: Buffer,
 }
 
-/// Writes the message of an answer to standard error, in pieces from where they stand. Numbers go by way of the
-/// buffer, so that a message takes no memory. A message names a word, or a file by its place among the file names.
+/// Writes the message of an outcome to standard error, piece by piece from where its texts are. Numbers are
+/// formatted in the buffer, so that a message doesn't allocate. A message names a word, or a file by its
+/// place among the file names.
 pub(crate) fn write_message<O: Outputs>(
     words: &[Bytes],
     names: &[Bytes],

@@ -1,3 +1,4 @@
+//! The options of formats, as flags give them.
 ghost use Rattle.std.specs.Prelude.{◌≡◌, ◌≤◌, ◌^◌, length, IfOk};
 ghost use Rattle.cli_run.specs.Meaning.{inputs_of};
 ghost use Rattle.cli_run.specs.Options.{default_separator, is_json, read_options, write_options};
@@ -44,7 +45,7 @@ pub(crate) fn write_options(alloc: Global, formats: Formats) -> Result<WriteOpts
     })
 }
 
-/// What stands between two fields where nothing is given.
+/// The separator of fields where none is given.
 fn default_separator(format: Format) -> &'static [u8]
     ensures { result.now ≡ default_separator format }
 {

@@ -55,7 +55,7 @@ fn specs_of(alloc: Global, words: &[Bytes], verbs: &[Asked]) -> Result<Vec<VerbS
     Ok(specs)
 }
 
-/// Puts a verb with its options last.
+/// Appends a verb with its options.
 fn push_spec(
     alloc: Global,
     words: &[Bytes],

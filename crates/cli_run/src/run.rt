@@ -1,3 +1,4 @@
+//! The top call: a command line run on inputs and outputs.
 ghost use Rattle.std.specs.Prelude.{◌≡◌, ◌⊎◌, ◌≤◌, ℕ, List, true};
 ghost use Rattle.mlr_event.specs.declared.names.InputName.{InputName};
 ghost use Rattle.mlr_event.specs.declared.names.Target.{Target};
@@ -25,8 +26,8 @@ use std::alloc::Global;
 use std::sync::Wait;
 use std::thread::Threads;
 
-/// The top call: runs a command line, and writes the message of its answer to standard error. It answers how the run
-/// ended, and hands the inputs back.
+/// The top call: runs a command line, and writes the message of its outcome to standard error. Returns how
+/// the run ended, and the inputs.
 pub fn run_mlr<
     R: Threads + Wait + Copy + Send + 'static,
     I: Inputs + Drop + Send + 'static,
@@ -39,13 +40,13 @@ pub fn run_mlr<
     inputs: I,
     outputs: &mut O,
 ) -> (Ended, I)
-    // Refused comes exactly where the words aren't a command line, which is flags of formats, then verbs that are built with
-    // their options, each behind `then` but the first, then file names, at the first word with which none goes on; nothing
-    // is read.
+    // Refused comes exactly where the words aren't a command line, which is flags of formats, then verbs that
+    // are built with their options, each after `then` but the first, then file names, at the first word with
+    // which none continues; nothing is read.
     ensures refused { RefusesWhere words.now result.0 }
     ensures untouched { is_refused result.0 ≡ true → result.1 ≡ inputs }
 
-    // What the words mean, what was taken, what the answer says of it, and what stands in each output.
+    // What the words mean, what was taken, what the outcome says of it, and what each output contains.
     ensures run { Run words.now result.0 (I.contents inputs) (I.taken inputs) (I.taken result.1)
         (O.held outputs.old) (O.held outputs.new)
         (Rose (O.faults outputs.old Stderr) (O.faults outputs.new Stderr) ⊎ Rose
@@ -58,7 +59,7 @@ pub fn run_mlr<
         → O.faults outputs.old target ≤ O.faults outputs.new target }
     ensures output_cause { OutputCause result.0 (O.faults outputs.old) (O.faults outputs.new) }
 
-    // Where no call fails, the answer is that of all that the inputs hold, and standard output has its text.
+    // Where no call fails, the outcome is that of all that the inputs hold, and standard output has its text.
     ensures completes { (names : List (List ℕ)) (command : serial.Command)
         → IsCommandLine words.now names command
         → (holds : HoldsAll command (I.contents inputs) (I.taken inputs))

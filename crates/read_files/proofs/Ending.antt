@@ -1,4 +1,4 @@
--- The last of some events, where a fault stands.
+-- The last of some events, where a fault is.
 use Rattle.std.proofs.Common.{◌≡◌, ℕ, ◌+◌, ◌<◌, ◌≤◌, Bool, true, false, not, ◌&&◌, ◌||◌, List, [], ◌∷◌, ◌++◌, length, Option, Some, None, refl, ap, ap₂, sym, ◌∙◌, subst, append_assoc, arith, length-append}
 use Rattle.std.specs.List.{list_any, slice_get}
 use Rattle.std.proofs.Common.{get_or}
@@ -14,7 +14,7 @@ or-false : (b : Bool) → (b || false) ≡ b
 or-false true = refl
 or-false false = refl
 
--- a fault stands last alone
+-- a fault is the last event
 fault-last : (x : Event) (xs : List Event) → is_list (x ∷ xs) ≡ true → (prefix : List Event) × (e : Event) × (x ∷ xs ≡ prefix ++ e ∷ []) × (list_any is_fault (x ∷ xs) ≡ is_fault e)
 fault-last x [] list = ([], x, refl, or-false (is_fault x))
 fault-last x (y ∷ xs) list =
@@ -23,7 +23,7 @@ fault-last x (y ∷ xs) list =
     let none = open-clear (x ∷ []) (ap (λ b. not (b || false)) (not-true (is_last x) parts.0)) in
     (x ∷ rest.0, rest.1, ap (λ l. x ∷ l) rest.2, ap (λ b. b || list_any is_fault (y ∷ xs)) (or_parts (is_fault x) false none).0 ∙ rest.3)
 
--- the last of all events tells whether a fault is among those behind others
+-- the last of all events shows whether a fault is among those after others
 pub last-tells : (events known more : List Event) (i : ℕ) (e : Event) → events ≡ known ++ more → length known < length events → i + 1 ≡ length events → is_part more ≡ true → slice_get events i ≡ Some e
     → is_fault e ≡ list_any is_fault more
 last-tells events known [] i e are some last part at = absurd (let none = ap length (are ∙ append-nil known) in omega (arith, none, some))

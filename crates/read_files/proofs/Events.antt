@@ -10,7 +10,7 @@ use Rattle.mlr_event.specs.Verb.{is_end, is_fault, is_last, is_list, is_open, is
 use Rattle.mlr_event.proofs.Ordered.{open-list}
 use Rattle.read_files.specs.Sources.{until_fault}
 
--- what stands behind events without a fault, and behind a fault
+-- what follows events without a fault, and a fault
 pub until-clear : (xs : List Event) → list_any is_fault xs ≡ false → until_fault xs ≡ xs
 until-clear [] h = refl
 until-clear (x ∷ xs) h =
@@ -169,7 +169,7 @@ part-until xs h = list-until xs (and_parts (not (list_any is_end xs)) (is_list x
 pub part-no_end : (xs : List Event) → is_part xs ≡ true → list_any is_end xs ≡ false
 part-no_end xs h = not-true (list_any is_end xs) (and_parts (not (list_any is_end xs)) (is_list xs) h).0
 
--- events up to a fault, with an end behind them where there is none
+-- events up to a fault, with an end after them where there is none
 pub ended-list : (xs : List Event) (e : Event) (whole : Bool) → list_any is_end xs ≡ false → (whole ≡ true → list_any is_fault xs ≡ false) → is_list (until_fault xs ++ cond whole (e ∷ []) []) ≡ true
 ended-list xs e true ends clear =
     ap (λ l. is_list (l ++ e ∷ [])) (until-clear xs (clear refl)) ∙ open-list xs (e ∷ []) (clear-open xs ends (clear refl)) refl

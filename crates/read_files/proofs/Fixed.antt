@@ -1,4 +1,4 @@
--- What inputs give stays as it is behind an end or a fault.
+-- What inputs give doesn't change after an end or a fault.
 use Rattle.std.proofs.Common.{◌≡◌, true, false, List, [], ◌∷◌, ◌++◌, Option, Some, None, refl, ap, ap₂, sym, ◌∙◌, inl, inr}
 use Rattle.std.specs.Prelude.{if◌then◌else◌}
 use Rattle.std.specs.List.{list_any}
@@ -21,13 +21,13 @@ order-rest : (name : InputName) (names : List InputName) (t : Take) (takes : Lis
 order-rest name names t [] order = tt
 order-rest name names t (u ∷ takes) order = order.2
 
--- nothing is taken behind the end of an input
+-- nothing is taken after the end of an input
 take-same : (t u : Take) → TakeGoesOn t u → t.ended ≡ true → u ≡ t
 take-same t u on e =
     let all = on.1.2 e in
     ap₂ (λ name bytes. take_of name u.ended bytes) on.0 (on.1.1 ∙ ap (λ more. t.bytes ++ more) all.0 ∙ append-nil t.bytes) ∙ ap (λ ended. take_of t.name ended t.bytes) (all.1 ∙ sym e)
 
--- nor behind the last input
+-- nor after the last input
 pub all-taken : (names : List InputName) (given longer : List Take) → InOrder names given → InOrder names longer → GoesOn given longer → stops_at names given ≡ None → longer ≡ given
 all-taken [] [] [] order order' on stops = refl
 all-taken [] [] (u ∷ longer) order order' on stops = absurd order'
@@ -42,12 +42,12 @@ all-taken (name ∷ names) (t ∷ given) (u ∷ longer) order order' on stops = 
   | inr none ↦ absurd (let e : Some name ≡ None = sym (ap (λ ended. if ended then stops_at names given else Some name) none) ∙ stops in cc)
 ]
 
--- nothing comes behind an end or a fault in a list
+-- nothing follows an end or a fault in a list
 last-alone : (xs ys : List Event) → is_open xs ≡ false → is_list (xs ++ ys) ≡ true → ys ≡ []
 last-alone xs [] closed list = refl
 last-alone xs (y ∷ ys) closed list = absurd (true≢false (sym (open-before xs y ys list) ∙ closed))
 
--- with an end and no fault no input is left
+-- with an end and no fault no input remains
 none-left : (opts : ReadOpts) (names : List InputName) (given : List Take) → list_any is_fault (events_taken opts given) ≡ false → is_open (source opts names given) ≡ false
     → (at : Option InputName) → stops_at names given ≡ at → stops_at names given ≡ None
 none-left opts names given none closed None stops = stops

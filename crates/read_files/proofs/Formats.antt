@@ -40,7 +40,7 @@ events-list at (fault f ∷ items) = refl
 events-part : (at : Ctx) (items : List Item) → is_part (events_of at items) ≡ true
 events-part at items = ap₂ (λ a b. not a && b) (no-end at items) (events-list at items)
 
--- the context behind them, which keeps the number of the file
+-- the context after them, which keeps the number of the file
 pub events-ctx : (at : Ctx) (items : List Item) → ctx_after at items ≡ ctx_after_events at (events_of at items)
 events-ctx at [] = refl
 events-ctx at (comment text ∷ items) = events-ctx at items

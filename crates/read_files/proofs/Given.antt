@@ -12,7 +12,7 @@ use Rattle.read_files.specs.Takes.{ArePrefixesTaken, GoesOn, InOrder, TakeGoesOn
 use Rattle.read_files.specs.Sources.{ctx_after_take, ctx_from, events_from, take_gives}
 use Rattle.read_files.specs.Represents.{AllRead}
 
--- what stops, and the order, behind inputs that were read whole
+-- what stops, and the order, after inputs that were read whole
 pub stops-following : (names more : List InputName) (given takes : List Take) → AllRead names given → stops_at (names ++ more) (given ++ takes) ≡ stops_at more takes
 stops-following [] more [] takes read = refl
 stops-following [] more (t ∷ given) takes read = absurd read
@@ -62,7 +62,7 @@ pub ctx-append : (opts : ReadOpts) (ctx : Ctx) (given takes : List Take) → ctx
 ctx-append opts ctx [] takes = refl
 ctx-append opts ctx (t ∷ given) takes = ctx-append opts (ctx_after_take opts ctx t) given takes
 
--- fronts
+-- prefixes
 pub prefixes-append : (told : Contents) (given takes : List Take) → ArePrefixesTaken told given → ArePrefixesTaken told takes → ArePrefixesTaken told (given ++ takes)
 prefixes-append told [] takes first second = second
 prefixes-append told (t ∷ given) takes first second = (first.0, prefixes-append told given takes first.1 second)

@@ -1,4 +1,4 @@
--- What inputs give is a list, and goes on as more is taken.
+-- What inputs give is a list, and extends as more is taken.
 use Rattle.std.proofs.Common.{◌≡◌, ℕ, ◌+◌, Bool, true, false, not, ◌&&◌, ◌||◌, List, [], ◌∷◌, ◌++◌, Option, Some, None, refl, ap, ap₂, sym, subst, ◌∙◌, append_assoc, arith, inl, inr}
 use Rattle.std.specs.Prelude.{is_some, if◌then◌else◌}
 use Rattle.std.specs.List.{list_any}
@@ -77,7 +77,7 @@ module _ (growth : Growth) (opts : ReadOpts) where
       let tail = (if is_whole opts names longer then End (ctx_from opts zero_context longer) ∷ [] else []) in
       (more.0 ++ tail, ap (λ e. e ++ tail) more.1 ∙ append_assoc (events_taken opts given) more.0 tail)
 
--- what was taken goes on as the whole
+-- the whole extends what was taken
 take-whole : (told : Contents) (name : InputName) (t u : Take) → t.name ≡ name → IsPrefixTaken told t → u.name ≡ name → u.ended ≡ true → told name ≡ Some u.bytes → TakeGoesOn t u
 take-whole told name t u same prefix same' ended holds =
     (same' ∙ sym same, (prefix.0, some-is (sym holds ∙ ap told (sym same) ∙ prefix.1), λ e. (prefix.2 e, ended)))

@@ -21,7 +21,7 @@ whole-order told [] (t ∷ whole) all = absurd all
 whole-order told (name ∷ names) [] all = absurd all
 whole-order told (name ∷ names) (t ∷ whole) all = order-then name names t whole all.0 all.1 (whole-order told names whole all.3)
 
--- what so many bytes come to, by what the first input holds
+-- what so many bytes give, by what the first input holds
 abbrev taken_of : Contents → InputName → List InputName → ℕ → Option (List ℕ) → List Take
 taken_of told name names n held = elim held [
   | None ↦ []
@@ -37,11 +37,11 @@ taken-part : (told : Contents) (name : InputName) (names : List InputName) (n : 
 taken-part told name names n bytes holds part =
     ap (taken_of told name names n) holds ∙ ap (λ b. if b then take_of name true bytes ∷ taken_by told names (n - length bytes) else take_of name false (take n bytes) ∷ []) part
 
--- an input goes on a front of it
+-- an input extends a prefix of it
 part-on : (name : InputName) (n : ℕ) (t : Take) → t.name ≡ name → TakeGoesOn (take_of name false (take n t.bytes)) t
 part-on name n t same = (same, (drop n t.bytes, sym (take-append-drop n t.bytes), λ e. absurd (false≢true e)))
 
--- what was taken goes on what fewer bytes come to
+-- what was taken extends what fewer bytes give
 pub taken-early : (told : Contents) (names : List InputName) (given : List Take) (n : ℕ) → InOrder names given → ArePrefixesTaken told given → n < total given
     → GoesOn (taken_by told names n) given × InOrder names (taken_by told names n)
 taken-early told [] given n order prefixes less = (tt, tt)

@@ -40,7 +40,7 @@ represents-piece opts names given reader piece s = record {
   current = s.current;
 }
 
--- an answer that isn't a failure says that no count rose
+-- a result that isn't a failure says that no count rose
 pub no-failure : (turn : ReadTurn) (before now : InputName → ℕ) → failed turn ≡ false → ((name : InputName) → now name ≡ before name) → TurnCause turn before now
 no-failure Went before now none same = same
 no-failure Ended before now none same = same

@@ -30,7 +30,7 @@ use Rattle.read_files.proofs.Steps.{given_to, take_of}
 abbrev pub SourceGrows : Type 0
 SourceGrows = (opts : ReadOpts) (names : List InputName) (given longer : List Take) → InOrder names given → GoesOn given longer → (more : List Event) × (source opts names longer ≡ events_taken opts given ++ more)
 
--- the inputs that are left
+-- the remaining inputs
 stops-some : (names : List InputName) → 1 ≤ length names → (next : InputName) × (stops_at names [] ≡ Some next)
 stops-some [] some = absurd (omega (arith, some))
 stops-some (name ∷ names) some = (name, refl)
@@ -235,7 +235,7 @@ module _ (opts : ReadOpts) (names : List InputName) (given : List Take) (reader 
               represents = λ e. absurd (let f : Ended ≡ Went = e in cc);
             })
 
-        -- another one stands behind it
+        -- another one follows it
         end-on : 1 ≤ length reader.names.items → at'.nr ≤ counted source_so (length bytes_so) + 1 → Stepped Went opts names given (with_last ended given) (record reader { current = None; at = at' }) out out1
         end-on some few =
             let next = stops-some rest (omega (arith, some, length-reverse reader.names.items)) in

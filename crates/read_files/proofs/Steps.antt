@@ -50,14 +50,14 @@ source-whole opts names given stops none =
 pub taken-open : (opts : ReadOpts) (given : List Take) → list_any is_fault (events_taken opts given) ≡ false → is_open (events_taken opts given) ≡ true
 taken-open opts given none = clear-open (events_taken opts given) (until-no_end (events_from opts zero_context given) (inputs-no_end opts zero_context given)) none
 
--- what was taken of an input, behind those that were read whole
+-- what was taken of an input, after those that were read whole
 abbrev pub take_of : InputName → Bool → List ℕ → Take
 take_of name all bytes = record { name = name; bytes = bytes; ended = all }
 
 abbrev pub given_to : List Take → InputName → Bool → List ℕ → List Take
 given_to done name all bytes = done ++ take_of name all bytes ∷ []
 
--- an input that is open, behind those that were read whole
+-- an open input, after those that were read whole
 module _ (opts : ReadOpts) (prefix rest : List InputName) (done : List Take) (read : AllRead prefix done) (name : InputName) (bytes : List ℕ) where
   abbrev names_of : List InputName
   names_of = prefix ++ name ∷ rest
@@ -104,7 +104,7 @@ module _ (opts : ReadOpts) (prefix rest : List InputName) (done : List Take) (re
   pub goes_on-ended : GoesOn (given_to done name false bytes) (given_to done name true bytes)
   goes_on-ended = goes_on-last done (take_of name false bytes) (take_of name true bytes) (refl, ([], sym (append-nil bytes), λ e. absurd (false≢true e)))
 
-  -- what was put out was no fault, and what more is given now is put behind it
+  -- what was pushed was no fault, and what is given now is appended
   module _ (clear : is_open (events_taken opts (given_to done name false bytes)) ≡ true) (all : Bool) (b : List ℕ) (more : List Event) (now_is : gives_now all b ≡ gives_now false bytes ++ more) where
     abbrev known : List Event
     known = before ++ gives_now false bytes

@@ -16,7 +16,7 @@ pub some_of : {A : Type 0} (o : Option A) → IsSome o → (x : A) × (o ≡ Som
 some_of None h = absurd (false≢true h)
 some_of (Some x) h = (x, refl)
 
--- counts that stand, whichever input is open
+-- counts that don't change, whichever input is open
 pub unmoved : {N : Type 0} (name : Option N) (before now : N → ℕ) → IsSome name → IfSome name (Counted false before now) → (other : N) → now other ≡ before other
 unmoved None before now some counted = absurd (false≢true some)
 unmoved (Some name) before now some counted = counted
@@ -31,7 +31,7 @@ pub following-same : (before : Option (List Take)) (given : List Take) (contents
 following-same before given contents taken taken' name name' same same' following =
     subst (λ t. After before given contents t name') (sym same) (subst (λ n. After before given contents taken n) (sym same') following)
 
--- nothing was taken, and none is open behind inputs that were read whole
+-- nothing was taken, and none is open after inputs that were read whole
 pub following-closed : (prefix : List InputName) (before : Option (List Take)) (given : List Take) (contents : Option Contents) (taken taken' : Option (List Take)) (name name' : Option InputName) → AllRead prefix given → taken' ≡ taken
     → After before given contents taken name → After before given contents taken' name'
 following-closed prefix before given contents taken taken' name name' read same following =

@@ -1,4 +1,4 @@
--- When the readers stand for the bytes of a source, with room for more.
+-- When the readers represent the bytes of a source, with room for more.
 use Rattle.std.specs.Prelude.{◌≡◌, ℕ, ◌+◌, ◌≤◌, ◌^◌, List, length, max}
 use Rattle.read_csv.specs.declared.reader.CsvReader.{CsvReader}
 use Rattle.read_csv.specs.Represents as csv

@@ -43,11 +43,11 @@ AllRead [] (take ∷ takes) = ⊥
 AllRead (name ∷ names) [] = ⊥
 AllRead (name ∷ names) (take ∷ takes) = (take.name ≡ name) × (take.ended ≡ true) × AllRead names takes
 
--- the next input, behind those that were read whole
+-- the next input, after those that were read whole
 abbrev pub source_after : ReadOpts → Ctx → Source
 source_after opts ctx = record { opts = opts; file = Main (ctx.filenum + 1); ctx = next_file ctx }
 
--- the input that is open, if one is, behind those that were read whole and before those that weren't opened
+-- the open input, if one is open, after those that were read whole and before those that weren't opened
 pub record CurrentRepresents (opts : ReadOpts) (prefix rest : List InputName) (done : List Take) (names : List InputName) (given : List Take) (input : OpenInput) : Type 0 where
   pub bytes : List ℕ
   pub names_are : names ≡ prefix ++ input.name ∷ rest
@@ -84,7 +84,7 @@ pub record Represents (opts : ReadOpts) (names : List InputName) (given : List T
   pub few_records : reader.at.nr ≤ total done + 2 * reader.at.filenum
   pub current : OpenRepresents reader.current opts prefix (reverse reader.names.items) done names given
 
--- what a turn's answer says of what was taken
+-- what the result of a turn says of what was taken
 abbrev pub TurnSays : ReadTurn → ReadOpts → List InputName → List Take → List Take → Type 0
 TurnSays Went opts names given given' = (is_open (source opts names given') ≡ true) × (total given' < 2 ^ 60) × (total given + ends given < total given' + ends given')
 TurnSays Ended opts names given given' = is_open (source opts names given') ≡ false
@@ -92,7 +92,8 @@ TurnSays (Failed name) opts names given given' = (is_open (source opts names giv
 TurnSays TooLong opts names given given' = (is_open (source opts names given') ≡ true) × (total given' ≡ 2 ^ 60)
 TurnSays NoMemory opts names given given' = Unit {0}
 
--- What a turn did: more was taken, in one read, and but for want of memory what that gives more was put out.
+-- What a turn did: more was taken, in one read, and unless memory ran out the events that it fixes were
+-- pushed.
 pub record Turned (turn : ReadTurn) (opts : ReadOpts) (names : List InputName) (before : Option (List Take)) (given : List Take) (reader' : FileReader) (contents : Option Contents) (taken' : Option (List Take)) (name' : Option InputName) (out out' : List Event) : Type 0 where
   pub given' : List Take
   pub order : InOrder names given'
@@ -106,7 +107,7 @@ pub record Turned (turn : ReadTurn) (opts : ReadOpts) (names : List InputName) (
   pub appends : (turn ≡ NoMemory → ⊥) → out' ≡ out ++ more
   pub represents : turn ≡ Went → Represents opts names given' reader'
 
--- what an answer says of the counts of the inputs
+-- what a result says of the counts of the inputs
 abbrev pub TurnCause : ReadTurn → (InputName → ℕ) → (InputName → ℕ) → Type 0
 TurnCause Went before now = (name : InputName) → now name ≡ before name
 TurnCause Ended before now = (name : InputName) → now name ≡ before name

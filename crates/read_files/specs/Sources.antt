@@ -18,7 +18,7 @@ use Rattle.read_xtab_pprint.specs.Blocks.{block_fed, block_read}
 use Rattle.read_json_lines.specs.Files.{json_fed, json_read}
 use Rattle.read_files.specs.Takes.{stops_at}
 
--- a file that is read: how, as which input, and behind which record
+-- a file that is read: with which options, as which input, and after which record
 pub record Source : Type 0 where
   pub opts : ReadOpts
   pub file : FileRef
@@ -90,11 +90,12 @@ ctx_after_events ctx (Out target piece ∷ events) = ctx_after_events ctx events
 ctx_after_events ctx (End at ∷ events) = ctx_after_events ctx events
 ctx_after_events ctx (Fault fault ∷ events) = ctx_after_events ctx events
 
--- behind the next input: the number of the last record, how many records this input has, and how many inputs there were
+-- the context after the next input: the number of the last record, how many records this input has, and how
+-- many inputs there were
 abbrev pub ctx_after_take : ReadOpts → Ctx → Take → Ctx
 ctx_after_take opts ctx take = ctx_after_events (next_file ctx) (take_gives opts ctx take)
 
--- what inputs give one after another, and the context behind them
+-- what inputs give one after another, and the context after them
 abbrev pub events_from : ReadOpts → Ctx → List Take → List Event
 events_from opts ctx [] = []
 events_from opts ctx (take ∷ takes) = take_gives opts ctx take ++ events_from opts (ctx_after_take opts ctx take) takes
@@ -116,6 +117,6 @@ events_taken opts takes = until_fault (events_from opts zero_context takes)
 abbrev pub is_whole : ReadOpts → List InputName → List Take → Bool
 is_whole opts names takes = not (is_some (stops_at names takes)) && not (list_any is_fault (events_taken opts takes))
 
--- the same with the end, which stands behind all of them
+-- the same with the end, which follows all of them
 abbrev pub source : ReadOpts → List InputName → List Take → List Event
 source opts names takes = events_taken opts takes ++ (if is_whole opts names takes then End (ctx_from opts zero_context takes) ∷ [] else [])

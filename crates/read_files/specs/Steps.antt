@@ -29,7 +29,7 @@ pub record RepresentsNext (opts : ReadOpts) (names : List InputName) (given : Li
   pub few_records : reader.at.nr ≤ total given + 2 * reader.at.filenum
   pub names_are : names ≡ prefix ++ name ∷ reverse reader.names.items
 
--- the end was put behind all
+-- the end was pushed after all
 abbrev pub AppendsEnd : ReadTurn → Ctx → List Event → List Event → Type 0
 AppendsEnd Went at out out' = ⊥
 AppendsEnd Ended at out out' = out' ≡ out ++ End at ∷ []
@@ -37,7 +37,8 @@ AppendsEnd (Failed name) at out out' = ⊥
 AppendsEnd TooLong at out out' = ⊥
 AppendsEnd NoMemory at out out' = Unit {0}
 
--- What a read led to, by which what was taken became this: what that gives more was put out, but for want of memory.
+-- What a read led to, by which what was taken became this: unless memory ran out, the events that it fixes
+-- were pushed.
 pub record Stepped (turn : ReadTurn) (opts : ReadOpts) (names : List InputName) (given given' : List Take) (reader' : FileReader) (out out' : List Event) : Type 0 where
   pub order : InOrder names given'
   pub goes_on : GoesOn given given'
@@ -55,7 +56,7 @@ failed (Failed name) = true
 failed TooLong = false
 failed NoMemory = false
 
--- an input was closed, behind which this is the context, and the end was put if it is the last one
+-- an input was closed, after which this is the context, and the end was pushed if it is the last one
 abbrev pub Closes : ReadTurn → Ctx → FileReader → FileReader → List Event → List Event → Type 0
 Closes Went at reader reader' out out' = (1 ≤ length reader.names.items) × (reader' ≡ (record reader { current = None; at = at })) × (out' ≡ out)
 Closes Ended at reader reader' out out' = (reader.names.items ≡ []) × (out' ≡ out ++ End at ∷ [])
@@ -63,7 +64,7 @@ Closes (Failed name) at reader reader' out out' = ⊥
 Closes TooLong at reader reader' out out' = ⊥
 Closes NoMemory at reader reader' out out' = Unit {0}
 
--- so many bytes were taken, and the reading goes on if they aren't too many
+-- so many bytes were taken, and the reading continues if they aren't too many
 abbrev pub WentTo : ReadTurn → ℕ → Type 0
 WentTo Went taken = taken ≡ 2 ^ 60 → ⊥
 WentTo Ended taken = ⊥

@@ -15,7 +15,8 @@ abbrev pub ends : List Take → ℕ
 ends [] = 0
 ends (take ∷ takes) = (if take.ended then 1 else 0) + ends takes
 
--- the input at which what was taken stops: the last one, if its end wasn't met, else the next; none behind the last
+-- the input at which what was taken stops: the last one, if its end wasn't met, else the next; none after the
+-- last
 abbrev pub stops_at : List InputName → List Take → Option InputName
 stops_at [] takes = None
 stops_at (name ∷ names) [] = Some name
@@ -28,7 +29,7 @@ InOrder [] (take ∷ takes) = ⊥
 InOrder (name ∷ names) (take ∷ []) = take.name ≡ name
 InOrder (name ∷ names) (take ∷ next ∷ takes) = (take.name ≡ name) × (take.ended ≡ true) × InOrder names (next ∷ takes)
 
--- of an input more was taken: nothing behind its end
+-- of an input more was taken: nothing after its end
 abbrev pub TakeGoesOn : Take → Take → Type 0
 TakeGoesOn take next = (next.name ≡ take.name) × ((more : List ℕ) × (next.bytes ≡ take.bytes ++ more) × (take.ended ≡ true → (more ≡ []) × (next.ended ≡ true)))
 
@@ -38,7 +39,7 @@ GoesOn [] longer = Unit {0}
 GoesOn (take ∷ takes) [] = ⊥
 GoesOn (take ∷ takes) (next ∷ longer) = TakeGoesOn take next × GoesOn takes longer
 
--- what was taken of an input is a front of what it holds, and all of it where the end was met
+-- what was taken of an input is a prefix of what it holds, and all of it where the end was met
 abbrev pub IsPrefixTaken : Contents → Take → Type 0
 IsPrefixTaken contents take =
     (rest : List ℕ) × (contents take.name ≡ Some (take.bytes ++ rest)) × (take.ended ≡ true → rest ≡ [])
@@ -54,7 +55,7 @@ AreWhole told [] (take ∷ takes) = ⊥
 AreWhole told (name ∷ names) [] = ⊥
 AreWhole told (name ∷ names) (take ∷ takes) = (take.name ≡ name) × (take.ended ≡ true) × (told name ≡ Some take.bytes) × AreWhole told names takes
 
--- what so many bytes of the inputs come to, with the end of each input that ends within them
+-- what is taken by so many bytes of the inputs, with the end of each input that ends within them
 abbrev pub taken_by : Contents → List InputName → ℕ → List Take
 taken_by told [] n = []
 taken_by told (name ∷ names) n = elim (told name) [
@@ -64,8 +65,8 @@ taken_by told (name ∷ names) n = elim (told name) [
       else record { name = name; bytes = take n bytes; ended = false } ∷ []
 ]
 
--- Inputs of which this was taken behind what was taken before: the last one is open, if its end wasn't met, and where they
--- are told, they are fronts of what the inputs hold.
+-- Inputs of which this was taken after what was taken before: the last one is open, if its end wasn't met,
+-- and where the inputs' bytes are known, these are prefixes of what the inputs hold.
 pub record After (before : Option (List Take)) (given : List Take) (contents : Option Contents) (taken : Option (List Take)) (name : Option InputName) : Type 0 where
   pub entries : taken ≡ option_map (λ takes. takes ++ given) before
   pub prefixes : IfSome contents (λ told. IfSome taken (λ _. ArePrefixesTaken told given))

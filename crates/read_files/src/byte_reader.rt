@@ -1,3 +1,4 @@
+//! The trait of a reader of one file, which each format's reader meets.
 ghost use Rattle.std.specs.Prelude.{◌≡◌, ◌+◌, ◌<◌, ◌≤◌, ◌^◌, ◌++◌, ℕ, List, [], length, true, IfOk, OnOk};
 ghost use Rattle.mlr_event.specs.declared.event.Event.{Event};
 ghost use Rattle.mlr_event.specs.declared.options.ReadOpts.{ReadOpts};
@@ -39,7 +40,7 @@ pub(crate) trait ByteReader {
         ensures { IfOk result (λ reader. represents reader
             (record { opts = opts.now; file = file; ctx = start }) []) };
 
-    /// Takes a piece of the file, and puts out what it fixes.
+    /// Takes a piece of the file, and pushes the events that it fixes.
     fn feed(&mut self, piece: &[u8], out: &mut Events) -> Result<(), NoMemory>
         requires { (source : Source) × (bytes : List ℕ) × represents self.old source bytes
             × (length bytes + length piece.now < 2 ^ 62) }
@@ -49,7 +50,7 @@ pub(crate) trait ByteReader {
             → OnOk result (Adds out.old out.new (fed source bytes)
             (fed source (bytes ++ piece.now))) };
 
-    /// Takes the end of the file, and puts out the rest. It answers the context behind the file.
+    /// Takes the end of the file, and pushes the rest. Returns the context after the file.
     fn end(&mut self, out: &mut Events) -> Result<Ctx, NoMemory>
         requires { (source : Source) × (bytes : List ℕ) × represents self.old source bytes
             × (length bytes < 2 ^ 62) }

@@ -1,3 +1,4 @@
+//! Faults among events.
 ghost use Rattle.std.specs.Prelude.{◌≡◌, ◌++◌, List, length, true};
 ghost use Rattle.std.specs.List.{list_any};
 ghost use Rattle.mlr_event.specs.declared.event.Event.{Event as SpecEvent};
@@ -5,7 +6,7 @@ ghost use Rattle.mlr_event.specs.Verb.{is_fault, is_part};
 
 use mlr_event::{Event, Events};
 
-/// Whether a fault is among the events behind the first `before`, where it can only stand last.
+/// Whether a fault is among the events after the first `before`, where it can only be the last.
 pub(crate) fn ends_in_fault(events: &Events, before: usize) -> bool
     ensures { (known more : List SpecEvent) → events.now ≡ known ++ more → before ≡ length known
         → is_part more ≡ true → result ≡ list_any is_fault more }

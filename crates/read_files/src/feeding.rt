@@ -1,3 +1,4 @@
+//! A piece or the end of a file given to its reader.
 ghost use Rattle.std.specs.Prelude.{◌≡◌, ◌+◌, ◌<◌, ◌^◌, ◌++◌, ℕ, List, length, true};
 ghost use Rattle.mlr_event.specs.Verb.{is_part};
 ghost use Rattle.read_files.specs.Feeding.{EndSays, FedOn, FedSays};
@@ -11,9 +12,9 @@ use mlr_event::{Ctx, Events};
 /// What a reader made of a piece.
 #[derive(Clone, Copy)]
 pub(crate) enum Fed {
-    /// No fault was put out.
+    /// No fault was pushed.
     On,
-    /// A fault was put out.
+    /// A fault was pushed.
     Faulty,
     /// There was no memory.
     NoMemory,
@@ -22,9 +23,9 @@ pub(crate) enum Fed {
 /// What a reader made of the end of its file.
 #[derive(Clone, Copy)]
 pub(crate) enum AtEnd {
-    /// No fault was put out, and this is the context behind the file.
+    /// No fault was pushed, and this is the context after the file.
     On(Ctx),
-    /// A fault was put out.
+    /// A fault was pushed.
     Faulty,
     /// There was no memory.
     NoMemory,

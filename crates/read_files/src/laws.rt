@@ -1,3 +1,4 @@
+//! Laws of what inputs give.
 ghost use Rattle.std.specs.Prelude.{◌≡◌, ◌<◌, ◌++◌, ℕ, List, None, false, true};
 ghost use Rattle.mlr_event.specs.declared.event.Event.{Event};
 ghost use Rattle.mlr_event.specs.declared.names.InputName.{InputName};
@@ -8,9 +9,10 @@ ghost use Rattle.mlr_world.specs.Taken.{Take};
 ghost use Rattle.read_files.specs.Takes.{ArePrefixesTaken, AreWhole, GoesOn, InOrder, stops_at, taken_by, total};
 ghost use Rattle.read_files.specs.Sources.{events_taken, source};
 
-/// What inputs give is a list of events (`list`); it goes on as more is taken of them (`grows`), and stays as it is behind
-/// an end or a fault (`fixed`). What was taken of inputs goes on as all that they hold (`whole`), and goes on what fewer
-/// bytes come to (`early`); behind the last input nothing more is taken (`all`). It does nothing.
+/// What inputs give is a list of events (`list`); it extends as more is taken of them (`grows`), and doesn't
+/// change after an end or a fault (`fixed`). All that inputs hold extends what was taken of them (`whole`),
+/// which extends what fewer bytes give (`early`); after the last input nothing more is taken (`all`). It does
+/// nothing.
 pub fn source_laws()
     ensures list { (opts : ReadOpts) (names : List InputName) (given : List Take)
         → is_list (source opts names given) ≡ true }

@@ -1,5 +1,5 @@
-//! The inputs of a run, read one after another in any of the formats: a `FileReader` takes one piece a turn, and puts out
-//! the events that it fixes.
+//! The inputs of a run, read one after another in any of the formats: a `FileReader` takes one piece a turn,
+//! and pushes the events that it fixes.
 #![tactic(auto)]
 
 mod byte_reader;

@@ -1,3 +1,4 @@
+//! The reader of one open file, of any format.
 ghost use Rattle.std.specs.Prelude.{◌≡◌, true, false};
 ghost use Rattle.read_files.specs.Readers.{FileRepresents};
 ghost use Rattle.read_files.specs.Represents.{can_read};

@@ -1,3 +1,4 @@
+//! The reader of all inputs of a run.
 ghost use Rattle.std.specs.Prelude.{◌≡◌, ◌+◌, ◌≤◌, ◌^◌, ◌++◌, ◌∷◌, [], List, Option, None, Some, false, true, IfOk, IfSome, IsSome, OnOk, length};
 ghost use Rattle.mlr_event.specs.declared.names.InputName.{InputName as SpecName};
 ghost use Rattle.mlr_event.specs.declared.options.ReadOpts.{ReadOpts as Options};
@@ -26,12 +27,12 @@ const TOO_LONG: u64 = 1 << 60;
 /// it needs.
 const ONE_READ: u64 = 61_440;
 
-/// What a turn of a reader answers.
+/// The result of a turn of a reader.
 #[derive(Debug, PartialEq, Eq, Drop)]
 pub enum ReadTurn {
-    /// It took a byte or the end of an input, and the reading goes on.
+    /// It took a byte or the end of an input, and the reading continues.
     Went,
-    /// An end or a fault was put out.
+    /// An end or a fault was pushed.
     Ended,
     /// This input can't be opened or read.
     Failed(InputName),
@@ -41,7 +42,7 @@ pub enum ReadTurn {
     NoMemory,
 }
 
-/// Reads inputs one after another. It stands for what was taken of them.
+/// Reads inputs one after another. It represents what was taken of them.
 pub struct FileReader {
     alloc: Global,
     opts: ReadOpts,
@@ -51,7 +52,7 @@ pub struct FileReader {
     current: Option<OpenInput>,
     /// What the last read took.
     piece: Bytes,
-    /// The context behind the inputs that were read whole.
+    /// The context after the inputs that were read whole.
     at: Ctx,
     /// How many bytes were taken of all inputs.
     taken: u64,
@@ -115,8 +116,8 @@ impl FileReader {
         })
     }
 
-    /// Takes one piece of fewer than 65,536 bytes or the end of an input, and puts behind `out` what that fixes. The next
-    /// input is opened where none is open.
+    /// Takes one piece of fewer than 65,536 bytes or the end of an input, and pushes the events that it
+    /// fixes. The next input is opened where none is open.
     pub fn turn<I: Inputs>(&mut self, inputs: &mut I, out: &mut Events) -> ReadTurn
         requires { (opts : Options) × (names : List SpecName) × (before : Option (List Take))
             × (given : List Take) × Represents opts names given self.old
@@ -139,7 +140,7 @@ impl FileReader {
         }
     }
 
-    /// Opens the next input and reads of it, or puts the end where there is none.
+    /// Opens the next input and reads from it, or pushes the end where there is none.
     fn read_next<I: Inputs>(&mut self, inputs: &mut I, out: &mut Events) -> ReadTurn
         requires none { self.old.current ≡ None }
         requires represents { (opts : Options) × (names : List SpecName)
@@ -218,7 +219,7 @@ impl FileReader {
         }
     }
 
-    /// Feeds the piece that was read, and puts out what it fixes.
+    /// Feeds the piece that was read, and pushes the events that it fixes.
     fn take_piece(&mut self, out: &mut Events) -> ReadTurn
         requires some { IsSome self.old.current }
         requires represents { (opts : Options) × (names : List SpecName) × (given : List Take)
@@ -245,7 +246,7 @@ impl FileReader {
         }
     }
 
-    /// Tells the reader that its file has ended, and puts out the rest, and the end behind the last input.
+    /// Ends the reader of the file, and pushes the rest of its events, and the end after the last input.
     fn take_end(&mut self, out: &mut Events) -> ReadTurn
         requires some { IsSome self.old.current }
         requires represents { (opts : Options) × (names : List SpecName) × (given : List Take)
@@ -266,7 +267,7 @@ impl FileReader {
         }
     }
 
-    /// Closes the input that is open, behind which this is the context, and puts the end where it is the last one.
+    /// Closes the open input, after which this is the context, and pushes the end where it is the last one.
     fn close(&mut self, at: Ctx, out: &mut Events) -> ReadTurn
         ensures closes { Closes result at self.old self.new out.old out.new }
         ensures no_failure { failed result ≡ false }
@@ -291,7 +292,7 @@ impl FileReader {
     }
 }
 
-/// Whether the reading goes on where so many bytes were taken.
+/// Whether the reading continues where so many bytes were taken.
 fn went_to(taken: u64) -> ReadTurn
     ensures { WentTo result taken }
 {
@@ -309,7 +310,7 @@ fn name_of(input: OpenInput) -> InputName
     name
 }
 
-/// Puts the end behind all inputs.
+/// Pushes the end after all inputs.
 fn put_end(at: Ctx, out: &mut Events) -> ReadTurn
     ensures appends { AppendsEnd result at out.old out.new }
     ensures no_failure { failed result ≡ false }

@@ -1,4 +1,4 @@
--- The numbers of `seqgen`, some behind others.
+-- The numbers of `seqgen`, some after others.
 use Rattle.std.proofs.Common.{◌≡◌, ℕ, zero, suc, ◌+◌, ◌≤◌, false, [], ◌∷◌, ◌++◌, length, ap, sym, ◌∙◌, arith, nat_lt}
 use Rattle.std.specs.Prelude.{map}
 use Rattle.std.specs.List.{range_with_len}

@@ -30,7 +30,7 @@ use Rattle.serial_core.specs.Command.{Origin, files, numbers}
 use Rattle.serial_core.specs.Reading.{Counts, Read, ReadSays, ReaderRepresents, TookMore}
 use Rattle.serial_core.proofs.Numbers.{events-append}
 
--- behind an end nothing is open
+-- after an end nothing is open
 end-open : (xs : List Event) (ctx : Ctx) → is_open (xs ++ event.End ctx ∷ []) ≡ false
 end-open xs ctx = ap not (list_any-append is_last xs (event.End ctx ∷ []) ∙ or-true (list_any is_last xs))
   where
@@ -44,11 +44,11 @@ open-source opts names takes opens = elim (cases_Bool (is_whole opts names takes
   | inr part ↦ ap (λ b. events_taken opts takes ++ cond b (event.End (ctx_from opts zero_context takes) ∷ []) []) part ∙ append-nil (events_taken opts takes)
 ]
 
--- where a list is no longer, nothing comes behind it
+-- where a list is no longer, nothing follows it
 none-following : (xs ys : List Event) → xs ++ ys ≡ xs → ys ≡ []
 none-following xs ys same = nil_from_length ys (omega (arith, ap length same, length-append xs ys))
 
--- behind the last input nothing more is taken
+-- after the last input nothing more is taken
 abbrev pub SourceAll : Type 0
 SourceAll = (names : List InputName) (given longer : List Take) → InOrder names given → InOrder names longer → GoesOn given longer → stops_at names given ≡ None → longer ≡ given
 
@@ -75,7 +75,7 @@ module _ (opts : ReadOpts) (names : List InputName) (before : Option (List Take)
   went-open turn.TooLong is says = says.0
   went-open turn.NoMemory is says = absurd (let f = is in cc)
 
-  -- where no input is left, no more was taken
+  -- where no input remains, no more was taken
   early-at : (all : SourceAll) → InOrder names given → (at : Option InputName) → stops_at names given ≡ at → (t.given' ≡ given) ⊎ (source opts names given ≡ read)
   early-at all order None stops = inl (all names given t.given' order t.order t.goes_on stops)
   early-at all order (Some name) stops = inr (source-stops opts names given name stops ∙ sym read_is)
@@ -103,7 +103,7 @@ records-open seq (place ∷ places) = records-open seq places
 pub all-list : (seq : SeqSpec) → is_list (seq_all seq) ≡ true
 all-list seq = open-list (seq_events seq 0 (seq_count seq)) (event.End (seq_context (seq_count seq)) ∷ []) (records-open seq (range_with_len 0 (seq_count seq))) refl
 
--- what is left behind so many
+-- what remains after so many
 abbrev pub rest-from : SeqSpec → ℕ → List Event
 rest-from seq n = seq_events seq n (seq_count seq - n) ++ event.End (seq_context (seq_count seq)) ∷ []
 

@@ -1,4 +1,4 @@
--- A read, and a pass of what it put out.
+-- A read, and a pass of what it pushed.
 use Rattle.std.proofs.Common.{◌≡◌, ℕ, true, List, [], ◌++◌, Option, Some, None, refl, ap, sym, ◌∙◌, subst, append_assoc, inl, inr}
 use Rattle.std.specs.Prelude.{◌⊎◌}
 use Rattle.std.proofs.lemmas.Bool.{true≢false}
@@ -71,7 +71,7 @@ module _ {S : Type 0} (verb : S → Verb) (represents : S → List Event → Typ
       let over = written-over command.write command.verbs read r.put r.rest (given_by command.origin r.given') r.events made-list (grows command.verbs) (writes command.write) ended command r.given' refl p.says (out_of command.write (chain command.verbs read)) p.more held held' p.text p.leaves in
       record { says = over.says; more = over.more; text = over.text; leaves = over.leaves; early = early-so r.early }
 
-  -- nothing is left to be read
+  -- nothing remains to be read
   all-read : r.rest ≡ [] → given_by command.origin r.given' ≡ read ++ r.put
   all-read none = r.events ∙ ap (λ t. (read ++ r.put) ++ t) none ∙ append-nil (read ++ r.put)
 

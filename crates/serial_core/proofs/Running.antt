@@ -37,7 +37,7 @@ pub record Going {S : Type 0} (verb : S → Verb) (represents : S → List Event
   pub may_go_on : MayGoOn command given
   pub leaves : ChangesAt Stdout (λ b n. n ≡ with_bytes (out_of command.write shown) b) first held
 
--- nothing was taken behind what was taken before
+-- nothing was taken after what was taken before
 pub following-none : (contents : Option Contents) (taken : Option (List Take)) (name : Option InputName) → After taken [] contents taken name
 following-none contents taken name = record { entries = same taken; prefixes = none contents taken; open_is = tt }
   where
@@ -94,7 +94,7 @@ module _ {S : Type 0} (verb : S → Verb) (represents : S → List Event → Typ
       early = ends now.given ran.given' taken name (reader-order command.origin now.given now.read serial.reader now.at.reader) now.following now.may_go_on ran.outcome.early ran.took.one_read;
     }
 
--- counts behind calls that changed none
+-- counts after calls that changed none
 pub cause-from : (ended : Ended) (f0 f1 f2 : InputName → ℕ) → ((name : InputName) → f1 name ≡ f0 name) → InputCause ended f1 f2 → InputCause ended f0 f2
 cause-from answer.Done f0 f1 f2 same cause = λ name. cause name ∙ same name
 cause-from (answer.Refused refusal) f0 f1 f2 same cause = λ name. cause name ∙ same name

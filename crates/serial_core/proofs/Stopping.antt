@@ -1,4 +1,4 @@
--- How little a run takes, and what it comes to where no call fails.
+-- How little a run takes, and its outcome where no call fails.
 use Rattle.std.proofs.Common.{◌≡◌, ℕ, ◌+◌, ◌<◌, ◌≤◌, true, false, List, [], ◌∷◌, ◌++◌, length, Option, Some, None, refl, ap, sym, ◌∙◌, subst, inl, inr, arith, length-append}
 use Rattle.std.specs.Prelude.{◌⊎◌, IfSome}
 use Rattle.std.specs.List.{list_any}
@@ -45,7 +45,7 @@ SourceWhole = (told : Contents) (names : List InputName) (given whole : List Tak
 abbrev pub SourceEarly : Type 0
 SourceEarly = (told : Contents) (names : List InputName) (given : List Take) (n : ℕ) → InOrder names given → ArePrefixesTaken told given → n < total given → GoesOn (taken_by told names n) given × InOrder names (taken_by told names n)
 
--- a run that went on while its result might ends early with the next read
+-- a run that continued while its result might ends early with the next read
 abbrev pub EndsEarly : Command → Option (List Take) → Option Contents → Type 0
 EndsEarly command before contents = (given given' : List Take) (taken : Option (List Take)) (name : Option InputName) → InOrder (names_of command.origin) given → After before given contents taken name → MayGoOn command given
     → (given' ≡ given) ⊎ (is_open (result command given) ≡ true) → total given' < total given + 65536 → IfSome contents (λ told. IfSome before (λ _. StopsEarly command told given'))
@@ -60,7 +60,7 @@ total-on [] longer on = omega arith
 total-on (t ∷ given) [] on = absurd on
 total-on (t ∷ given) (u ∷ longer) on = omega (arith, total-on given longer on.1, ap length on.0.1.1, length-append t.bytes on.0.1.0)
 
--- what was taken, where contents and takes are told
+-- what was taken, where contents and takes are known
 following-prefixes : (before : Option (List Take)) (given : List Take) (contents : Option Contents) (taken : Option (List Take)) (name : Option InputName) → After before given contents taken name
     → (told : Contents) (takes : List Take) → contents ≡ Some told → before ≡ Some takes → ArePrefixesTaken told given
 following-prefixes before given contents taken name following told takes told_is takes_is =
@@ -94,7 +94,7 @@ module _ (lists : SourceList) (grows : SourceGrows) (fixed : SourceFixed) (comma
   result-fixed : (given longer : List Take) → InOrder (names_of command.origin) given → InOrder (names_of command.origin) longer → GoesOn given longer → is_open (result command given) ≡ false → result command longer ≡ result command given
   result-fixed given longer order order' on closed = origin-fixed command.origin given longer order order' on closed
 
-  -- a run goes on only while the result may
+  -- a run continues only while the result may
   nothing-taken : (given : List Take) → MayGoOn command given → is_open (result command given) ≡ false → given ≡ []
   nothing-taken given (inl nothing) closed = nothing
   nothing-taken given (inr opens) closed = absurd (true≢false (sym opens ∙ closed))
@@ -122,7 +122,7 @@ module _ (lists : SourceList) (grows : SourceGrows) (fixed : SourceFixed) (comma
       if-both contents before (λ told. StopsEarly command told given')
       (λ told takes told_is takes_is. stops-early early told given given' order (following-prefixes before given contents taken name following told takes told_is takes_is) may ends one)
 
-  -- where no call fails the answer is that of all that the inputs hold
+  -- where no call fails the outcome is that of all that the inputs hold
   module _ (whole : SourceWhole) (contents : Option Contents) (taken taken' : Option (List Take)) (name' : Option InputName) (held held' : Option Held) (holds : HoldsAll command contents taken) where
     on-whole : (ended : Ended) (run : Run ended command contents taken taken' name' held held') → GoesOn run.given holds.whole × InOrder (names_of command.origin) holds.whole
     on-whole ended run =

@@ -1,4 +1,4 @@
--- What a read and a pass come to together.
+-- What a read and a pass give together.
 use Rattle.std.proofs.Common.{◌≡◌, ℕ, Bool, true, false, not, ◌||◌, ◌&&◌, List, [], ◌∷◌, ◌++◌, Option, Some, None, refl, ap, sym, ◌∙◌, append_assoc, inl, inr}
 use Rattle.std.specs.List.{list_any}
 use Rattle.std.proofs.lemmas.Bool.{and_parts, cases_Bool, true≢false}
@@ -49,7 +49,7 @@ following-counts (turn.Failed name) f0 f1 same = same
 following-counts turn.TooLong f0 f1 same = same
 following-counts turn.NoMemory f0 f1 same = same
 
--- an answer of a write says nothing of the inputs
+-- an outcome of a write says nothing of the inputs
 pub written-cause : (ended : Ended) (events : List Event) (f0 f1 : InputName → ℕ) → WriteSays (Some ended) events → ((name : InputName) → f1 name ≡ f0 name) → InputCause ended f0 f1
 written-cause answer.Done events f0 f1 says same = same
 written-cause (answer.Refused refusal) events f0 f1 says same = absurd says
@@ -59,7 +59,7 @@ written-cause (answer.Written target) events f0 f1 says same = same
 written-cause answer.TooLong events f0 f1 says same = absurd says
 written-cause answer.NoMemory events f0 f1 says same = same
 
--- a front of a list is one
+-- a prefix of a list is one
 pub list-prefix : (xs ys : List Event) → is_list (xs ++ ys) ≡ true → is_list xs ≡ true
 list-prefix [] ys list = refl
 list-prefix (x ∷ []) ys list = refl
@@ -67,7 +67,7 @@ list-prefix (x ∷ y ∷ xs) ys list =
     let parts = and_parts (not (is_last x)) (is_list ((y ∷ xs) ++ ys)) list in
     ap (λ b. b && is_list (y ∷ xs)) parts.0 ∙ list-prefix (y ∷ xs) ys parts.1
 
--- nothing comes behind a list with an end or a fault
+-- nothing follows a list with an end or a fault
 pub last-alone : (xs ys : List Event) → is_open xs ≡ false → is_list (xs ++ ys) ≡ true → ys ≡ []
 last-alone xs [] closed list = refl
 last-alone xs (y ∷ ys) closed list = absurd (true≢false (sym (open-before xs y ys list) ∙ closed))
@@ -104,7 +104,7 @@ fault-lasts (event.Fault found ∷ events) fault is = refl
 pub fault-closes : (events : List Event) (fault : Fault) → fault_in events ≡ Some fault → is_open events ≡ false
 fault-closes events fault is = ap not (fault-lasts events fault is)
 
--- a front of a text is one of a longer text
+-- a prefix of a text is one of a longer text
 pub prefix-longer : (text more : List ℕ) (before now : Option (List ℕ)) → AppendsPrefix text before now → AppendsPrefix (text ++ more) before now
 prefix-longer text more before now p = (p.0, (p.1.0 ++ more, ap (λ t. t ++ more) p.1.1 ∙ append_assoc p.0 p.1.0 more), p.2)
 
@@ -130,11 +130,11 @@ module _ (write : WriteOpts) (verbs : List Verb) (read put rest given : List Eve
     | inr closed ↦ ([], ap (out_of write) (made-whole closed) ∙ sym (append-nil (out_of write (chain verbs (read ++ put)))))
   ]
 
-  -- the text behind one that was written
+  -- the text after one that was written
   text-following : (shown more : List ℕ) → out_of write (chain verbs (read ++ put)) ≡ shown ++ more → out_of write (chain verbs given) ≡ shown ++ (more ++ text-later.0)
   text-following shown more is = text-later.1 ∙ ap (λ t. t ++ text-later.0) is ∙ append_assoc shown more text-later.0
 
-  -- An answer of a write, by the text that was written.
+  -- An outcome of a write, by the text that was written.
   pub record Over (ended : Ended) (command : Command) (takes : List Take) (shown : List ℕ) (held held' : Option Held) : Type 0 where
     pub says : Says ended command takes
     pub more : List ℕ

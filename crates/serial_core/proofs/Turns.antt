@@ -1,4 +1,4 @@
--- A write of what is at hand, and then a read.
+-- A write of what is pending, and then a read.
 use Rattle.std.proofs.Common.{◌≡◌, ℕ, ◌<◌, ◌^◌, true, List, [], ◌∷◌, ◌++◌, Option, Some, None, refl, ap, sym, ◌∙◌, subst, append_assoc, arith, inl}
 use Rattle.std.proofs.lemmas.List.{append-nil}
 use Rattle.mlr_event.specs.declared.event.Event.{Event}
@@ -119,7 +119,7 @@ module _ {S : Type 0} (verb : S → Verb) (represents : S → List Event → Typ
         outcome = record { says = over.says; more = over.more; text = over.text; leaves = over.leaves; early = inl refl };
       }
 
-  -- a read behind a write
+  -- a read after a write
   outcome-following : (turned : SerialTurn) (given' : List Take) (after : Serial S) (held held' held'' : Option Held) → Wrote None command.write shown serial.events held held'
       → Outcome turned verb represents command given given' read (chain command.verbs read) after held' held'' → Outcome turned verb represents command given given' read shown after held held''
   outcome-following Went given' after held held' held'' wrote o = record {

@@ -1,4 +1,4 @@
--- The answers of a run.
+-- The outcomes of a run.
 use Rattle.std.specs.Prelude.{ℕ, Bool, true, false}
 use Rattle.serial_core.specs.declared.answer.Ended.{Ended}
 use Rattle.serial_core.specs.declared.answer.Ended.TheVariants.{Done, Refused, Data, Read, Written, TooLong, NoMemory}

@@ -32,7 +32,7 @@ pub record Command : Type 0 where
   pub verbs : List Verb
   pub write : WriteOpts
 
--- what comes out behind the last verb, and the text of standard output
+-- what comes out of the last verb, and the text of standard output
 abbrev pub result : Command → List Take → List Event
 result command takes = chain command.verbs (given_by command.origin takes)
 

@@ -12,7 +12,7 @@ use Rattle.mlr_event.specs.Verb.{IsQuiet, KeepsOrder, StaysClosed, Verb, gives, 
 abbrev pub has_record : List Event → Bool
 has_record events = list_any is_record events
 
--- an event, but no record behind another
+-- an event, unless it is a record after another
 abbrev pub unless_after : Bool → Event → List Event
 unless_after met e = if is_record e && met then [] else e ∷ []
 

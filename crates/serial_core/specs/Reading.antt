@@ -18,7 +18,7 @@ use Rattle.serial_core.specs.declared.reader.Reader.{Reader}
 use Rattle.serial_core.specs.declared.reader.Reader.TheVariants as reader
 use Rattle.serial_core.specs.Command.{Origin, files, numbers, given_by, names_of}
 
--- it reads this origin, this was taken of its inputs, and these events were put out
+-- it reads this origin, this was taken of its inputs, and these events were pushed
 abbrev pub ReaderRepresents : Origin → List Take → List Event → Reader → Type 0
 ReaderRepresents (files opts names) given read (reader.Files all) = file.Represents opts names given all × (read ≡ events_taken opts given)
 ReaderRepresents (files opts names) given read (reader.Numbers all) = ⊥
@@ -35,7 +35,7 @@ pub record Counts (turn : ReadTurn) (spec : SeqSpec) (given : ℕ) (after : SeqS
   pub last : turn ≡ Ended → seq_events spec 0 given ++ put ≡ seq_all spec
   pub answers : (turn ≡ Went) ⊎ ((turn ≡ Ended) ⊎ (turn ≡ NoMemory))
 
--- what a turn's answer says of what was taken, and of the events put out: whether they are all, and which
+-- what the result of a turn says of what was taken, and of the pushed events: whether they are all, and which
 abbrev pub ReadSays : ReadTurn → Origin → List Take → List Event → List Event → Type 0
 ReadSays Went origin given read rest = (is_open read ≡ true) × (total given < 2 ^ 60) × ((rest ≡ []) ⊎ (given ≡ []))
 ReadSays Ended origin given read rest = (is_open read ≡ false) × (rest ≡ [])
@@ -56,7 +56,7 @@ abbrev pub CameOn : Origin → List Take → List Take → List Event → Type 0
 CameOn (files opts names) given given' put = total given + ends given < total given' + ends given'
 CameOn (numbers spec) given given' put = put ≡ [] → ⊥
 
--- What a turn did: more was taken, and but for want of memory the next events were put out.
+-- What a turn did: more was taken, and unless memory ran out the next events were pushed.
 pub record Read (turn : ReadTurn) (origin : Origin) (before : Option (List Take)) (given : List Take) (read : List Event) (after : Reader) (contents : Option Contents) (taken' : Option (List Take)) (name' : Option InputName) (out out' : List Event) : Type 0 where
   pub given' : List Take
   pub took : TookMore origin before given given' contents taken' name'

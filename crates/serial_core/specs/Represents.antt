@@ -26,8 +26,8 @@ use Rattle.serial_core.specs.Answer.{has_failed}
 use Rattle.serial_core.specs.Command.{Command, given_by, names_of, result}
 use Rattle.serial_core.specs.Reading.{CameOn, ReaderRepresents, TookMore}
 
--- It runs this command; this was taken of the inputs, these events were read, and the text of these was written of what the
--- verbs made of them. The others are at hand.
+-- It runs this command; this was taken of the inputs, these events were read, and the text of these was
+-- written of what the verbs made of them. The others are pending.
 pub record SerialRepresents {S : Type 0} (verb : S → Verb) (represents : S → List Event → Type 0) (command : Command) (given : List Take) (read shown : List Event) (serial : Serial S) : Type 0 where
   pub reader : ReaderRepresents command.origin given read serial.reader
   pub clear : is_open read ≡ true
@@ -36,16 +36,16 @@ pub record SerialRepresents {S : Type 0} (verb : S → Verb) (represents : S →
   pub outlet : outlet.Represents command.write shown serial.outlet
   pub at_hand : chain command.verbs read ≡ shown ++ serial.events
 
--- it begins: nothing was taken, and what the verbs have made of nothing is at hand
+-- it begins: nothing was taken, and what the verbs have made of nothing is pending
 abbrev pub Begins : {S : Type 0} → (S → Verb) → (S → List Event → Type 0) → Command → Serial S → Type 0
 Begins verb represents command serial = SerialRepresents verb represents command [] [] [] serial
 
--- the same with nothing at hand
+-- the same with nothing pending
 pub record Settled {S : Type 0} (verb : S → Verb) (represents : S → List Event → Type 0) (command : Command) (given : List Take) (read : List Event) (serial : Serial S) : Type 0 where
   pub all : SerialRepresents verb represents command given read (chain command.verbs read) serial
   pub nothing : serial.events ≡ []
 
--- what an answer says of what was taken
+-- what an outcome says of what was taken
 abbrev pub Says : Ended → Command → List Take → Type 0
 Says answer.Done command given = list_any is_end (result command given) ≡ true
 Says (answer.Refused refusal) command given = ⊥
@@ -55,7 +55,7 @@ Says (answer.Written target) command given = target ≡ Stdout
 Says answer.TooLong command given = (is_open (result command given) ≡ true) × (total given ≡ 2 ^ 60)
 Says answer.NoMemory command given = Unit {0}
 
--- what an answer leaves of a text in standard output
+-- what an outcome leaves of a text in standard output
 abbrev pub Leaves : Ended → List ℕ → Option (List ℕ) → Option (List ℕ) → Type 0
 Leaves answer.Done text before now = now ≡ with_bytes text before
 Leaves (answer.Refused refusal) text before now = now ≡ before
@@ -69,7 +69,7 @@ Leaves answer.NoMemory text before now = outlet.AppendsPrefix text before now
 abbrev pub MayGoOn : Command → List Take → Type 0
 MayGoOn command given = (given ≡ []) ⊎ (is_open (result command given) ≡ true)
 
--- A turn after which the run goes on: all text that what was taken fixes was written.
+-- A turn after which the run continues: all text that is fixed by what was taken was written.
 pub record WentOn {S : Type 0} (verb : S → Verb) (represents : S → List Event → Type 0) (command : Command) (given given' : List Take) (read shown : List Event) (after : Serial S) (held held' : Option Held) : Type 0 where
   pub put : List Event
   pub rest : List Event
@@ -83,7 +83,7 @@ pub record WentOn {S : Type 0} (verb : S → Verb) (represents : S → List Even
   pub text : out_of command.write (chain command.verbs (read ++ put)) ≡ out_of command.write shown ++ more
   pub leaves : ChangesAt Stdout (λ before now. now ≡ with_bytes more before) held held'
 
--- A turn after which it is over, with this answer.
+-- A turn after which it is over, with this outcome.
 pub record CameOver (ended : Ended) (command : Command) (given given' : List Take) (shown : List Event) (held held' : Option Held) : Type 0 where
   pub says : Says ended command given'
   pub more : List ℕ
@@ -101,7 +101,7 @@ pub record Ran {S : Type 0} (turn : SerialTurn) (verb : S → Verb) (represents 
   pub took : TookMore command.origin before given given' contents taken' name'
   pub outcome : Outcome turn verb represents command given given' read shown after held held'
 
--- what an answer says of the counts of the inputs
+-- what an outcome says of the counts of the inputs
 abbrev pub InputCause : Ended → (InputName → ℕ) → (InputName → ℕ) → Type 0
 InputCause answer.Done before now = (name : InputName) → now name ≡ before name
 InputCause (answer.Refused refusal) before now = (name : InputName) → now name ≡ before name
@@ -138,14 +138,14 @@ abbrev pub write_failed : Option Ended → Bool
 write_failed None = false
 write_failed (Some ended) = has_failed ended
 
--- The text of events behind others was written.
+-- The text of events after others was written.
 pub record Wrote (ended : Option Ended) (opts : WriteOpts) (shown events : List Event) (held held' : Option Held) : Type 0 where
   pub says : WriteSays ended (shown ++ events)
   pub more : List ℕ
   pub text : out_of opts (shown ++ events) ≡ out_of opts shown ++ more
   pub leaves : ChangesAt Stdout (WriteLeaves ended more) held held'
 
--- the answer behind a read, where no end and no fault came
+-- the result after a read, where no end and no fault came
 abbrev pub following : ReadTurn → SerialTurn
 following turn.Went = Went
 following turn.Ended = Over answer.Done
@@ -153,20 +153,20 @@ following (turn.Failed name) = Over (answer.Read name)
 following turn.TooLong = Over answer.TooLong
 following turn.NoMemory = Over answer.NoMemory
 
--- Events can go through the verbs behind others whose text was written.
+-- Events can pass through the verbs after others whose text was written.
 pub record CanPass {S : Type 0} (verb : S → Verb) (represents : S → List Event → Type 0) (opts : WriteOpts) (read : List Event) (serial : Serial S) : Type 0 where
   pub stages : chain.Represents verb represents read serial.stages
   pub outlet : outlet.Represents opts (chain (chain.verbs_in verb serial.stages) read) serial.outlet
   pub list : is_list (read ++ serial.events) ≡ true
 
--- The verbs are behind events, and all that they make of them was written.
+-- The verbs have taken events, and all that they make of them was written.
 pub record RepresentsAfter {S : Type 0} (verb : S → Verb) (represents : S → List Event → Type 0) (opts : WriteOpts) (verbs : List Verb) (events : List Event) (serial : Serial S) : Type 0 where
   pub verbs_are : chain.verbs_in verb serial.stages ≡ verbs
   pub stages : chain.Represents verb represents events serial.stages
   pub outlet : outlet.Represents opts (chain verbs events) serial.outlet
   pub at_hand : serial.events ≡ []
 
--- Events went through the verbs behind others, and the text of what they make was written.
+-- Events passed through the verbs after others, and the text of what they make was written.
 pub record Passed {S : Type 0} (ended : Option Ended) (verb : S → Verb) (represents : S → List Event → Type 0) (opts : WriteOpts) (verbs : List Verb) (read put : List Event) (after : Serial S) (held held' : Option Held) : Type 0 where
   pub says : WriteSays ended (chain verbs (read ++ put))
   pub more : List ℕ

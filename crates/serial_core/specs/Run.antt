@@ -1,4 +1,4 @@
--- What a run does, from its first turn to its answer.
+-- What a run does, from its first turn to its outcome.
 use Rattle.std.specs.Prelude.{◌≡◌, ℕ, ◌+◌, ◌<◌, ◌≤◌, ◌^◌, false, List, [], Option, Some, IfSome}
 use Rattle.mlr_event.specs.declared.names.InputName.{InputName}
 use Rattle.mlr_event.specs.declared.names.Target.TheVariants.{Stdout}
@@ -17,7 +17,7 @@ pub record StopsEarly (command : Command) (told : Contents) (given : List Take) 
   pub at_once : is_open (result command []) ≡ false → given ≡ []
   pub soon : (n : ℕ) → is_open (result command (taken_by told (names_of command.origin) n)) ≡ false → total given < n + 65536
 
--- A run: what was taken, what the answer says of that, and what standard output is left with.
+-- A run: what was taken, what the outcome says of that, and what standard output is left with.
 pub record Run (ended : Ended) (command : Command) (contents : Option Contents) (taken taken' : Option (List Take)) (name' : Option InputName) (held held' : Option Held) : Type 0 where
   pub given : List Take
   pub order : InOrder (names_of command.origin) given
@@ -27,7 +27,7 @@ pub record Run (ended : Ended) (command : Command) (contents : Option Contents) 
   pub leaves : ChangesAt Stdout (Leaves ended (text command given)) held held'
   pub early : IfSome contents (λ told. IfSome taken (λ _. StopsEarly command told given))
 
--- where contents and takes are told: all inputs hold something, and fewer than 2^60 bytes together
+-- where contents and takes are known: all inputs hold something, and fewer than 2^60 bytes together
 pub record HoldsAll (command : Command) (contents : Option Contents) (taken : Option (List Take)) : Type 0 where
   pub told : Contents
   pub contents_told : contents ≡ Some told
@@ -37,7 +37,7 @@ pub record HoldsAll (command : Command) (contents : Option Contents) (taken : Op
   pub wholes : AreWhole told (names_of command.origin) whole
   pub few : total whole < 2 ^ 60
 
--- the answer is that of all that the inputs hold, and standard output has its text; or there was no memory
+-- the outcome is that of all that the inputs hold, and standard output has its text; or memory ran out
 abbrev pub Completes : Ended → Command → List Take → Option Held → Option Held → Type 0
 Completes answer.Done command whole held held' = Says answer.Done command whole × ChangesAt Stdout (Leaves answer.Done (text command whole)) held held'
 Completes (answer.Refused refusal) command whole held held' = ⊥

@@ -1,3 +1,4 @@
+//! The ways in which a run ends, and their statuses.
 ghost use Rattle.std.specs.Prelude.{◌≡◌};
 ghost use Rattle.serial_core.specs.Answer.{status_of};
 
@@ -32,7 +33,7 @@ pub struct Refusal {
 /// What is wrong with a word.
 #[derive(Clone, Copy, Debug, PartialEq, Eq)]
 pub enum Why {
-    /// No command that is built goes on with it.
+    /// No command line that is built continues with it.
     NotBuilt,
 }
 

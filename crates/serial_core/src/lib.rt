@@ -1,4 +1,4 @@
-//! A run of a command, one thing after the other: what its reader puts out goes through its verbs to its outlet.
+//! A run of a command: what its reader pushes passes through its verbs to its outlet.
 #![tactic(auto)]
 
 mod answer;

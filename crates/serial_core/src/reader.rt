@@ -1,3 +1,4 @@
+//! The source of a run: its inputs, or the numbers of `seqgen`.
 ghost use Rattle.std.specs.Prelude.{◌≡◌, ℕ, List, Option};
 ghost use Rattle.mlr_event.specs.declared.event.Event.{Event as SpecEvent};
 ghost use Rattle.mlr_world.specs.Taken.{Take};
@@ -27,7 +28,8 @@ pub enum Reader {
 }
 
 impl Reader {
-    /// Makes one read of fewer than 65,536 bytes, or takes the next numbers, and puts behind `out` what that fixes.
+    /// Makes one read of fewer than 65,536 bytes, or takes the next numbers, and pushes the events that it
+    /// fixes.
     pub fn turn<I: Inputs>(&mut self, inputs: &mut I, out: &mut Events) -> ReadTurn
         requires { (origin : Origin) × (before : Option (List Take)) × (given : List Take)
             × (read : List SpecEvent) × ReaderRepresents origin given read self.old
@@ -51,7 +53,7 @@ impl Reader {
     }
 }
 
-/// Puts the next numbers behind `out`, and the end behind the last.
+/// Pushes the next numbers, and the end after the last.
 fn next_numbers(numbers: &mut SeqSource, out: &mut Events) -> ReadTurn
     requires { (seq : SeqSpec) × (given : ℕ) × IsSoundSeq seq × RepresentsAt seq given numbers.old }
     ensures { (seq : SeqSpec) (given : ℕ) → IsSoundSeq seq → RepresentsAt seq given numbers.old

@@ -1,3 +1,4 @@
+//! A run from turn to turn.
 ghost use Rattle.std.specs.Prelude.{◌≡◌, ◌≤◌, ◌++◌, List, [], Option, None, true};
 ghost use Rattle.mlr_event.specs.declared.event.Event.{Event as SpecEvent};
 ghost use Rattle.mlr_event.specs.declared.names.InputName.{InputName};
@@ -24,16 +25,16 @@ use mlr_world::{Inputs, Outputs};
 use outlet::{Let, Outlet, outlet_laws};
 use read_files::{ReadTurn, source_laws};
 
-/// What a turn of a run answers.
+/// The result of a turn of a run.
 #[derive(Debug, PartialEq, Eq, Drop)]
 pub enum SerialTurn {
-    /// The run goes on.
+    /// The run continues.
     Went,
     /// The run is over.
     Over(Ended),
 }
 
-/// A run that goes from turn to turn. It stands for what was taken of the inputs.
+/// A run that proceeds from turn to turn. It represents what was taken of the inputs.
 pub struct Serial<S> {
     reader: Reader,
     stages: Chain<S>,
@@ -105,7 +106,7 @@ impl<S: Step + Drop> Serial<S> {
         }
     }
 
-    /// Goes on from turn to turn until the run is over.
+    /// Takes turns until the run is over.
     pub fn run<I: Inputs, O: Outputs>(&mut self, inputs: &mut I, outputs: &mut O) -> Ended
         requires { (command : Command) × Begins S.verb S.represents command self.old }
         ensures run { (command : Command) → Begins S.verb S.represents command self.old
@@ -116,7 +117,7 @@ impl<S: Step + Drop> Serial<S> {
         ensures counts { Counted (has_failed result) (O.faults outputs.old) (O.faults outputs.new)
             Stdout }
         ensures shortages { O.shortages outputs.old ≤ O.shortages outputs.new }
-        // Where no call fails, the answer is that of all that the inputs hold.
+        // Where no call fails, the outcome is that of all that the inputs hold.
         ensures completes { (command : Command) → Begins S.verb S.represents command self.old
             → (holds : HoldsAll command (I.contents inputs.old) (I.taken inputs.old))
             → ((name : InputName) → ¬ Rose (I.faults inputs.old name) (I.faults inputs.new name))
@@ -134,7 +135,7 @@ impl<S: Step + Drop> Serial<S> {
         }
     }
 
-    /// Makes a read, and writes all text that is fixed then. Nothing is at hand.
+    /// Makes a read, and writes the text that it fixes. All events of earlier reads have been written.
     fn read<I: Inputs, O: Outputs>(&mut self, inputs: &mut I, outputs: &mut O) -> SerialTurn
         requires { (command : Command) × (before : Option (List Take)) × (given : List Take)
             × (read : List SpecEvent) × Settled S.verb S.represents command given read self.old
@@ -187,7 +188,7 @@ impl<S: Step + Drop> Serial<S> {
         }
     }
 
-    /// Writes what is at hand, and says how the run ended, if it did.
+    /// Writes what the pending events become, and says how the run ended, if it did.
     fn write<O: Outputs>(&mut self, outputs: &mut O) -> Option<Ended>
         requires { (opts : Options) × (shown : List SpecEvent)
             × Represents opts shown self.old.outlet × (is_list (shown ++ self.old.events) ≡ true) }
@@ -214,7 +215,7 @@ impl<S: Step + Drop> Serial<S> {
     }
 }
 
-/// The answer behind a read, where what was written has no end and no fault.
+/// The result after a read, where what was written has no end and no fault.
 fn following(read: ReadTurn) -> SerialTurn
     ensures { result ≡ following read }
 {
