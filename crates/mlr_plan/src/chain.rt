@@ -22,8 +22,8 @@ pub fn chain_of(
     requires empty { made.old ≡ [] }
     ensures verbs { IfOk result (λ stages. verbs_in ⟦<Verb as Step>⟧.verb stages
         ≡ verbs_of verbs.now) }
-    ensures represents { IfOk result (λ stages. Represents ⟦<Verb as Step>⟧.verb ⟦<Verb as Step>⟧.represents []
-        stages) }
+    ensures represents { IfOk result (λ stages.
+        Represents ⟦<Verb as Step>⟧.verb ⟦<Verb as Step>⟧.represents [] stages) }
     ensures made { IfOk result (λ _. made.new ≡ chain (verbs_of verbs.now) []) }
 {
     let mut stages = Chain::new(alloc);
@@ -57,8 +57,8 @@ fn push_verb(
     requires made { made.old ≡ chain (verbs_in ⟦<Verb as Step>⟧.verb stages.old) [] }
     ensures verbs { OnOk result (verbs_in ⟦<Verb as Step>⟧.verb stages.new
         ≡ verbs_in ⟦<Verb as Step>⟧.verb stages.old ++ verbs_of (spec.now ∷ [])) }
-    ensures represents { OnOk result (Represents ⟦<Verb as Step>⟧.verb ⟦<Verb as Step>⟧.represents []
-        stages.new) }
+    ensures represents { OnOk result
+        (Represents ⟦<Verb as Step>⟧.verb ⟦<Verb as Step>⟧.represents [] stages.new) }
     ensures made { OnOk result (made.new ≡ chain (verbs_in ⟦<Verb as Step>⟧.verb stages.new) []) }
 {
     let mut first = Events::new(alloc);
