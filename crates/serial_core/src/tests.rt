@@ -77,7 +77,7 @@ fn run_of<S: Step + Drop>(
 const NAMES: [&str; 2] = ["f", "g"];
 
 /// The inputs that hold something, in the order of their names.
-fn held(alloc: Global, texts: &[&str]) -> Result<Vec<(InputName, Bytes)>, NoMemory> {
+fn contents_of(alloc: Global, texts: &[&str]) -> Result<Vec<(InputName, Bytes)>, NoMemory> {
     let mut contents = Vec::new(alloc);
     for (name, text) in NAMES.iter().zip(texts.iter()) {
         let name = InputName::File(Bytes::copy_of(alloc, name.as_bytes())?);
@@ -132,7 +132,7 @@ fn run_files<S: Step + Drop>(
         names.push(InputName::File(Bytes::copy_of(alloc, name.as_bytes())?))?;
     }
     let reader = Reader::Files(FileReader::new(alloc, opts, names)?);
-    let contents = held(alloc, case.texts)?;
+    let contents = contents_of(alloc, case.texts)?;
     let pieces = Vec::from_slice(alloc, case.pieces)?;
     let failing = Vec::from_slice(alloc, case.unread)?;
     let mut inputs = MemInputs::new(alloc, contents, pieces, failing)?;

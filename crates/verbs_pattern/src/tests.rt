@@ -75,7 +75,12 @@ fn rename_of(alloc: Global, which: Which, pairs: Pairs) -> Result<RenamePatterns
 }
 
 /// The fields whose names match one of these patterns, or the others.
-fn kept(alloc: Global, texts: &[&[u8]], others: bool, record: Record) -> Result<Record, Fail> {
+fn fields_kept(
+    alloc: Global,
+    texts: &[&[u8]],
+    others: bool,
+    record: Record,
+) -> Result<Record, Fail> {
     let mut patterns = Patterns::new(alloc);
     for text in texts {
         patterns.push(pattern_of(alloc, text)?)?;
@@ -133,8 +138,8 @@ fn changed(alloc: Global, change: &Change, record: Record) -> Result<Record, Fai
             Ok(rename.take(alloc, record)?)
         }
         Change::RenameAll(pairs) => Ok(rename_of(alloc, Which::All, pairs)?.take(alloc, record)?),
-        Change::Keep(texts) => kept(alloc, texts, false, record),
-        Change::Drop(texts) => kept(alloc, texts, true, record),
+        Change::Keep(texts) => fields_kept(alloc, texts, false, record),
+        Change::Drop(texts) => fields_kept(alloc, texts, true, record),
     }
 }
 
