@@ -1,4 +1,4 @@
--- The longest front of a text that ends with a line end.
+-- The longest prefix of a text that ends with LF.
 use Rattle.std.specs.Prelude.{ℕ, ◌==◌, Bool, if◌then◌else◌, List, [], ◌∷◌}
 use Rattle.std.specs.List.{list_any}
 use Rattle.mlr_spec.specs.Ascii.{line_feed}
