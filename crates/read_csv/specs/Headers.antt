@@ -1,4 +1,4 @@
--- A row of values as a header, and under one.
+-- The values of a row as header, and the values of a row under a header.
 use Rattle.std.specs.Prelude.{ℕ, if◌then◌else◌, Bool, ◌||◌, ◌==◌, List, [], ◌∷◌, map, length, Option, Some, None}
 use Rattle.mlr_spec.specs.Tree.{Tree, string, int, fraction, wide}
 use Rattle.mlr_event.specs.declared.fault.Fault.TheVariants.{Length}
@@ -7,7 +7,7 @@ use Rattle.mlr_event.specs.declared.options.ReadOpts.{ReadOpts}
 use Rattle.mlr_event.specs.Reading.{Item, fields, fault, record_of}
 use Rattle.read_csv.specs.Rows.{positions_from, row_keys}
 
--- the text that a value from data was made of
+-- the text from which a value was read
 abbrev pub source_of : Tree → List ℕ
 source_of (string text) = text
 source_of (int n spelling) = spelling
