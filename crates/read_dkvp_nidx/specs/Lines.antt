@@ -1,4 +1,4 @@
--- What a file gives in DKVP, NIDX and Markdown: from its whole lines, and from those that have ended.
+-- The events of a whole file of DKVP, NIDX or Markdown, and those of its ended lines.
 use Rattle.std.specs.Prelude.{ℕ, List, []}
 use Rattle.std.specs.List.{flat_map}
 use Rattle.mlr_lines.specs.Lines.{fixed_lines, whole_lines}
@@ -13,7 +13,7 @@ use Rattle.read_dkvp_nidx.specs.Dkvp.{dkvp_line}
 use Rattle.read_dkvp_nidx.specs.Nidx.{nidx_line}
 use Rattle.read_dkvp_nidx.specs.Markdown.{markdown_lines, outside}
 
--- the items of lines without their ends
+-- the items of lines without their line endings
 abbrev pub items_of_lines : ReadOpts → FileRef → Format → List (List ℕ) → List Item
 items_of_lines opts file format.Dkvp lines = flat_map (dkvp_line opts) lines
 items_of_lines opts file format.Nidx lines = flat_map (nidx_line opts) lines

@@ -1,4 +1,4 @@
--- NIDX: a line is a record of values, whose keys are their positions.
+-- NIDX: a line is a record of values, and the key of a value is its position.
 use Rattle.std.specs.Prelude.{ℕ, ◌+◌, if◌then◌else◌, not, ◌==◌, List, [], ◌∷◌, length}
 use Rattle.std.specs.List.{filter}
 use Rattle.std.specs.Fmt.{decimal}
@@ -8,7 +8,7 @@ use Rattle.mlr_spec.specs.Tree.{Tree}
 use Rattle.mlr_event.specs.declared.options.ReadOpts.{ReadOpts}
 use Rattle.mlr_event.specs.Reading.{Item, fields, is_comment, comment_items}
 
--- the texts between runs of separators; runs at the ends of the line are ignored
+-- the texts between runs of separators; separators at the start and the end of the line are ignored
 abbrev pub words_of : List ℕ → List ℕ → List (List ℕ)
 words_of ifs line = filter (λ part. not (length part == 0)) (split_by ifs line)
 
