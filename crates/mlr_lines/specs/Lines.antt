@@ -17,6 +17,7 @@ abbrev pub begun_after : List ℕ → List ℕ → List ℕ
 begun_after begun [] = begun
 begun_after begun (b ∷ bytes) = if b == line_feed then begun_after [] bytes else begun_after (begun ++ b ∷ []) bytes
 
+-- the ended lines of the bytes so far, each without its LF, and the line that has begun after them
 abbrev pub ended_lines : List ℕ → List (List ℕ)
 ended_lines bytes = ended_after [] (without_mark bytes)
 
@@ -36,6 +37,6 @@ abbrev pub last_line : List ℕ → List (List ℕ)
 last_line [] = []
 last_line (b ∷ line) = (b ∷ line) ∷ []
 
--- the lines of a whole file; the last line needs no LF, and keeps its CR if it has none
+-- the lines of a whole file; a last line without LF keeps the CR at its end
 abbrev pub whole_lines : List ℕ → List (List ℕ)
 whole_lines bytes = fixed_lines bytes ++ last_line (begun_line bytes)

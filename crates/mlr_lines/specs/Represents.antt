@@ -8,7 +8,7 @@ use Rattle.mlr_lines.specs.Lines.{ended_lines, begun_line, ended_after, begun_af
 use Rattle.mlr_lines.specs.Steps.{are_none, unmarked_lines}
 
 module _ {F : Type 0} where
-  -- more bytes may come, or the end
+  -- more bytes may follow, or the end of the file
   abbrev pub IsOpen : Lines F → Type 0
   IsOpen lines = lines.stage ≡ Open
 

@@ -1,4 +1,4 @@
-//! What a format of lines has to define.
+//! What a line format has to define.
 ghost use Rattle.std.specs.Prelude.{◌≡◌, ◌+◌, ◌^◌, ◌<◌, ◌≤◌, ℕ, List, ◌++◌, length, OnOk};
 ghost use Rattle.mlr_event.specs.declared.event.Event.{Event};
 

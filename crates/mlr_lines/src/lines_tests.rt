@@ -1,4 +1,4 @@
-//! Lines fed whole and cut at each byte, by a format that gives each line back.
+//! Files read whole and cut at each byte, by a format that gives each line as a text.
 
 ghost use Rattle.std.specs.Prelude.{◌≡◌, ◌∷◌, [], IfOk};
 ghost use Rattle.mlr_event.specs.declared.event.Event.TheVariants as event;

@@ -51,6 +51,7 @@ first_quoted separator found = option_map (λ q. record {
   following = after_next separator q.following;
 }) found
 
+-- a field is quoted if it begins with a quote
 abbrev pub first_field : List ℕ → List ℕ → Option First
 first_field separator [] = first_plain separator []
 first_field separator (b ∷ text) = if b == quote_mark then first_quoted separator (quoted_at text) else first_plain separator (b ∷ text)
@@ -66,6 +67,7 @@ fields_from (suc n) separator text = elim (first_field separator text) [
   ]
 ]
 
+-- the fields of a row; None if a quote isn't closed
 abbrev pub csv_fields : List ℕ → List ℕ → Option (List Field)
 csv_fields separator text = fields_from (length text + 1) separator text
 

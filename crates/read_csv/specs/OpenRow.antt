@@ -44,6 +44,7 @@ reading_from (suc n) separator text = elim (first_field separator text) [
   ]
 ]
 
+-- the reading of one line of a row, by the format
 abbrev pub csv_reading : List ℕ → List ℕ → Reading
 csv_reading separator text = reading_from (length text + 1) separator text
 

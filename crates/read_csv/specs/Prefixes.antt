@@ -28,5 +28,6 @@ abbrev pub closed_within : ReadOpts → List ℕ → ℕ → List ℕ
 closed_within opts bytes zero = []
 closed_within opts bytes (suc n) = if is_closed opts (take (suc n) bytes) then take (suc n) bytes else closed_within opts bytes n
 
+-- the longest prefix that ends with the end of a row, or no bytes
 abbrev pub closed_prefix : ReadOpts → List ℕ → List ℕ
 closed_prefix opts bytes = closed_within opts bytes (length bytes)

@@ -29,7 +29,7 @@ pub record Begins (rules : RowRules) (opts : ReadOpts) (file : FileRef) (start :
   pub at_is : rules.at ≡ start
   pub goes_on : rules.stopped ≡ false
 
--- more bytes may come, or the end
+-- more bytes may follow, or the end of the file
 abbrev pub IsOpen : CsvReader → Type 0
 IsOpen reader = lines.IsOpen reader.lines
 

@@ -41,6 +41,7 @@ first_header opts row = if opts.implicit then positions_from 1 (length row) else
 abbrev pub first_items : ReadOpts → FileRef → ℕ → List Field → List Item
 first_items opts file line row = if opts.implicit then row_items opts file line (first_header opts row) row else []
 
+-- the items of an ended row, and the header after it
 abbrev pub closed_items : ReadOpts → FileRef → ℕ → Option (List (List ℕ)) → List Field → List Item
 closed_items opts file line None row = first_items opts file line row
 closed_items opts file line (Some header) row = row_items opts file line header row

@@ -23,6 +23,7 @@ begins_now rules = if is_some rules.row.quotes then rules.begins else rules.numb
 abbrev pub row_gives : RowRules → RowState → List Item
 row_gives rules row = if is_some row.quotes then [] else closed_values rules.opts rules.file (begins_now rules) rules.header row.values
 
+-- the header and the open row after one more line of a row
 abbrev pub header_after_row : RowRules → RowState → Option (List (List ℕ))
 header_after_row rules row = if is_some row.quotes then rules.header else values_header rules.opts rules.header row.values
 
@@ -78,5 +79,6 @@ after_last rules line =
 abbrev pub gives_last : RowRules → List ℕ → List Event
 gives_last rules line = if rules.stopped then [] else events_of rules.at (last_items rules line)
 
+-- the largest of the counters
 abbrev pub count_of : RowRules → ℕ
 count_of rules = max rules.number (max rules.at.nr rules.at.fnr)

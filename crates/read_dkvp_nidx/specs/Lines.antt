@@ -20,6 +20,7 @@ items_of_lines opts file format.Nidx lines = flat_map (nidx_line opts) lines
 items_of_lines opts file format.Markdown lines = markdown_lines opts file 1 outside lines
 items_of_lines opts file _ lines = []
 
+-- the events of a whole file, and those that the first bytes of a file fix
 abbrev pub line_read : ReadOpts → FileRef → Ctx → List ℕ → List Event
 line_read opts file start bytes = events_of start (items_of_lines opts file opts.format (whole_lines bytes))
 

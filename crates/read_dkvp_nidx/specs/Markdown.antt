@@ -26,6 +26,7 @@ unescaped [] = []
 unescaped (b ∷ []) = b ∷ []
 unescaped (b ∷ c ∷ text) = if b == backslash && c == vertical_bar then unescaped (c ∷ text) else b ∷ unescaped (c ∷ text)
 
+-- the cell of a part between two bars
 abbrev pub cell_of : List ℕ → List ℕ
 cell_of part = unescaped (trimmed part)
 
@@ -63,7 +64,7 @@ pub data Block : Type 0 where
   under : List (List ℕ) → Block
   within : List (List ℕ) → Block
 
--- the record of a line of cells, which has as many cells as the header
+-- the record of a row under a header, or a fault if the lengths differ
 abbrev pub row : ReadOpts → FileRef → ℕ → List (List ℕ) → List (List ℕ) → List Item
 row opts file n header cells =
     if length cells == length header then fields (record_of opts.dedupe header (map (tree_of_data opts.infer) cells)) ∷ []

@@ -18,7 +18,7 @@ ctx_fed opts file start bytes = ctx_after start (items_of_lines opts file opts.f
 abbrev pub ctx_read : ReadOpts → FileRef → Ctx → List ℕ → Ctx
 ctx_read opts file start bytes = ctx_after start (items_of_lines opts file opts.format (whole_lines bytes))
 
--- more bytes may come, or the end
+-- more bytes may follow, or the end of the file
 abbrev pub IsOpen : LineReader → Type 0
 IsOpen reader = lines.IsOpen reader.lines
 

@@ -84,6 +84,7 @@ abbrev pub gives_last : LineRules → List ℕ → List Event
 gives_last rules [] = []
 gives_last rules (b ∷ line) = line_events rules (b ∷ line)
 
+-- the largest of the counters
 abbrev pub count_of : LineRules → ℕ
 count_of rules = max rules.number (max rules.at.nr rules.at.fnr)
 

@@ -52,7 +52,7 @@ flow-append frames at (x ∷ xs) ys =
     by (whole value) later = later [] phase.Value
     by wrong later = refl
 
--- it goes as a run goes, except for the tokens that follow a complete value
+-- the steps are those of a run, except for the tokens that follow a complete value
 abbrev Goes : Step → Step → Type 0
 Goes (on frames at) flowed = flowed ≡ on frames at
 Goes (whole value) flowed = flowed ≡ on [] phase.Value

@@ -1,4 +1,4 @@
--- The machine goes the same way within a bracket when more brackets are open around it.
+-- Within a bracket, the machine takes the same steps when more brackets are open around it.
 use Rattle.std.proofs.Common.{◌≡◌, ℕ, List, [], ◌∷◌, ◌++◌, refl}
 use Rattle.mlr_spec.specs.declared.json.JsonMark.TheVariants.{BeginMap, EndMap, BeginArray, EndArray, Colon, Comma}
 use Rattle.mlr_spec.specs.Tree.{Tree, map_of, array_of}

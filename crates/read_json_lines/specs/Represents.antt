@@ -24,7 +24,7 @@ is_json _ = false
 abbrev pub is_usable : ReadOpts → Bool
 is_usable opts = is_json opts.format
 
--- more bytes may come, or the end
+-- more bytes may follow, or the end of the file
 abbrev pub IsOpen : JsonReader → Type 0
 IsOpen reader = reader.stage ≡ Open
 

@@ -1,4 +1,4 @@
-//! States what the bytes so far fix, and that the records are those of the JSON grammar.
+//! The laws of the events that the first bytes of a file fix, and of the JSON grammar.
 ghost use Rattle.std.specs.Prelude.{◌≡◌, ℕ, List, ◌++◌};
 ghost use Rattle.mlr_event.specs.declared.event.Ctx.{Ctx};
 ghost use Rattle.mlr_event.specs.declared.event.Event.{Event};
@@ -10,8 +10,8 @@ ghost use Rattle.read_json_lines.specs.Files.{json_fed, json_read};
 ghost use Rattle.read_json_lines.specs.Grammar.{HasItems};
 ghost use Rattle.read_json_lines.specs.Records.{Ending, items_of, start_state};
 
-/// What the first bytes of a file fix stays the same whatever bytes follow, and the events of every longer
-/// file begin with it. It does nothing.
+/// The events that the first bytes of a file fix stay the same whatever bytes follow, and the events of every
+/// longer file begin with them. It does nothing.
 pub fn prefix_laws()
     ensures fed { (opts : ReadOpts) (file : FileRef) (start : Ctx) (bytes rest : List ℕ)
         → (more : List Event)

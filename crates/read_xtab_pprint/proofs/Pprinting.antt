@@ -1,4 +1,4 @@
--- PPRINT: the events that are given line by line are those of the definition.
+-- PPRINT: reading line by line gives the events of the definition.
 use Rattle.std.proofs.Common.{◌≡◌, ℕ, ◌+◌, Bool, true, false, if◌then◌else◌, List, [], ◌∷◌, ◌++◌, None, refl, ap, ap₂, sym, ◌∙◌}
 use Rattle.std.proofs.lemmas.List.{append-nil}
 use Rattle.mlr_lines.specs.Lines.{last_line}

@@ -23,6 +23,7 @@ items_whole opts file format.Xtab lines = xtab_from opts [] [] lines ++ xtab_res
 items_whole opts file format.Pprint lines = pprint_lines opts file 1 None lines
 items_whole opts file _ lines = []
 
+-- the events of a whole file, and those that the first bytes of a file fix
 abbrev pub block_read : ReadOpts → FileRef → Ctx → List ℕ → List Event
 block_read opts file start bytes = events_of start (items_whole opts file opts.format (whole_lines bytes))
 

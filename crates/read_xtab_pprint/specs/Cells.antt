@@ -18,6 +18,7 @@ abbrev pub cells_left : Bool → List (List ℕ) → List (List ℕ)
 cells_left true words = second_words words
 cells_left false words = words
 
+-- the cells of a line
 abbrev pub cells_in : List ℕ → List (List ℕ)
 cells_in line = cells_left (is_barred line) (words_of line)
 

@@ -39,6 +39,7 @@ abbrev pub is_rule : List ℕ → Bool
 is_rule [] = false
 is_rule (b ∷ line) = b == plus_sign
 
+-- the record of a row under a header, or a fault if the lengths differ
 abbrev pub row : ReadOpts → FileRef → ℕ → List (List ℕ) → List (List ℕ) → List Item
 row opts file n header cells =
     if length cells == length header then fields (record_of opts.dedupe header (map (tree_of_data opts.infer) cells)) ∷ []
@@ -67,6 +68,7 @@ pprint_header opts header line =
     if is_comment opts.comments line || is_rule line then header else (
     if length line == 0 then None else header_after header (cells_of line))
 
+-- the items of lines, of which the first has number n
 abbrev pub pprint_lines : ReadOpts → FileRef → ℕ → Option (List (List ℕ)) → List (List ℕ) → List Item
 pprint_lines opts file n header [] = []
 pprint_lines opts file n header (line ∷ lines) =

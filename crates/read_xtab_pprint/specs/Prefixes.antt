@@ -25,5 +25,6 @@ gap_prefix_within zero comments bytes = []
 gap_prefix_within (suc n) comments bytes =
     if ends_with_gap comments (take (suc n) bytes) then take (suc n) bytes else gap_prefix_within n comments bytes
 
+-- the longest prefix that ends so, or no bytes
 abbrev pub gap_prefix : Comments → List ℕ → List ℕ
 gap_prefix comments bytes = gap_prefix_within (length bytes) comments bytes
