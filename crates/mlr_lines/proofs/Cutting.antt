@@ -1,4 +1,4 @@
--- Texts cut at line ends: what a text adds behind another, and where the byte order mark stands.
+-- Texts cut at line endings: the lines that a text adds to those before it, and the byte order mark.
 use Rattle.std.proofs.Common.{◌≡◌, ℕ, zero, suc, ◌+◌, ◌-◌, ◌<◌, Bool, true, false, cond, eqb, ◌&&◌, List, [], ◌∷◌, ◌++◌, length, take, drop, get_or, Some, None, refl, ap, ap₂, sym, ◌∙◌, append_assoc, arith, inl, inr, add-one, length-drop, length-take}
 use Rattle.std.proofs.Math.Seq.{take-length}
 use Rattle.std.specs.Str.{bytes_eq}
@@ -9,7 +9,7 @@ use Rattle.memchr.specs.Find.{IsFirstByte, is_byte}
 use Rattle.mlr_lines.specs.Lines.{without_mark, ended_after, begun_after, ended_lines, begun_line}
 use Rattle.mlr_lines.specs.Steps.{are_none, unmarked_line, unmarked_lines, EndsNoLine, EndsLine}
 
--- one byte that is no LF, and one that is
+-- a byte that isn't LF, and a byte that is LF
 ended-other : (begun : List ℕ) (b : ℕ) (text : List ℕ) → eqb b 10 ≡ false → ended_after begun (b ∷ text) ≡ ended_after (begun ++ b ∷ []) text
 ended-other begun b text other = rw other refl
 
@@ -48,7 +48,7 @@ begun-at (b ∷ text) zero below here before begun = begun-feed begun b text her
 begun-at (b ∷ text) (suc place) below here before begun =
     begun-other begun b text (before 0 (omega arith)) ∙ begun-at text place (omega arith) here (λ k less. before (suc k) (omega arith)) (begun ++ b ∷ [])
 
--- what follows a text goes on behind the line that it has begun
+-- a text and more: the second text continues the line that the first has begun
 pub ended-append : (begun text more : List ℕ) → ended_after begun (text ++ more) ≡ ended_after begun text ++ ended_after (begun_after begun text) more
 ended-append begun [] more = refl
 ended-append begun (b ∷ text) more =
@@ -65,7 +65,7 @@ begun-append begun (b ∷ text) more =
       | inr other ↦ rw other (begun-append (begun ++ b ∷ []) text more)
     ]
 
--- what a search for LF says
+-- the result of a search for LF says whether the text ends a line
 pub EndsNoLine-from : (text : List ℕ) → IsFirstByte (is_byte 10) text None → EndsNoLine text
 EndsNoLine-from text nowhere =
     let none : (k : ℕ) → k < length text → eqb (get_or text k 0) 10 ≡ false = λ k below. false_from_ne_true _ (nowhere k (omega arith) below) in
@@ -100,7 +100,7 @@ no_mark-prefix text more none =
       | inr other ↦ other
     ]
 
--- behind a mark
+-- a text after a byte order mark
 ended-marked : (begun text : List ℕ) → unmarked_lines true (ended_after (239 ∷ 187 ∷ 191 ∷ begun) text) ≡ ended_after begun text
 ended-marked begun [] = refl
 ended-marked begun (b ∷ text) =
@@ -117,7 +117,7 @@ begun-marked begun (b ∷ text) =
       | inr other ↦ rw other (begun-marked (begun ++ b ∷ []) text)
     ]
 
--- without a mark
+-- a text without a byte order mark
 ended-unmarked : (begun text : List ℕ) → has_mark (begun ++ text) ≡ false → unmarked_lines true (ended_after begun text) ≡ ended_after begun text
 ended-unmarked begun [] none = refl
 ended-unmarked begun (b ∷ text) none =
@@ -134,7 +134,7 @@ begun-unmarked begun (b ∷ text) none =
       | inr other ↦ rw other (begun-unmarked (begun ++ b ∷ []) text (ap has_mark (append_assoc begun (b ∷ []) text) ∙ none))
     ]
 
--- The mark is dropped from the first line of the file, whether that line has ended or not.
+-- The byte order mark is dropped from the first line of the file, whether that line has ended or not.
 pub ended_lines-is : (bytes : List ℕ) → ended_lines bytes ≡ unmarked_lines true (ended_after [] bytes)
 ended_lines-is bytes =
     elim (cases_Bool (has_mark bytes)) as (λ _. ended_lines bytes ≡ unmarked_lines true (ended_after [] bytes)) [
@@ -170,7 +170,7 @@ unmarked-append false [] more = refl
 unmarked-append true (line ∷ lines) more = ap (λ m. without_mark line ∷ (lines ++ m)) (sym (unmarked-later more))
 unmarked-append false (line ∷ lines) more = ap (λ m. line ∷ (lines ++ m)) (sym (unmarked-later more))
 
--- Ended lines of a text and more: those of the text, and those that the rest ends.
+-- The ended lines of a text and more are those of the text, then those that the second text ends.
 pub ended_lines-append : (bytes more : List ℕ) → ended_lines (bytes ++ more) ≡ ended_lines bytes ++ unmarked_lines (are_none (ended_lines bytes)) (ended_after (begun_after [] bytes) more)
 ended_lines-append bytes more =
     let raw = ended_after [] bytes in

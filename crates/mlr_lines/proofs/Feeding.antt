@@ -1,4 +1,4 @@
--- What a piece of a file adds to what the bytes before it came to.
+-- What a piece of a file adds to the lines, state and events of the bytes before it.
 use Rattle.std.proofs.Common.{◌≡◌, ℕ, ◌+◌, ◌≤◌, eqb, ◌&&◌, List, [], ◌∷◌, ◌++◌, length, take, refl, ap, ap₂, sym, ◌∙◌, append_assoc, arith, inl, inr, length-drop}
 use Rattle.std.specs.Str.{bytes_eq}
 use Rattle.std.proofs.lemmas.Bool.{cases_Bool}
@@ -41,11 +41,11 @@ module _ {F : Type 0} (after : F → List ℕ → F) (gives : F → List ℕ →
       takes.events ∙ ap₂ (λ f lines. before_it ++ given after gives f lines) represents.state more-is,
     )
 
--- what is left at the end of the file
+-- the buffer, without the byte order mark, is the rest of the file
 pub left-is : {F : Type 0} (after : F → List ℕ → F) (lines : Lines F) (format : F) (bytes : List ℕ) → Represents after lines format bytes → unmarked_line lines.first lines.begun.items ≡ begun_line bytes
 left-is after lines format bytes represents = ap₂ unmarked_line represents.first represents.begun ∙ sym (begun_line-is bytes)
 
--- As many lines as bytes have ended at most, and each counts one at most.
+-- A text ends at most one line for each byte, and each line raises the bound by at most one.
 length-ended : (begun text : List ℕ) → length (ended_after begun text) ≤ length text
 length-ended begun [] = omega arith
 length-ended begun (b ∷ text) =

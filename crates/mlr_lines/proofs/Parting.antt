@@ -1,4 +1,4 @@
--- Lines one by one are the parts between LFs.
+-- The lines, defined byte by byte, are the parts between LFs.
 use Rattle.std.proofs.Common.{◌≡◌, ℕ, Bool, true, false, cond, List, [], ◌∷◌, ◌++◌, refl, ap, sym, ◌∙◌, append_assoc, eqb, inl, inr}
 use Rattle.std.specs.List.{slice_split, onto_first}
 use Rattle.std.proofs.lemmas.List.{append-nil}
@@ -8,7 +8,7 @@ use Rattle.mlr_lines.specs.Lines.{ended_after, begun_after}
 abbrev is_end : ℕ → Bool
 is_end b = eqb b 10
 
--- parts behind a line that has begun
+-- the parts of a text, where `begun` precedes the first one
 abbrev format_after : List ℕ → List (List ℕ) → List (List ℕ)
 format_after begun [] = []
 format_after begun (part ∷ parts) = (begun ++ part) ∷ parts
@@ -17,7 +17,7 @@ format_after-none : (parts : List (List ℕ)) → format_after [] parts ≡ part
 format_after-none [] = refl
 format_after-none (part ∷ parts) = refl
 
--- there is a first part
+-- a byte added to the line that has begun, before at least one part
 format_after-onto : (begun : List ℕ) (b : ℕ) (text : List ℕ) → format_after (begun ++ b ∷ []) (slice_split is_end text) ≡ format_after begun (onto_first b (slice_split is_end text))
 format_after-onto begun b [] = ap (λ line. line ∷ []) (append_assoc begun (b ∷ []) [])
 format_after-onto begun b (c ∷ text) =

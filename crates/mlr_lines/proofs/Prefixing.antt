@@ -1,4 +1,5 @@
--- What a front of a file fixes stays, and the lines that have ended are those of the longest front that ends with LF.
+-- More bytes don't change the lines that are fixed, and the ended lines are those of the longest prefix that
+-- ends with LF.
 use Rattle.std.proofs.Common.{◌≡◌, ℕ, Bool, true, false, cond, ◌||◌, eqb, List, [], ◌∷◌, ◌++◌, map, refl, ap, ap₂, sym, ◌∙◌, append_assoc, inl, inr}
 use Rattle.std.proofs.lemmas.Bool.{cases_Bool, or_parts}
 use Rattle.std.proofs.lemmas.List.{append-nil, map-append}
@@ -7,7 +8,7 @@ use Rattle.mlr_lines.specs.Lines.{ended_after, begun_after, ended_lines, begun_l
 use Rattle.mlr_lines.specs.Steps.{are_none, unmarked_lines, unmarked_line}
 use Rattle.mlr_lines.proofs.Cutting.{begun_line-is, ended_lines-append, ended_lines-is}
 
--- the lines that more bytes fix
+-- more bytes fix more lines, and keep those before
 pub fixed-more : (bytes more : List ℕ) → (lines : List (List ℕ)) × (fixed_lines (bytes ++ more) ≡ fixed_lines bytes ++ lines)
 fixed-more bytes more =
     let later = unmarked_lines (are_none (ended_lines bytes)) (ended_after (begun_after [] bytes) more) in
@@ -68,7 +69,7 @@ unmarked-nothing : (first : Bool) → unmarked_line first [] ≡ []
 unmarked-nothing true = refl
 unmarked-nothing false = refl
 
--- the whole lines of that front are the lines that have ended
+-- all lines of the longest prefix that ends with LF are the ended lines
 pub whole-prefix : (bytes : List ℕ) → whole_lines (ended_prefix bytes) ≡ fixed_lines bytes
 whole-prefix bytes =
     let prefix = ended_prefix bytes in

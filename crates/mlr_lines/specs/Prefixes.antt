@@ -1,8 +1,9 @@
--- The longest front of a text that ends with a line end.
+-- The longest prefix of a text that ends with LF.
 use Rattle.std.specs.Prelude.{ℕ, ◌==◌, Bool, if◌then◌else◌, List, [], ◌∷◌}
 use Rattle.std.specs.List.{list_any}
 use Rattle.mlr_spec.specs.Ascii.{line_feed}
 
+-- whether a text contains an LF
 abbrev pub has_end : List ℕ → Bool
 has_end bytes = list_any (λ b. b == line_feed) bytes
 

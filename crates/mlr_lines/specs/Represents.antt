@@ -1,4 +1,4 @@
--- What the lines of a front of a file come to in a format, and when `Lines` stands for them.
+-- The state of a format after the lines of the bytes so far, and when a `Lines` represents these bytes.
 use Rattle.std.specs.Prelude.{◌≡◌, ℕ, ◌+◌, ◌^◌, ◌<◌, ◌&&◌, List, [], ◌∷◌, ◌++◌}
 use Rattle.std.specs.List.{fold}
 use Rattle.mlr_event.specs.declared.event.Event.{Event}
@@ -8,7 +8,7 @@ use Rattle.mlr_lines.specs.Lines.{ended_lines, begun_line, ended_after, begun_af
 use Rattle.mlr_lines.specs.Steps.{are_none, unmarked_lines}
 
 module _ {F : Type 0} where
-  -- more bytes may come, or the end
+  -- more bytes may follow, or the end of the file
   abbrev pub IsOpen : Lines F → Type 0
   IsOpen lines = lines.stage ≡ Open
 
@@ -16,34 +16,35 @@ module _ {F : Type 0} where
   abbrev pub IsEnded : Lines F → Type 0
   IsEnded lines = lines.stage ≡ Ended
 
-  -- a call found no memory
+  -- a call ran out of memory
   abbrev pub IsBroken : Lines F → Type 0
   IsBroken lines = lines.stage ≡ Broken
 
-  -- so many bytes may come
+  -- the file is open, and `n` more bytes don't overflow the format's counters
   abbrev pub CanTake : (F → ℕ) → Lines F → ℕ → Type 0
   CanTake count lines n = IsOpen lines × (count lines.format + n < 2 ^ 63)
 
-  -- what lines give one after another
+  -- the events of the lines, in order
   abbrev pub given : (F → List ℕ → F) → (F → List ℕ → List Event) → F → List (List ℕ) → List Event
   given after gives format [] = []
   given after gives format (line ∷ lines) = gives format line ++ given after gives (after format line) lines
 
-  -- the format behind them
+  -- the state of the format after the lines
   abbrev pub format_after : (F → List ℕ → F) → F → List (List ℕ) → F
   format_after after format lines = fold after format lines
 
-  -- so far these bytes came, and the format stood so before them
+  -- `lines` represents these bytes: `format` is the state before them, and the line that has begun is in the
+  -- buffer
   pub record Represents (after : F → List ℕ → F) (lines : Lines F) (format : F) (bytes : List ℕ) : Type 0 where
     pub state : lines.format ≡ format_after after format (ended_lines bytes)
     pub begun : lines.begun.items ≡ begun_after [] bytes
     pub first : lines.first ≡ are_none (ended_lines bytes)
 
-  -- these bytes were the whole file
+  -- `lines` represents these bytes as a whole file
   pub record RepresentsAtEnd (after after_last : F → List ℕ → F) (lines : Lines F) (format : F) (bytes : List ℕ) : Type 0 where
     pub state : lines.format ≡ after_last (format_after after format (ended_lines bytes)) (begun_line bytes)
 
-  -- a piece was taken: step by step, without a word on what came before
+  -- what a piece changes, in terms of the state before the piece only
   pub record Takes (after : F → List ℕ → F) (gives : F → List ℕ → List Event) (old new : Lines F) (piece : List ℕ) (before after_them : List Event) : Type 0 where
     pub state : new.format ≡ format_after after old.format (unmarked_lines old.first (ended_after old.begun.items piece))
     pub events : after_them ≡ before ++ given after gives old.format (unmarked_lines old.first (ended_after old.begun.items piece))

@@ -1,28 +1,28 @@
--- How a text goes on behind a line that has begun.
+-- How a text continues a line that has begun.
 use Rattle.std.specs.Prelude.{◌≡◌, ℕ, ◌+◌, Bool, true, false, List, [], ◌∷◌, ◌++◌, length}
 use Rattle.mlr_lines.specs.Lines.{ended_after, begun_after, without_mark}
 
--- whether there are no lines
+-- whether the list is empty
 abbrev pub are_none : List (List ℕ) → Bool
 are_none [] = true
 are_none (line ∷ lines) = false
 
--- a line, which in the first place of a file has lost its byte order mark
+-- a line, without the byte order mark if it is the first of a file
 abbrev pub unmarked_line : Bool → List ℕ → List ℕ
 unmarked_line true line = without_mark line
 unmarked_line false line = line
 
--- the lines of which the first is the first of the file, or isn't
+-- lines, the first without the byte order mark if it is the first of a file
 abbrev pub unmarked_lines : Bool → List (List ℕ) → List (List ℕ)
 unmarked_lines first [] = []
 unmarked_lines first (line ∷ lines) = unmarked_line first line ∷ lines
 
--- the text goes on with the line that has begun, whatever that is
+-- the text contains no LF: it continues any line that has begun
 pub record EndsNoLine (text : List ℕ) : Type 0 where
   pub ended : (begun : List ℕ) → ended_after begun text ≡ []
   pub begun : (begun : List ℕ) → begun_after begun text ≡ begun ++ text
 
--- the text ends that line, and goes on behind it
+-- the text consists of `line`, an LF and `rest`: it ends any line that has begun, and `rest` follows
 pub record EndsLine (text line rest : List ℕ) : Type 0 where
   pub ended : (begun : List ℕ) → ended_after begun text ≡ (begun ++ line) ∷ ended_after [] rest
   pub begun : (begun : List ℕ) → begun_after begun text ≡ begun_after [] rest

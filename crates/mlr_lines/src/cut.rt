@@ -1,10 +1,11 @@
+//! Cuts a text at its first line ending, and drops the byte order mark and the CR.
 ghost use Rattle.std.specs.Prelude.{◌≡◌, ◌+◌, ◌≤◌, length, MatchOption};
 ghost use Rattle.mlr_lines.specs.Lines.{without_mark, without_return};
 ghost use Rattle.mlr_lines.specs.Steps.{EndsNoLine, EndsLine, unmarked_line};
 
 use memchr::memchr;
 
-/// The first line that ends in the text, without its LF, and what stands behind the LF.
+/// The first line that ends in the text, without its LF, and the text after the LF.
 #[inline]
 pub(crate) fn first_line(text: &[u8]) -> Option<(&[u8], &[u8])>
     ensures { MatchOption result (EndsNoLine text.now)
@@ -14,7 +15,7 @@ pub(crate) fn first_line(text: &[u8]) -> Option<(&[u8], &[u8])>
     Some((&text[..place], &text[place + 1..]))
 }
 
-/// The line, which in the first place of a file has lost its byte order mark.
+/// The line, without its byte order mark if it is the first of a file.
 #[inline]
 pub(crate) fn unmarked(first: bool, line: &[u8]) -> &[u8]
     ensures text { result.now ≡ unmarked_line first line.now }

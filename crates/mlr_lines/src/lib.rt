@@ -1,5 +1,5 @@
-//! The lines of a file whose bytes come in pieces that are cut anywhere. A format says what whole lines give; `Lines`
-//! hands them to it.
+//! Splits a file into lines, whose bytes come in pieces that may be cut anywhere. A format says which events
+//! a line has; `Lines` passes the lines to it.
 #![tactic(auto)]
 
 mod cut;

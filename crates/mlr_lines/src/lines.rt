@@ -1,3 +1,4 @@
+//! Splits the pieces of a file into lines.
 ghost use Rattle.std.specs.Prelude.{◌≡◌, ◌↔◌, ◌+◌, ◌^◌, ◌<◌, ◌≤◌, ℕ, List, [], ◌++◌, false, length, IsTrue, OnOk, OnErr};
 ghost use Rattle.mlr_lines.specs.Lines.{ended_lines, begun_line};
 ghost use Rattle.mlr_lines.specs.Steps.{unmarked_line};
@@ -11,8 +12,8 @@ use mlr_event::Events;
 use mlr_spec::NoMemory;
 use std::alloc::Global;
 
-/// Takes the bytes of one file in pieces and hands each line to a format: as a slice of its piece, or, where a cut
-/// split the line, out of a buffer that is kept for the next one. The byte order mark of UTF-8 at the start of the
+/// Takes the bytes of one file in pieces and passes each line to a format: as a slice of its piece, or, for a
+/// line that spans pieces, from a buffer that is reused. The byte order mark of UTF-8 at the start of the
 /// file is dropped.
 #[derive(Drop)]
 pub struct Lines<F: LineFormat> {
@@ -23,7 +24,7 @@ pub struct Lines<F: LineFormat> {
 }
 
 impl<F: LineFormat> Lines<F> {
-    /// No bytes yet. It takes no memory.
+    /// The lines of an empty file. It doesn't allocate.
     pub fn new(alloc: Global, format: F) -> Self
         ensures represents { Represents F.after result format [] }
         ensures open { IsOpen result }
@@ -37,8 +38,8 @@ impl<F: LineFormat> Lines<F> {
         }
     }
 
-    /// Takes the next piece of the file, and puts the events of the lines that it ends behind `out`. It takes memory
-    /// for a line that has begun and for events.
+    /// Takes the next piece of the file, and appends the events of the lines that it ends to `out`. It
+    /// allocates for a line that has begun and for events.
     pub fn feed(&mut self, piece: &[u8], out: &mut Events) -> Result<(), NoMemory>
         requires { CanTake F.count self.old (length piece.now) }
         ensures represents { OnOk result ((format : F) (bytes : List ℕ)
@@ -60,7 +61,7 @@ impl<F: LineFormat> Lines<F> {
         taken
     }
 
-    /// Takes the end of the file, and puts the events of what is left behind `out`.
+    /// Takes the end of the file, and appends the events of the rest to `out`.
     pub fn end(&mut self, out: &mut Events) -> Result<(), NoMemory>
         requires { CanTake F.count self.old 0 }
         ensures represents { OnOk result ((format : F) (bytes : List ℕ)
@@ -86,14 +87,14 @@ impl<F: LineFormat> Lines<F> {
         ended
     }
 
-    /// Whether a call found no memory. Then nothing more may be asked of it.
+    /// Whether a call ran out of memory. Then no further call is allowed.
     pub fn is_broken(&self) -> bool
         ensures { IsTrue result ↔ IsBroken self.now }
     {
         self.stage == Stage::Broken
     }
 
-    /// The format, behind the lines so far.
+    /// The format, after the lines so far.
     pub fn format(&self) -> &F
         ensures { result.now ≡ self.now.format }
     {
@@ -117,7 +118,7 @@ impl<F: LineFormat> Lines<F> {
         Ok(())
     }
 
-    /// Hands on the line that has begun and ends with this part.
+    /// Passes the line that has begun and ends with this part to the format.
     #[inline]
     fn end_line(&mut self, part: &[u8], out: &mut Events) -> Result<(), NoMemory>
         requires count { F.count self.old.format < 2 ^ 63 }

@@ -1,4 +1,4 @@
-//! Lines fed whole and cut at each byte, by a format that gives each line back.
+//! Files read whole and cut at each byte, by a format that gives each line as a text.
 
 ghost use Rattle.std.specs.Prelude.{◌≡◌, ◌∷◌, [], IfOk};
 ghost use Rattle.mlr_event.specs.declared.event.Event.TheVariants as event;
@@ -10,7 +10,7 @@ use mlr_value::Bytes;
 use std::alloc::Global;
 use std::test::Fail;
 
-/// Gives each line as a text, and what is left at the end too.
+/// A format that gives each line as a text, and the rest of the file too.
 #[derive(Drop)]
 struct Echo {
     alloc: Global,
@@ -55,7 +55,7 @@ fn shown(alloc: Global, events: &Events) -> Result<Bytes, NoMemory> {
     Ok(all)
 }
 
-/// The lines of a file that comes in two pieces.
+/// The lines of a file that is read in two pieces.
 fn lines_of(alloc: Global, prefix: &[u8], rest: &[u8]) -> Result<Bytes, NoMemory> {
     let mut events = Events::new(alloc);
     let mut lines = Lines::new(alloc, Echo { alloc });

@@ -1,10 +1,11 @@
-/// What may still come.
+//! The stage of a file that is being read.
+/// What may still follow.
 #[derive(Clone, Copy, Debug, PartialEq, Eq)]
 pub(crate) enum Stage {
-    /// More bytes, or the end.
+    /// More bytes or the end.
     Open,
     /// Nothing: the file has ended.
     Ended,
-    /// Nothing: there was no memory.
+    /// Nothing: a call ran out of memory.
     Broken,
 }

@@ -1,4 +1,4 @@
--- The CR before a line end.
+-- The CR before a line ending.
 use Rattle.std.proofs.Common.{◌≡◌, ℕ, suc, ◌-◌, false, cond, eqb, List, [], ◌∷◌, ◌++◌, length, take, drop, get_or, ◌⊎◌, refl, ap, ap₂, sym, subst, ◌∙◌, append_assoc, arith, inl, inr}
 use Rattle.std.specs.Option.{option_map}
 use Rattle.std.proofs.Math.Seq.{drop-append_seam, drop-length}
@@ -24,14 +24,14 @@ return-cons a b line =
     let e : length (a ∷ b ∷ line) - 1 ≡ suc (length (b ∷ line) - 1) = omega arith in
     ap (λ k. cut_at k (a ∷ b ∷ line)) e ∙ cut_at-cons (length (b ∷ line) - 1) a (b ∷ line)
 
--- a line behind an earlier line keeps its own CR
+-- only the last line of several lines loses its CR
 pub return-following : (prefix line : List ℕ) → without_return (prefix ++ 10 ∷ line) ≡ prefix ++ 10 ∷ without_return line
 return-following [] [] = refl
 return-following [] (b ∷ line) = return-cons 10 b line
 return-following (a ∷ []) line = return-cons a 10 line ∙ ap (λ t. a ∷ t) (return-following [] line)
 return-following (a ∷ c ∷ prefix) line = return-cons a c (prefix ++ 10 ∷ line) ∙ ap (λ t. a ∷ t) (return-following (c ∷ prefix) line)
 
--- a line and its CR, if there is one
+-- a line is either without a CR at its end, or is the rest and that CR
 return-parts : (line : List ℕ) → (without_return line ≡ line) ⊎ (line ≡ without_return line ++ 13 ∷ [])
 return-parts [] = inl refl
 return-parts (b ∷ []) =
@@ -59,7 +59,7 @@ feed-end = λ more. byte-end 10 more refl
 return-end : IsEnd (13 ∷ 10 ∷ [])
 return-end = λ more. quoted-open (13 ∷ 10 ∷ []) more refl
 
--- the end of a line: it is the rest of the line and LF, and has no quotes
+-- a line's ending is its CR, if there is one, and LF; it contains no quote
 pub line_end-is : (line : List ℕ) → (without_return line ++ line_end line ≡ line ++ 10 ∷ []) × IsEnd (line_end line)
 line_end-is line =
     elim (return-parts line) as (λ _. (without_return line ++ line_end line ≡ line ++ 10 ∷ []) × IsEnd (line_end line)) [

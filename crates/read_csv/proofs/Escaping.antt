@@ -1,4 +1,4 @@
--- Fields of TSV.
+-- The fields of a line of TSV.
 use Rattle.std.proofs.Common.{◌≡◌, ℕ, suc, ◌<◌, false, eqb, List, [], ◌∷◌, ◌++◌, map, length, get_or, Option, Some, None, Bor, refl, ap, sym, ◌∙◌, append_assoc, arith}
 use Rattle.std.specs.Option.{option_map}
 use Rattle.std.proofs.lemmas.Bool.{false_from_ne_true}
@@ -10,7 +10,7 @@ use Rattle.mlr_event.specs.declared.options.ReadOpts.{ReadOpts}
 use Rattle.read_csv.specs.Fields.{Field, unescaped, tsv_fields, value_of}
 use Rattle.read_csv.specs.OpenRow.{RowState, tsv_reading, with_value, row_with}
 
--- a text without a backslash
+-- a byte that isn't a backslash is itself
 unescaped-other : (b : ℕ) (text : List ℕ) → eqb b 92 ≡ false → unescaped (b ∷ text) ≡ b ∷ unescaped text
 unescaped-other b [] other = refl
 unescaped-other b (c ∷ text) other = rw other refl
@@ -36,7 +36,7 @@ module _ (opts : ReadOpts) (row : RowState) (left part : List ℕ) where
   pub escaped-last : split_by opts.ifs left ≡ part ∷ [] → with_value row (tree_of_data opts.infer (unescaped part)) ≡ row_with opts.infer row (tsv_reading opts.ifs left)
   escaped-last parts = ap (λ ps. record { values = row.values ++ map (value_of opts.infer) (map escaped_field ps); quotes = None }) (sym parts)
 
--- a text that was cut at its first separator
+-- a text that was cut at its first separator: the rest has the remaining parts
 pub parts-more : (separator left part : List ℕ) (found : Option (Bor (List ℕ))) (rest : Bor (List ℕ)) → found ≡ Some rest
     → split_by separator left ≡ part ∷ parts_of_rest separator (option_map (λ r. r.now) found) → split_by separator left ≡ part ∷ split_by separator rest.now
 parts-more separator left part found rest is parts = parts ∙ ap (λ f. part ∷ parts_of_rest separator (option_map (λ (r : Bor (List ℕ)). r.now) f)) is

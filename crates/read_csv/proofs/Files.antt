@@ -1,4 +1,4 @@
--- What a reader has given is what the definition of the format says of the bytes so far.
+-- The events that a reader has given are those that the bytes so far fix.
 use Rattle.std.proofs.Common.{◌≡◌, ℕ, Bool, true, false, cond, List, [], ◌∷◌, ◌++◌, Option, Some, None, refl, ap, ap₂, sym, ◌∙◌, append_assoc}
 use Rattle.mlr_event.specs.declared.event.Ctx.{Ctx}
 use Rattle.mlr_event.specs.declared.event.Event.{Event}
@@ -17,7 +17,7 @@ use Rattle.read_csv.specs.Represents.{Begins, ctx_fed, ctx_read}
 use Rattle.read_csv.proofs.Walk.{last-step, step}
 use Rattle.read_csv.proofs.Whole.{Fits}
 
--- the end of a file, if it has come
+-- the events of the last line, if the file has ended
 abbrev end_events : RowRules → Option (List ℕ) → List Event
 end_events rules None = []
 end_events rules (Some line) = gives_last rules line
@@ -26,7 +26,7 @@ abbrev end_rules : RowRules → Option (List ℕ) → RowRules
 end_rules rules None = rules
 end_rules rules (Some line) = after_last rules line
 
--- behind a fault
+-- after a fault, a line changes nothing
 stays-line : (rules : RowRules) (line : List ℕ) → rules.stopped ≡ true → after_line rules line ≡ rules
 stays-line rules line is = rw is refl
 

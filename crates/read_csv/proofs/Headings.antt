@@ -1,4 +1,4 @@
--- Rows of values and rows of fields.
+-- Rows of values agree with rows of fields.
 use Rattle.std.proofs.Common.{◌≡◌, ℕ, Bool, true, false, cond, ◌||◌, eqb, List, [], ◌∷◌, map, length, drop, Option, Some, None, refl, ap, ap₂, ◌∙◌, inl, inr}
 use Rattle.std.specs.Prelude.{nat_le, nat_lt, neg_ℤ, pos, ◌-ℤ◌, ◌^◌, not, ◌&&◌}
 use Rattle.std.proofs.lemmas.Bool.{cases_Bool, true≢false}
@@ -56,7 +56,7 @@ source-quoted : (text : List ℕ) → source_of (quoted_value text) ≡ text
 source-quoted [] = refl
 source-quoted (b ∷ text) = refl
 
--- a value from data keeps its text
+-- a value keeps the text from which it was read
 source-value : (opts : InferOpts) (field : Field) → source_of (value_of opts field) ≡ field.text
 source-value opts field =
     elim (cases_Bool field.quoted) as (λ _. source_of (value_of opts field) ≡ field.text) [

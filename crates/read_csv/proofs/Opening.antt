@@ -1,4 +1,4 @@
--- What a text fixes that leaves quotes open: behind it, a text is read as if it stood behind a quote.
+-- A text that leaves a quote open: the text after it is read as if a quote preceded it.
 use Rattle.std.proofs.Common.{◌≡◌, ℕ, zero, suc, ◌+◌, ◌<◌, ◌≤◌, Bool, true, false, cond, eqb, List, [], ◌∷◌, ◌++◌, length, take, drop, Option, Some, None, refl, ap, ap₂, sym, subst, ◌∙◌, append_assoc, arith, inl, inr, add-one}
 use Rattle.std.specs.Option.{option_map}
 use Rattle.std.proofs.lemmas.Bool.{cases_Bool}
@@ -11,11 +11,11 @@ use Rattle.read_csv.specs.Fields.{Field, First, Quoted, quoted_at, with_byte, be
 use Rattle.read_csv.specs.OpenRow.{Reading, open_text, reading_from, csv_reading}
 use Rattle.read_csv.proofs.Readings.{rest_of, rest-shorter, next-shorter, reading-is, reading_at, reading_after}
 
--- more content before what stands in quotes
+-- text that precedes the content of the quotes
 abbrev pub after_text : List ℕ → Quoted → Quoted
 after_text content q = record { content = content ++ q.content; following = q.following }
 
--- the fields behind those that are done, of which the first goes on with what stands in the open quotes
+-- fields after those that are `done`, where the first continues the content of the open quote
 abbrev pub joined : List Field → List ℕ → List Field → List Field
 joined done content [] = done
 joined done content (field ∷ fields) = done ++ record { quoted = true; text = content ++ field.text } ∷ fields
@@ -23,7 +23,7 @@ joined done content (field ∷ fields) = done ++ record { quoted = true; text = 
 pub record Opens (separator text : List ℕ) (done : List Field) (content : List ℕ) : Type 0 where
   pub goes_on : (more : List ℕ) → csv_fields separator (text ++ more) ≡ option_map (joined done content) (csv_fields separator (34 ∷ more))
 
--- quotes
+-- quoted text and more text
 map-none : (found : Option Quoted) → option_map (after_text []) found ≡ found
 map-none None = refl
 map-none (Some q) = refl
@@ -81,7 +81,7 @@ quoted-open (b ∷ c ∷ text) more none =
           ∙ ap (λ t. option_map (after_text t) (quoted_at more)) (sym (open-other b (c ∷ text) other))
     ]
 
--- closed quotes stay closed, where something stands behind them
+-- quotes that are closed remain closed when text follows
 byte-some : (b : ℕ) (found : Option Quoted) (q : Quoted) → with_byte b found ≡ Some q → (p : Quoted) × (found ≡ Some p) × (Some q ≡ with_byte b (Some p))
 byte-some b None q is = absurd (let e : None ≡ Some q = is in cc)
 byte-some b (Some p) q is = (p, refl, sym is)
@@ -122,7 +122,7 @@ quoted-closed (b ∷ c ∷ text) more q is some =
           ∙ ap (option_map (longer more)) (sym (quoted-other b (c ∷ text) other))
     ]
 
--- a separator that was found stays the first one
+-- a separator remains the first one when text follows
 begins-more : (separator text more : List ℕ) → length separator ≤ length text → begins_with separator (text ++ more) ≡ begins_with separator text
 begins-more separator text more fits = ap (λ t. bytes_eq t separator) (take-append-le (length separator) text more fits)
 
@@ -151,7 +151,7 @@ next_at separator text found = elim found [ Some place ↦ Some (drop (place + l
 abbrev before_at : List ℕ → Option ℕ → List ℕ
 before_at text found = elim found [ Some place ↦ take place text | None ↦ text ]
 
--- what a found separator cuts off, where more follows
+-- the parts before and after the first separator, when text follows
 pub next-more : (separator text more rest : List ℕ) → after_next separator text ≡ Some rest
     → (before_next separator (text ++ more) ≡ before_next separator text) × (after_next separator (text ++ more) ≡ Some (rest ++ more))
 next-more separator text more rest is =
@@ -171,7 +171,7 @@ next-more separator text more rest is =
 abbrev firstly : List ℕ → First → First
 firstly rest first = record { field = first.field; following = Some rest }
 
--- the first field stays, where more follows
+-- the first field is the same when text follows its separator
 quoted-first-more : (separator text more rest : List ℕ) (first : First) (found : Option Quoted) → 0 < length separator → quoted_at text ≡ found → first_quoted separator found ≡ Some first → first.following ≡ Some rest
     → first_quoted separator (quoted_at (text ++ more)) ≡ Some (firstly (rest ++ more) first)
 quoted-first-more separator text more rest first None some found is following = absurd (let e : None ≡ Some first = is in cc)
@@ -210,7 +210,7 @@ first-more separator (b ∷ text) more rest first some is following =
           ∙ ap (λ (f : First). Some (firstly (rest ++ more) f)) same
     ]
 
--- a text as its first field and its other fields
+-- the fields of a text: its first field and those of the rest
 abbrev fields_after : Field → (List ℕ → Option (List Field)) → Option (List ℕ) → Option (List Field)
 fields_after field more following = elim following [ None ↦ Some (field ∷ []) | Some rest ↦ option_map (λ fields. field ∷ fields) (more rest) ]
 
@@ -239,7 +239,7 @@ csv-is separator text some =
     ∙ fields_at-same (fields_from (length text) separator) (csv_fields separator) (first_field separator text)
     (λ rest is. let shorter = rest-shorter separator text rest some is in fields-steps separator (length text) (length rest + 1) rest some (omega arith) (omega arith))
 
--- the fields of a reading
+-- the fields of a reading; None if a quote is open
 abbrev pub fields_read : Reading → Option (List Field)
 fields_read more = elim more.left_open [ None ↦ Some more.fields | Some content ↦ None ]
 
@@ -270,7 +270,7 @@ fields-read (suc n) separator text =
 pub csv-read : (separator text : List ℕ) → csv_fields separator text ≡ fields_read (csv_reading separator text)
 csv-read separator text = fields-read (length text + 1) separator text
 
--- quotes with more content before them
+-- quoted text that precedes the first field
 joined-more : (content text : List ℕ) (found : Option (List Field))
     → option_map (λ fields. record { quoted = true; text = content ++ text } ∷ fields) found ≡ option_map (joined [] content) (option_map (λ fields. record { quoted = true; text = text } ∷ fields) found)
 joined-more content text None = refl
@@ -288,14 +288,14 @@ joined-first separator content more (Some q) =
     ap (λ t. fields_after (record { quoted = true; text = t }) more (after_next separator q.following)) (append_assoc content q.content (before_next separator q.following))
     ∙ joined-following content (q.content ++ before_next separator q.following) more (after_next separator q.following)
 
--- fields that are done, and then more
+-- one more field that is done
 joined-cons : (field : Field) (done : List Field) (content : List ℕ) (found : Option (List Field))
     → option_map (λ fields. field ∷ fields) (option_map (joined done content) found) ≡ option_map (joined (field ∷ done) content) found
 joined-cons field done content None = refl
 joined-cons field done content (Some []) = refl
 joined-cons field done content (Some (f ∷ fields)) = refl
 
--- a text whose first field is open begins with a quote
+-- if the first field isn't closed, the text after its quote has no closing quote
 first_quoted-none : (separator : List ℕ) (found : Option Quoted) → first_quoted separator found ≡ None → found ≡ None
 first_quoted-none separator None is = refl
 first_quoted-none separator (Some q) is = absurd (cc)
@@ -316,7 +316,7 @@ joined-twice done content end None = refl
 joined-twice done content end (Some []) = refl
 joined-twice done content end (Some (f ∷ fields)) = ap (λ t. Some (done ++ record { quoted = true; text = t } ∷ fields)) (sym (append_assoc content end f.text))
 
--- what stands in the quotes behind more fields
+-- the text within the open quote, after a reading that continues it
 abbrev pub grown : List ℕ → List Field → List ℕ → List ℕ
 grown content [] more = content ++ more
 grown content (field ∷ fields) more = more
@@ -330,7 +330,7 @@ joined-joined done content [] more_content (Some (f ∷ fields)) = ap (λ t. Som
 joined-joined done content (g ∷ more) more_content (Some (f ∷ fields)) =
     ap Some (sym (append_assoc done (record { quoted = true; text = content ++ g.text } ∷ more) (record { quoted = true; text = more_content ++ f.text } ∷ fields)))
 
--- what is read behind an open quote
+-- text that is read after an open quote
 module _ (separator : List ℕ) (some : 0 < length separator) where
   quotes-go_on : (content text more : List ℕ) → quoted_at (text ++ more) ≡ option_map (after_text content) (quoted_at more)
       → csv_fields separator (34 ∷ text ++ more) ≡ option_map (joined [] content) (csv_fields separator (34 ∷ more))
@@ -381,7 +381,7 @@ module _ (separator : List ℕ) (some : 0 < length separator) where
       subst (λ done. Opens separator text done content) (sym (ap (λ (r : Reading). r.fields) reading)) (opens-at text (first_field separator text) content refl left
       (λ rest here left. opens n rest (omega (arith, rest-shorter separator text rest some here)) content left))
 
-  -- text without quotes goes on in open quotes
+  -- text without quotes continues an open quote
   pub opens-text : (text : List ℕ) (done : List Field) (content end : List ℕ) → Opens separator text done content → ((more : List ℕ) → quoted_at (end ++ more) ≡ option_map (after_text end) (quoted_at more))
       → Opens separator (text ++ end) done (content ++ end)
   opens-text text done content end open_row plain = record {
@@ -390,7 +390,7 @@ module _ (separator : List ℕ) (some : 0 < length separator) where
         ∙ joined-twice done content end (csv_fields separator (34 ∷ more));
   }
 
-  -- a row that is open, and a further text that leaves it open
+  -- a row with an open quote, and a further line that leaves a quote open
   pub opens-more : (text more_text : List ℕ) (done : List Field) (content : List ℕ) (more_done : List Field) (more_content : List ℕ) → Opens separator text done content → Opens separator (34 ∷ more_text) more_done more_content
       → Opens separator (text ++ more_text) (joined done content more_done) (grown content more_done more_content)
   opens-more text more_text done content more_done more_content open_row more_row = record {

@@ -1,4 +1,5 @@
--- What a front of a file fixes stays, and it is what its longest front gives that ends with a line end in no quote.
+-- The first bytes of a file fix events that stay; they are those of the longest prefix that ends with a line
+-- ending outside quotes.
 use Rattle.std.proofs.Common.{◌≡◌, ℕ, zero, suc, ◌+◌, ◌-◌, ◌≤◌, Bool, true, false, cond, not, ◌&&◌, eqb, List, [], ◌∷◌, ◌++◌, length, take, get_or, Option, Some, None, refl, ap, ap₂, sym, subst, ◌∙◌, append_assoc, arith, inl, inr, add-one, length-append}
 use Rattle.std.specs.Option.{is_some}
 use Rattle.std.proofs.Math.Seq.{get_or-append_seam, take-length}
@@ -20,7 +21,7 @@ use Rattle.read_csv.specs.Prefixes.{closed_prefix, closed_within, ends_line, is_
 use Rattle.read_csv.specs.Rows.{Begun, begins_at, closed_items, csv_fed, csv_read, end_items, goes_on, header_after, is_skipped, row_fields, rows_from, skipped_items}
 
 module _ (opts : ReadOpts) (file : FileRef) where
-  -- a line, by whether it is skipped and by the fields of the row that it ends
+  -- the items from a line on, by whether it is skipped and by the fields of the row that it ends
   abbrev rows_by : Option (List ℕ) → ℕ → Begun → Option (List (List ℕ)) → List ℕ → List (List ℕ) → Bool → Option (List Field) → List Item
   rows_by last n row header line lines skipped fields = cond skipped
       (skipped_items opts (without_return line) ++ rows_from opts file last (n + 1) None header lines)
@@ -93,11 +94,11 @@ module _ (opts : ReadOpts) (file : FileRef) where
       let events = events-more start last (ended_lines bytes) (lines_more bytes rest) in
       (events.0, ap (λ lines. events_of start (rows_from opts file last 1 None None lines)) (ended_lines-append bytes rest) ∙ events.1)
 
-  -- the row that is open behind a line
+  -- the row that is open after a line
   abbrev open_by : ℕ → Begun → List ℕ → Bool → Option (List Field) → Begun
   open_by n row line skipped fields = cond skipped None (elim fields [ None ↦ Some (begins_at row n, goes_on row line) | Some found ↦ None ])
 
-  -- a last line that leaves a quote open gives nothing
+  -- a last line that leaves a quote open gives no items
   rows-open : (lines : List (List ℕ)) (line : List ℕ) (n : ℕ) (row : Begun) (header : Option (List (List ℕ)))
       → is_some (open_row opts n row (lines ++ line ∷ [])) ≡ true → rows_from opts file None n row header (lines ++ line ∷ []) ≡ rows_from opts file None n row header lines
   rows-open [] line n row header is =
@@ -132,7 +133,7 @@ module _ (opts : ReadOpts) (file : FileRef) where
             ]
       ]
 
-  -- where no quote is open, the end of the file gives nothing behind a line end
+  -- after a line ending outside quotes, the end of the file gives no items
   module _ (sound : is_comment opts.comments [] ≡ false) where
     nothing-last : (n : ℕ) (row : Begun) (header : Option (List (List ℕ))) → is_some row ≡ false → end_items opts file n row header [] ≡ []
     nothing-last n None header is = rw sound refl
@@ -164,7 +165,7 @@ module _ (opts : ReadOpts) (file : FileRef) where
               ]
         ]
 
-    -- one byte more
+    -- one more byte
     ends-byte : (bytes : List ℕ) (b : ℕ) → ends_line (bytes ++ b ∷ []) ≡ eqb b 10
     ends-byte bytes b =
         let last : length (bytes ++ b ∷ []) - 1 ≡ length bytes = omega (arith, length-append bytes (b ∷ [])) in
@@ -182,7 +183,7 @@ module _ (opts : ReadOpts) (file : FileRef) where
     unmarked-one true line = refl
     unmarked-one false line = refl
 
-    -- a byte that ends no line, or one in a quote, fixes nothing
+    -- a byte that ends no line, or that is within quotes, fixes nothing
     open-byte : (start : Ctx) (bytes : List ℕ) (b : ℕ) → is_closed opts (bytes ++ b ∷ []) ≡ false → csv_fed opts file start (bytes ++ b ∷ []) ≡ csv_fed opts file start bytes
     open-byte start bytes b is =
         let ended = ended_lines bytes in
@@ -202,7 +203,7 @@ module _ (opts : ReadOpts) (file : FileRef) where
           | inr other ↦ ap gives (all ∙ ap lines other ∙ ap (λ m. ended ++ m) (unmarked-none first) ∙ append-nil ended)
         ]
 
-    -- a front that ends with a line end in no quote, as a whole file
+    -- a prefix that ends with a line ending outside quotes gives the same as a whole file
     closed-byte : (start : Ctx) (bytes : List ℕ) (b : ℕ) → is_closed opts (bytes ++ b ∷ []) ≡ true → csv_fed opts file start (bytes ++ b ∷ []) ≡ csv_read opts file start (bytes ++ b ∷ [])
     closed-byte start bytes b is =
         let prefix = bytes ++ b ∷ [] in

@@ -1,4 +1,4 @@
--- What stands in quotes: as a search for quotes cuts it.
+-- The text within quotes, cut at each quote.
 use Rattle.std.proofs.Common.{◌≡◌, ℕ, zero, suc, ◌+◌, ◌<◌, true, false, eqb, List, [], ◌∷◌, ◌++◌, length, take, drop, get_or, Option, Some, None, refl, ap, sym, ◌∙◌, append_assoc, arith, add-one}
 use Rattle.std.proofs.lemmas.Bool.{false_from_ne_true, true≢false}
 use Rattle.memchr.specs.Find.{IsFirstByte, is_byte}
@@ -24,7 +24,7 @@ following-is : (found : Option Quoted) (text : List ℕ) → quoted_at text ≡ 
 following-is None text is = rw is refl
 following-is (Some q) text is = rw is refl
 
--- a byte that is no quote
+-- a byte that isn't a quote belongs to the content
 quoted-other : (b : ℕ) (text : List ℕ) → eqb b 34 ≡ false → quoted_at (b ∷ text) ≡ with_byte b (quoted_at text)
 quoted-other b [] other = rw other refl
 quoted-other b (c ∷ text) other = rw other refl
@@ -50,7 +50,7 @@ inside-none (b ∷ text) none =
     let more = inside-none text (λ k below. none (suc k) (omega arith)) in
     record { content = inside-other b text other ∙ ap (λ t. b ∷ t) more.content; following = following-other b text other ∙ more.following }
 
--- a quote: what follows it decides
+-- the byte after a quote decides whether it closes
 HasQuote-other : (b : ℕ) (text prefix rest : List ℕ) → eqb b 34 ≡ false → HasQuote text prefix rest → HasQuote (b ∷ text) (b ∷ prefix) rest
 HasQuote-other b text prefix rest other more = record {
   content = λ twice. inside-other b text other ∙ ap (λ t. b ∷ t) (more.content twice);
@@ -99,7 +99,7 @@ HasQuote-at (b ∷ text) (suc place) below here before =
     HasQuote-other b text (take place text) (drop (suc place) text) (before 0 (omega arith))
     (HasQuote-at text place (omega arith) here (λ k less. before (suc k) (omega arith)))
 
--- what a search for a quote says
+-- the result of a search for a quote
 pub HasNoQuote-from : (text : List ℕ) → IsFirstByte (is_byte 34) text None → HasNoQuote text
 HasNoQuote-from text nowhere = inside-none text (λ k below. false_from_ne_true _ (nowhere k (omega arith) below))
 
@@ -108,7 +108,7 @@ HasQuote-from text place rest found is =
     let whole = HasQuote-at text place found.0.high found.1 (λ k less. false_from_ne_true _ (found.0.before k (omega arith) less)) in
     rw (is, add-one place) whole
 
--- the quotes of a row with more text
+-- text that is appended to an open quote in two steps
 pub with_text-twice : (row : RowState) (prefix rest : List ℕ) → with_text (with_text row prefix) rest ≡ with_text row (prefix ++ rest)
 with_text-twice row prefix rest = ap (λ t. record { values = row.values; quotes = Some t }) (append_assoc (in_quotes row) prefix rest)
 

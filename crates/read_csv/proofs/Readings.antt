@@ -1,4 +1,4 @@
--- A text of a row, field by field.
+-- Reads a line of a row field by field.
 use Rattle.std.proofs.Common.{◌≡◌, ℕ, zero, suc, ◌+◌, ◌<◌, ◌≤◌, true, false, eqb, List, [], ◌∷◌, ◌++◌, map, length, drop, Option, Some, None, refl, ap, ap₂, sym, ◌∙◌, append_assoc, arith, inl, inr, add-one, length-drop}
 use Rattle.std.specs.Option.{option_map, unwrap_or, is_some}
 use Rattle.std.proofs.lemmas.Bool.{cases_Bool}
@@ -12,18 +12,18 @@ use Rattle.mlr_record.specs.Parts.{first_part, after_first}
 use Rattle.read_csv.proofs.Quoting.{with_text-twice}
 use Rattle.read_csv.specs.OpenRow.{Reading, RowState, open_text, inside, after_quotes, after_field, reading_from, csv_reading, in_quotes, with_value, with_text, quoted_row, after_quoted, field_row, after_row_field, row_with, row_on, row_reading, row_taken}
 
--- a found first field: what it leaves
+-- the text after the first field's separator
 abbrev pub rest_of : Option First → Option (List ℕ)
 rest_of found = elim found [ None ↦ None | Some first ↦ first.following ]
 
 abbrev pub taken_row : ReadOpts → RowState → List ℕ → Option First → RowState
 taken_row opts row text found = elim found [ None ↦ with_text row (open_text (drop 1 text)) | Some first ↦ with_value row (value_of opts.infer first.field) ]
 
--- what found quotes leave
+-- the text after the separator that follows the closing quote
 abbrev after_found : List ℕ → Option Quoted → Option (List ℕ)
 after_found separator found = elim found [ None ↦ None | Some q ↦ after_next separator q.following ]
 
--- the place of a separator that was looked for: what stands behind it
+-- the text after the separator that was found
 abbrev next_at : List ℕ → List ℕ → Option ℕ → Option (List ℕ)
 next_at separator text found = elim found [ Some place ↦ Some (drop (place + length separator) text) | None ↦ None ]
 
@@ -39,7 +39,7 @@ rest-is separator (b ∷ text) =
       | inr other ↦ rw other refl
     ]
 
--- the row of found quotes
+-- the row after the quoted text that was found
 abbrev quotes_row : List ℕ → RowState → List ℕ → Option Quoted → RowState
 quotes_row separator row text found = elim found [
   | None ↦ with_text row (open_text text)
@@ -60,7 +60,7 @@ row-is opts row (b ∷ text) closed =
       | inr other ↦ rw other refl
     ]
 
--- what stands behind the first separator is shorter
+-- the text after the first separator is shorter
 pub next-shorter : (separator text rest : List ℕ) → 0 < length separator → after_next separator text ≡ Some rest → length rest < length text
 next-shorter separator text rest some is =
     elim (cases_Option (place_in separator text)) as (λ _. length rest < length text) [
@@ -75,7 +75,7 @@ following-byte : (b : ℕ) (found : Option Quoted) (q : Quoted) → with_byte b 
 following-byte b None q is = absurd (let e : None ≡ Some q = is in cc)
 following-byte b (Some p) q is = let e : Some (record { content = b ∷ p.content; following = p.following }) ≡ Some q = is in (p, refl, cc)
 
--- what stands behind the closing quote is shorter, too
+-- the text after the closing quote isn't longer
 pub quotes-shorter : (text : List ℕ) (q : Quoted) → quoted_at text ≡ Some q → length q.following ≤ length text
 quotes-shorter [] q is = absurd (let e : None ≡ Some q = is in cc)
 quotes-shorter (b ∷ []) q is =
@@ -117,11 +117,11 @@ rest-shorter separator (b ∷ text) rest some is =
       | inr other ↦ next-shorter separator (b ∷ text) rest some (rw other at is)
     ]
 
--- a field, and what follows
+-- the reading of one field and of the rest
 abbrev pub reading_after : Field → (List ℕ → Reading) → Option (List ℕ) → Reading
 reading_after field more following = elim following [ None ↦ record { fields = field ∷ []; left_open = None } | Some rest ↦ after_field field (more rest) ]
 
--- a text as its first field, and what follows
+-- the reading of a text, by its first field
 abbrev pub reading_at : (List ℕ → Reading) → List ℕ → Option First → Reading
 reading_at more text found = elim found [
   | None ↦ record { fields = []; left_open = Some (open_text (drop 1 text)) }
@@ -131,7 +131,7 @@ reading_at more text found = elim found [
   ]
 ]
 
--- two ways to read the rest come to the same where they agree on it
+-- two readings are the same if they agree on the rest
 reading_at-same : (more more_2 : List ℕ → Reading) (text : List ℕ) (found : Option First) → ((rest : List ℕ) → rest_of found ≡ Some rest → more rest ≡ more_2 rest)
     → reading_at more text found ≡ reading_at more_2 text found
 reading_at-same more more_2 text None same = refl
@@ -141,7 +141,7 @@ reading_at-same more more_2 text (Some first) same =
       | inr some ↦ ap (reading_after first.field more) some.1 ∙ ap (after_field first.field) (same some.0 some.1) ∙ sym (ap (reading_after first.field more_2) some.1)
     ]
 
--- the number of steps doesn't count as long as there are enough
+-- the number of steps doesn't matter if it is large enough
 reading-steps : (separator : List ℕ) (n m : ℕ) (text : List ℕ) → 0 < length separator → length text < n → length text < m → reading_from n separator text ≡ reading_from m separator text
 reading-steps separator zero m text some enough enough_2 = absurd (omega arith)
 reading-steps separator (suc n) zero text some enough enough_2 = absurd (omega arith)
@@ -155,7 +155,7 @@ reading-is separator text some =
     ∙ reading_at-same (reading_from (length text) separator) (csv_reading separator) text (first_field separator text)
     (λ rest is. let shorter = rest-shorter separator text rest some is in reading-steps separator (length text) (length rest + 1) rest some (omega arith) (omega arith))
 
--- a field, and then what follows
+-- a row after one field, and then after the rest
 with_value-more : (opts : InferOpts) (row : RowState) (field : Field) (more : Reading) → row_with opts (with_value row (value_of opts field)) more ≡ row_with opts row (after_field field more)
 with_value-more opts row field more =
     ap (λ values. record { values = values; quotes = more.left_open }) (append_assoc row.values (value_of opts field ∷ []) (map (value_of opts) more.fields))
@@ -194,7 +194,7 @@ module _ (opts : ReadOpts) (row : RowState) (text : List ℕ) (some : 0 < length
   pub field-closed : (rest : List ℕ) → after_row_field opts.ifs text ≡ Some rest → (field_row opts row text).quotes ≡ None
   field-closed rest is = ap (λ r. r.quotes) (row-is opts row text closed) ∙ taken-closed opts row text rest (first_field opts.ifs text) (sym (rest-is opts.ifs text) ∙ is)
 
--- where quotes are open: as if the text stood behind a quote
+-- within an open quote, a line is read as if a quote preceded it
 on-more : (opts : ReadOpts) (row : RowState) (text rest : List ℕ) (found : Option Quoted) → after_found opts.ifs found ≡ Some rest
     → row_with opts.infer (quotes_row opts.ifs row text found) (csv_reading opts.ifs rest) ≡ row_on opts.infer row (reading_at (csv_reading opts.ifs) (34 ∷ text) (first_quoted opts.ifs found))
 on-more opts row text rest None is = absurd (let e : None ≡ Some rest = is in cc)
@@ -226,7 +226,7 @@ module _ (opts : ReadOpts) (row : RowState) (text : List ℕ) (some : 0 < length
   pub quoted-closed : (rest : List ℕ) → after_quoted opts.ifs text ≡ Some rest → (quoted_row opts.ifs row text).quotes ≡ None
   quoted-closed rest is = on-closed opts row text rest (quoted_at text) is
 
--- quotes that were closed
+-- the row after quotes that were closed
 closed-row : (separator : List ℕ) (row : RowState) (text following : List ℕ) (found : Option Quoted) → option_map (λ q. q.following) found ≡ Some following
     → quotes_row separator row text found ≡ with_value row (quoted_value (in_quotes row ++ ((elim found [ Some q ↦ q.content | None ↦ open_text text ]) ++ before_next separator following)))
 closed-row separator row text following None is = absurd (let e : None ≡ Some following = is in cc)
@@ -254,7 +254,7 @@ module _ (separator : List ℕ) (row : RowState) (text following : List ℕ) (is
   pub closed-following-is : after_next separator following ≡ after_quoted separator text
   closed-following-is = closed-following separator following (quoted_at text) is
 
--- two spellings of what a search for the separator gives
+-- the search for a separator finds the part before it
 pub part-is : (separator text : List ℕ) → first_part separator text ≡ before_next separator text
 part-is separator text = refl
 
@@ -265,7 +265,7 @@ following-is separator text =
       | inr some ↦ ap (option_map (λ place. drop (place + length separator) text)) some.1 ∙ sym (ap (next_at separator text) some.1)
     ]
 
--- a row whose quotes are open goes on in them
+-- a row with an open quote continues within it
 pub taken-open : (opts : ReadOpts) (row : RowState) (text : List ℕ) → is_some row.quotes ≡ true → row_taken opts row text ≡ row_on opts.infer row (csv_reading opts.ifs (34 ∷ text))
 taken-open opts row text is_open =
     elim (cases_Option row.quotes) as (λ _. row_taken opts row text ≡ row_on opts.infer row (csv_reading opts.ifs (34 ∷ text))) [

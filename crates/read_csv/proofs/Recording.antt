@@ -21,7 +21,7 @@ take-distinct before [] (suc n) = refl
 take-distinct before (name ∷ names) zero = refl
 take-distinct before (name ∷ names) (suc n) = ap (λ more. free_name before name ∷ more) (take-distinct (before ++ free_name before name ∷ []) names n)
 
--- a distinct name is the name as it is free behind those before it
+-- a distinct name is the first free form of the name after the names before it
 distinct-at : (before names : List (List ℕ)) (place : ℕ) (name key : List ℕ) → place < length names
     → get_or (distinct_after before names) place key ≡ free_name (before ++ take place (distinct_after before names)) (get_or names place name)
 distinct-at before [] place name key below = absurd (omega arith)
@@ -36,7 +36,7 @@ keys-paired [] values same = refl
 keys-paired (name ∷ names) [] same = absurd (omega arith)
 keys-paired (name ∷ names) (value ∷ values) same = ap (λ more. name ∷ more) (keys-paired names values (omega arith))
 
--- the keys of a record that was made so
+-- the keys of a record with the first names
 pub keys-so-far : (header : List (List ℕ)) (values : List Tree) (place : ℕ) → place ≤ length header → place ≤ length values
     → keys_of (with_fields true [] (take place header) (take place values)) ≡ take place (distinct_names header)
 keys-so-far header values place low low_2 =
@@ -44,7 +44,7 @@ keys-so-far header values place low low_2 =
     (omega (arith, length-distinct [] (take place header), length-take place header, length-take place values))
     ∙ take-distinct [] header place
 
--- under distinct names, fields are put as they are pushed
+-- under distinct names, setting a field is the same as appending it
 pub fields-distinct : (dedupe distinct : Bool) (header : List (List ℕ)) (values : List Tree) (n : ℕ) → n ≤ length header → n ≤ length values → length header < 2 ^ 62
     → (distinct ≡ true → distinct_names header ≡ header) → with_fields (dedupe || distinct) [] (take n header) (take n values) ≡ with_fields dedupe [] (take n header) (take n values)
 fields-distinct true distinct header values n low low_2 few is = refl
@@ -68,7 +68,7 @@ with_fields-append dedupe pairs (name ∷ names) more (value ∷ values) rest sa
     ∙ with_fields-append dedupe (with_field dedupe name value pairs) names more values rest (omega arith)
     ∙ with_fields-more dedupe pairs name (names ++ more) value (values ++ rest)
 
--- one field more
+-- one more field
 pub with_fields-one : (dedupe : Bool) (header : List (List ℕ)) (values : List Tree) (place : ℕ) (name : List ℕ) (value : Tree) → place < length header → place < length values
     → with_field dedupe (get_or header place name) (get_or values place value) (with_fields dedupe [] (take place header) (take place values))
     ≡ with_fields dedupe [] (take (place + 1) header) (take (place + 1) values)
@@ -80,7 +80,7 @@ with_fields-one dedupe header values place name value below below_2 =
     ∙ ap₂ (with_fields dedupe []) (sym (take_more header place name below)) (sym (take_more values place value below_2))
 
 module _ (header : List (List ℕ)) (pairs : List (List ℕ × Tree)) (place : ℕ) (below : place < length header) (few : length header < 2 ^ 62) (keys : keys_of pairs ≡ take place (distinct_names header)) where
-  -- a key of the header isn't there before its place
+  -- before its own place, a key of the header isn't in the record
   pub key-is : (key : List ℕ) → key ≡ get_or (distinct_names header) place key → key ≡ free_name (keys_of pairs) (get_or header place [])
   key-is key is = is ∙ distinct-at [] header place [] key below ∙ ap (λ k. free_name k (get_or header place [])) (sym keys)
 
@@ -90,7 +90,7 @@ module _ (header : List (List ℕ)) (pairs : List (List ℕ × Tree)) (place : �
       (ap (is_among (keys_of pairs)) (key-is key is)
       ∙ free_name-free (keys_of pairs) (get_or header place []) (omega (arith, ap length keys, length-take place (distinct_names header), length-distinct [] header)))
 
--- positions
+-- one more position
 pub positions-more : (n count : ℕ) → positions_from n (count + 1) ≡ positions_from n count ++ decimal (n + count) ∷ []
 positions-more n zero = ap (λ k. decimal k ∷ []) (omega arith)
 positions-more n (suc count) =
@@ -103,7 +103,7 @@ pub positions-first : (n count : ℕ) → 0 < count → positions_from n count �
 positions-first n zero some = absurd (omega arith)
 positions-first n (suc count) some = ap (λ k. decimal n ∷ positions_from (n + 1) k) (omega arith)
 
--- an item that was taken out
+-- an item that was moved out
 pub drop-at : {A B : Type 0} (f : A → B) (xs : List A) (place : ℕ) (x : A) (rest : List A) → drop place xs ≡ x ∷ rest
     → (drop (place + 1) xs ≡ rest) × ((d : B) → get_or (map f xs) place d ≡ f x) × (place < length xs)
 drop-at f [] zero x rest is = absurd (cc)
@@ -118,7 +118,7 @@ map-drop f xs zero = refl
 map-drop f [] (suc n) = refl
 map-drop f (x ∷ xs) (suc n) = map-drop f xs n
 
--- a field that was pushed, and one that was put
+-- a field that was appended, and one that was set
 pub pushed-is : (dedupe : Bool) → dedupe ≡ true → (pairs : List (List ℕ × Tree)) (name key : List ℕ) (value : Tree) → key ≡ free_name (keys_of pairs) name → pairs ++ (key, value) ∷ [] ≡ with_field dedupe name value pairs
 pushed-is dedupe is pairs name key value free = ap (λ k. pairs ++ (k, value) ∷ []) free ∙ ap (λ d. with_field d name value pairs) (sym is)
 
@@ -133,7 +133,7 @@ module _ (dedupe : Bool) (header : List (List ℕ)) (values : List Tree) (place 
   pub one-more : (name : List ℕ) (value : Tree) → with_field dedupe (get_or header place name) (get_or values place value) pairs ≡ with_fields dedupe [] (take (place + 1) header) (take (place + 1) values)
   one-more name value = ap (with_field dedupe (get_or header place name) (get_or values place value)) fields ∙ with_fields-one dedupe header values place name value below below_2
 
--- a field makes a record longer by one at most
+-- a field makes a record longer by at most one
 length-put_at : (key : List ℕ) (value : Tree) (pairs : List (List ℕ × Tree)) → length (put_at key value pairs) ≤ length pairs + 1
 length-put_at key value [] = omega arith
 length-put_at key value (pair ∷ pairs) =
@@ -154,7 +154,7 @@ length-with_fields dedupe pairs (name ∷ names) [] same = absurd (omega arith)
 length-with_fields dedupe pairs (name ∷ names) (value ∷ values) same =
     omega (arith, ap length (with_fields-more dedupe pairs name names value values), length-with_fields dedupe (with_field dedupe name value pairs) names values (omega arith), length-with_field dedupe name value pairs)
 
--- one value more behind those of the header
+-- one more value after those of the header
 pub surplus-more : (dedupe : Bool) (pairs : List (List ℕ × Tree)) (place count : ℕ) (value : Tree) (values : List Tree) → place < count
     → with_fields dedupe (with_field dedupe (decimal (place + 1)) value pairs) (positions_from (place + 1 + 1) (count - (place + 1))) values
     ≡ with_fields dedupe pairs (positions_from (place + 1) (count - place)) (value ∷ values)
@@ -166,7 +166,7 @@ surplus-more dedupe pairs place count value values below =
 pub surplus-none : (dedupe : Bool) (pairs : List (List ℕ × Tree)) (n count : ℕ) (values : List Tree) → count ≡ 0 → values ≡ [] → with_fields dedupe pairs (positions_from n count) values ≡ pairs
 surplus-none dedupe pairs n count values none empty = ap₂ (λ k vs. with_fields dedupe pairs (positions_from n k) vs) none empty ∙ with_fields-none dedupe pairs
 
--- the keys of a row
+-- the names of the header and the positions are the keys of a row
 keys-named : (header : List (List ℕ)) (n named : ℕ) → named ≤ n → named ≤ length header → (named < n → named ≡ length header) → take named header ++ positions_from (named + 1) (n - named) ≡ row_keys header n
 keys-named header n named low low_2 full =
     elim (cases_lt named n) as (λ _. take named header ++ positions_from (named + 1) (n - named) ≡ row_keys header n) [
@@ -189,7 +189,7 @@ row-made dedupe header values named low low_2 full =
     ∙ ap₂ (with_fields dedupe []) (keys-named header (length values) named low low_2 full) (take-append-drop named values)
     ∙ sym (record_of-is dedupe (row_keys header (length values)) values)
 
--- a value for each name
+-- a record with a value for each name
 pub full-made : (dedupe distinct : Bool) (header : List (List ℕ)) (values : List Tree) → length values ≡ length header → length header < 2 ^ 62 → (dedupe || distinct) ≡ true
     → (distinct ≡ true → distinct_names header ≡ header) → zip (distinct_names header) values ≡ record_of dedupe (row_keys header (length values)) values
 full-made dedupe distinct header values full few pushed is =

@@ -19,7 +19,7 @@ use Rattle.read_csv.proofs.Headings.{closed-are, header-following}
 use Rattle.read_csv.proofs.Opening.{joined}
 use Rattle.read_csv.proofs.Whole.{Closed, Fits, LeftOpen, ended-open, return-on, took, usable-some}
 
--- comments
+-- a comment is no fault
 no_fault-skipped : (opts : ReadOpts) (line : List ℕ) → has_fault (skipped_items opts line) ≡ false
 no_fault-skipped opts line =
     elim (cases_Bool (is_comment opts.comments line)) as (λ _. has_fault (skipped_items opts line) ≡ false) [
@@ -34,13 +34,13 @@ ctx-skipped opts line at =
       | inr other ↦ ap (λ t. ctx_after at (cond t (comment_items opts.comments line) [])) other
     ]
 
--- a row that is open has no fields yet
+-- a row with an open quote has no fields yet
 none-open : (opts : ReadOpts) (text : List ℕ) (row : RowState) → LeftOpen opts text row → row_fields opts text ≡ None
 none-open opts text row open_row =
     open_row.quoting text ∙ ap (csv_fields opts.ifs) (sym (append-nil text)) ∙ open_row.opens.goes_on []
     ∙ ap (option_map (joined open_row.done open_row.content)) (let e : csv_fields opts.ifs (34 ∷ []) ≡ None = refl in e)
 
--- what a line gives, and where the next one stands
+-- the items of a line, and the state after it
 pub record Step (rules : RowRules) (begun : Begun) (line : List ℕ) : Type 0 where
   pub items : List Item
   pub gives : gives_line rules line ≡ events_of rules.at items
@@ -57,7 +57,7 @@ pub record LastStep (rules : RowRules) (begun : Begun) (line : List ℕ) : Type 
   pub items_are : last_items rules line ≡ end_items rules.opts rules.file rules.number begun rules.header line
   pub at_is : (after_text rules line).at ≡ ctx_after rules.at (last_items rules line)
 
--- an if by its test
+-- `cond`, with the test as first argument
 abbrev branch : {A : Type 0} → Bool → A → A → A
 branch t a b = cond t a b
 
@@ -80,7 +80,7 @@ module _ (rules : RowRules) (begun : Begun) (fits : Fits rules.opts begun rules.
   abbrev finished : List ℕ → RowRules → RowRules
   finished line next = record next { number = next.number + 1; row = with_end next.row (line_end line) }
 
-  -- what comes behind a line that is no fault
+  -- the state after a line that isn't a fault
   abbrev row_now : List ℕ → RowState
   row_now text = row_taken rules.opts rules.row text
 
@@ -107,7 +107,7 @@ module _ (rules : RowRules) (begun : Begun) (fits : Fits rules.opts begun rules.
             ])) skipped;
       }
 
-  -- a line that isn't skipped, by what its row comes to
+  -- a line that isn't skipped, by the state of its row
   module _ (line : List ℕ) (goes : rules.stopped ≡ false) (taken : is_passed rules (without_return line) ≡ false) where
     abbrev text : List ℕ
     text = without_return line

@@ -1,4 +1,4 @@
--- What rows come to line by line is what the file stands for.
+-- The rows that are read line by line are the rows of the file.
 use Rattle.std.proofs.Common.{◌≡◌, ℕ, ◌+◌, ◌<◌, true, List, [], ◌∷◌, ◌++◌, map, length, Option, Some, None, ◌⊎◌, refl, ap, ap₂, sym, subst, ◌∙◌, append_assoc, arith, inl, inr}
 use Rattle.std.specs.Option.{option_map}
 use Rattle.std.proofs.lemmas.Bool.{true≢false}
@@ -15,11 +15,11 @@ use Rattle.read_csv.specs.Usable.{is_usable, is_usable_as, has_bytes}
 use Rattle.read_csv.proofs.Ends.{line_end-is, return-following}
 use Rattle.read_csv.proofs.Opening.{Opens, fields_read, grown, joined, opens, opens-more, opens-text, csv-read}
 
--- the options, where a row may be open
+-- the format has quotes, so that a row may be open
 abbrev pub IsQuoting : ReadOpts → Type 0
 IsQuoting opts = (text : List ℕ) → row_fields opts text ≡ csv_fields opts.ifs text
 
--- a text that leaves quotes open, and the row that it has come to
+-- a text that leaves a quote open, and the row after it
 pub record LeftOpen (opts : ReadOpts) (text : List ℕ) (row : RowState) : Type 0 where
   pub done : List Field
   pub content : List ℕ
@@ -27,13 +27,13 @@ pub record LeftOpen (opts : ReadOpts) (text : List ℕ) (row : RowState) : Type 
   pub row_is : row ≡ record { values = map (value_of opts.infer) done; quotes = Some content }
   pub opens : Opens opts.ifs text done content
 
--- a text that closes a row
+-- a text that ends a row, and the row after it
 pub record Closed (opts : ReadOpts) (text : List ℕ) (row : RowState) : Type 0 where
   pub found : List Field
   pub row_is : row ≡ record { values = map (value_of opts.infer) found; quotes = None }
   pub fields_are : row_fields opts text ≡ Some found
 
--- the row as far as it has come stands for the lines on which it has begun
+-- the row so far represents the lines of the row that has begun
 abbrev pub Fits : ReadOpts → Begun → ℕ → RowState → Type 0
 Fits opts None begins row = row ≡ no_row
 Fits opts (Some begun) begins row = (begins ≡ begun.0) × LeftOpen opts (begun.1 ++ 10 ∷ []) row
@@ -53,7 +53,7 @@ usable-some format.Xtab opts is = absurd (true≢false (sym is))
 usable-some format.Pprint opts is = absurd (true≢false (sym is))
 usable-some format.Markdown opts is = absurd (true≢false (sym is))
 
--- what a reading makes of a row that began with it
+-- the row after a reading that begins it
 module _ (opts : ReadOpts) (some : 0 < length opts.ifs) where
   left-open : (text : List ℕ) → IsQuoting opts → (reading : Reading) → csv_reading opts.ifs text ≡ reading → (left : Option (List ℕ)) → reading.left_open ≡ left
       → LeftOpen opts text (row_with opts.infer no_row reading) ⊎ Closed opts text (row_with opts.infer no_row reading)
@@ -95,7 +95,7 @@ module _ (opts : ReadOpts) (some : 0 < length opts.ifs) where
   map-same None = refl
   map-same (Some c) = refl
 
-  -- a reading behind an open quote, put to the row
+  -- a reading after an open quote, added to the row
   on-is : (done : List Field) (content : List ℕ) (fields : List Field) (left : Option (List ℕ))
       → row_on opts.infer (record { values = map (value_of opts.infer) done; quotes = Some content }) (record { fields = fields; left_open = left })
       ≡ record { values = map (value_of opts.infer) (joined done content fields); quotes = option_map (grown content fields) left }
@@ -130,7 +130,7 @@ module _ (opts : ReadOpts) (some : 0 < length opts.ifs) where
         })
       ] left_is row_is fields_are
 
-  -- a text of a row, taken by the row as far as it has come
+  -- one more line of a row
   pub took : is_usable opts ≡ true → (begun : Begun) (begins : ℕ) (row : RowState) → Fits opts begun begins row → (text : List ℕ)
       → LeftOpen opts (goes_on begun text) (row_taken opts row text) ⊎ Closed opts (goes_on begun text) (row_taken opts row text)
   took usable None begins row fits text =
@@ -144,7 +144,8 @@ module _ (opts : ReadOpts) (some : 0 < length opts.ifs) where
       (subst (λ r. LeftOpen opts ((begun.1 ++ 10 ∷ []) ++ text) r ⊎ Closed opts ((begun.1 ++ 10 ∷ []) ++ text) r) (sym taken)
       (on-more (begun.1 ++ 10 ∷ []) text row open_row (csv_reading opts.ifs (34 ∷ text)) refl (csv_reading opts.ifs (34 ∷ text)).left_open refl))
 
-  -- the CR before the line end is no part of a row that ends, and the line end goes into open quotes
+  -- a row that ends doesn't contain the CR before its line ending; an open quote contains the whole line
+  -- ending
   pub return-on : (begun : Begun) (line : List ℕ) → without_return (goes_on begun line) ≡ goes_on begun (without_return line)
   return-on None line = refl
   return-on (Some begun) line = return-following begun.1 line

@@ -1,4 +1,4 @@
--- A line counts one at most: it gives one item at most.
+-- A line raises the counters by at most one, since it gives at most one item.
 use Rattle.std.specs.Prelude.{ℕ, ◌+◌, ◌≤◌, ◌||◌, ◌==◌, Bool, true, false, if◌then◌else◌, List, [], ◌∷◌, length, Option, Some, None, is_some}
 use Rattle.std.proofs.Common.{arith}
 use Rattle.mlr_lines.specs.Lines.{without_return}
@@ -35,7 +35,7 @@ one-record at (fault f ∷ items) few = (omega arith, omega arith)
 one-record at (comment text ∷ item ∷ items) few = absurd (omega arith)
 one-record at (fields pairs ∷ item ∷ items) few = absurd (omega arith)
 
--- the counters of one that comes next
+-- the counters of a state after one more line
 abbrev IsNext : RowRules → RowRules → Type 0
 IsNext rules next = (next.number ≤ rules.number) × (next.at.nr ≤ rules.at.nr + 1) × (next.at.fnr ≤ rules.at.fnr + 1)
 

@@ -1,4 +1,4 @@
--- The first byte that a text with escapes stands for.
+-- The first byte of a text with escapes.
 use Rattle.std.specs.Prelude.{◌≡◌, ℕ, ◌<◌, List, ◌∷◌, length}
 use Rattle.read_csv.specs.Fields.{unescaped}
 

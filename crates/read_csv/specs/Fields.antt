@@ -1,4 +1,4 @@
--- A row of CSV or TSV as its fields, after RFC 4180.
+-- The fields of a row of CSV, by RFC 4180, or of TSV.
 use Rattle.std.specs.Prelude.{ℕ, zero, suc, ◌+◌, if◌then◌else◌, Bool, true, false, ◌&&◌, ◌==◌, List, [], ◌∷◌, ◌++◌, map, length, take, drop, Option, Some, None}
 use Rattle.std.specs.Option.{option_map}
 use Rattle.mlr_spec.specs.Ascii.{tab, line_feed, quote_mark, backslash, letter_n, letter_t}
@@ -7,13 +7,13 @@ use Rattle.mlr_spec.specs.declared.infer.InferOpts.{InferOpts}
 use Rattle.mlr_spec.specs.Split.{place_in, split_by}
 use Rattle.mlr_spec.specs.Tree.{Tree, empty, string}
 
--- a field: its text, and whether it stood in quotes
+-- a field: its text, and whether it was quoted
 pub record Field : Type 0 where
   pub quoted : Bool
   pub text : List ℕ
 
--- what stands in quotes, behind the opening one, up to the closing one, where two quotes are one; and what stands behind
--- that. None where no quote closes it.
+-- the text after an opening quote: `content` is up to the closing quote, where two quotes are one, and
+-- `following` is the text after the closing quote. None if no quote closes it.
 pub record Quoted : Type 0 where
   pub content : List ℕ
   pub following : List ℕ
@@ -28,14 +28,15 @@ quoted_at (b ∷ c ∷ text) =
     if b == quote_mark && c == quote_mark then with_byte quote_mark (quoted_at text) else (
     if b == quote_mark then Some (record { content = []; following = c ∷ text }) else with_byte b (quoted_at (c ∷ text)))
 
--- what stands before the next separator, and what stands behind it if there is one
+-- the text before the first separator, and the text after it if there is one
 abbrev pub before_next : List ℕ → List ℕ → List ℕ
 before_next separator text = elim (place_in separator text) [ Some place ↦ take place text | None ↦ text ]
 
 abbrev pub after_next : List ℕ → List ℕ → Option (List ℕ)
 after_next separator text = elim (place_in separator text) [ Some place ↦ Some (drop (place + length separator) text) | None ↦ None ]
 
--- the first field of a text, and what stands behind its separator; None where its quote is open
+-- the first field of a text, and the text after its separator if there is one; None if the field's quote
+-- isn't closed
 pub record First : Type 0 where
   pub field : Field
   pub following : Option (List ℕ)
@@ -43,18 +44,19 @@ pub record First : Type 0 where
 abbrev pub first_plain : List ℕ → List ℕ → Option First
 first_plain separator text = Some (record { field = record { quoted = false; text = before_next separator text }; following = after_next separator text })
 
--- bytes between the closing quote and the next separator are appended as they are
+-- text between the closing quote and the next separator is appended to the field as it is
 abbrev pub first_quoted : List ℕ → Option Quoted → Option First
 first_quoted separator found = option_map (λ q. record {
   field = record { quoted = true; text = q.content ++ before_next separator q.following };
   following = after_next separator q.following;
 }) found
 
+-- a field is quoted if it begins with a quote
 abbrev pub first_field : List ℕ → List ℕ → Option First
 first_field separator [] = first_plain separator []
 first_field separator (b ∷ text) = if b == quote_mark then first_quoted separator (quoted_at text) else first_plain separator (b ∷ text)
 
--- the fields of a row, in at most n steps; None where a quote is open
+-- the fields of a row, in at most n steps; None if a quote isn't closed
 abbrev pub fields_from : ℕ → List ℕ → List ℕ → Option (List Field)
 fields_from zero separator text = None
 fields_from (suc n) separator text = elim (first_field separator text) [
@@ -65,10 +67,12 @@ fields_from (suc n) separator text = elim (first_field separator text) [
   ]
 ]
 
+-- the fields of a row; None if a quote isn't closed
 abbrev pub csv_fields : List ℕ → List ℕ → Option (List Field)
 csv_fields separator text = fields_from (length text + 1) separator text
 
--- TSV has no quotes: `\t`, `\n` and `\\` stand for tab, newline and backslash, another pair for itself
+-- TSV has no quotes: `\t`, `\n` and `\\` are the escapes of tab, newline and backslash; any other backslash
+-- is itself
 abbrev pub unescaped : List ℕ → List ℕ
 unescaped [] = []
 unescaped (b ∷ []) = b ∷ []
@@ -80,7 +84,7 @@ unescaped (b ∷ c ∷ text) =
 abbrev pub tsv_fields : List ℕ → List ℕ → List Field
 tsv_fields separator text = map (λ part. record { quoted = false; text = unescaped part }) (split_by separator text)
 
--- the value of a field: one that stood in quotes isn't inferred
+-- the value of a field: its type is inferred only if the field isn't quoted
 abbrev pub quoted_value : List ℕ → Tree
 quoted_value [] = empty
 quoted_value (b ∷ text) = string (b ∷ text)

@@ -1,4 +1,4 @@
--- A row that is read line by line: the values of the fields that have ended, and what stands in quotes that are open.
+-- A row that is read line by line: the values of its ended fields, and the text within an open quote.
 use Rattle.std.specs.Prelude.{ℕ, zero, suc, ◌+◌, if◌then◌else◌, Bool, false, ◌&&◌, ◌==◌, List, [], ◌∷◌, ◌++◌, map, length, drop, Option, Some, None, unwrap_or}
 use Rattle.std.specs.Option.{option_map}
 use Rattle.mlr_spec.specs.Ascii.{quote_mark}
@@ -8,17 +8,17 @@ use Rattle.mlr_event.specs.declared.options.Format.TheVariants as format
 use Rattle.mlr_event.specs.declared.options.ReadOpts.{ReadOpts}
 use Rattle.read_csv.specs.Fields.{Field, quoted_at, before_next, after_next, first_field, tsv_fields, quoted_value, value_of}
 
--- what stands in quotes that no quote closes
+-- the text after an opening quote that isn't closed, where two quotes are one
 abbrev pub open_text : List ℕ → List ℕ
 open_text [] = []
 open_text (b ∷ []) = b ∷ []
 open_text (b ∷ c ∷ text) = if b == quote_mark && c == quote_mark then quote_mark ∷ open_text text else b ∷ open_text (c ∷ text)
 
--- what stands in quotes up to the closing one, or as far as the text goes
+-- the text after an opening quote, up to the closing quote or the end of the text
 abbrev pub inside : List ℕ → List ℕ
 inside text = elim (quoted_at text) [ Some q ↦ q.content | None ↦ open_text text ]
 
--- what stands behind the closing quote, if there is one
+-- the text after the closing quote, if there is one
 abbrev pub after_quotes : List ℕ → Option (List ℕ)
 after_quotes text = option_map (λ q. q.following) (quoted_at text)
 
@@ -26,7 +26,7 @@ abbrev pub starts_quoted : List ℕ → Bool
 starts_quoted [] = false
 starts_quoted (b ∷ text) = b == quote_mark
 
--- the fields of a text that have ended, and what stands in the quotes of the last one if they are open
+-- the ended fields of a text, and the text within the last field's quote if it is open
 pub record Reading : Type 0 where
   pub fields : List Field
   pub left_open : Option (List ℕ)
@@ -44,6 +44,7 @@ reading_from (suc n) separator text = elim (first_field separator text) [
   ]
 ]
 
+-- the reading of one line of a row, by the format
 abbrev pub csv_reading : List ℕ → List ℕ → Reading
 csv_reading separator text = reading_from (length text + 1) separator text
 
@@ -56,7 +57,7 @@ row_reading opts text = elim opts.format [
   | _ ↦ csv_reading opts.ifs text
 ]
 
--- a row that has begun
+-- a row that is being read: the values of the ended fields, and the text within an open quote
 pub record RowState : Type 0 where
   pub values : List Tree
   pub quotes : Option (List ℕ)
@@ -67,15 +68,15 @@ no_row = record { values = []; quotes = None }
 abbrev pub in_quotes : RowState → List ℕ
 in_quotes row = unwrap_or row.quotes []
 
--- another field of this value, which closes the quotes
+-- the row with one more value, and no open quote
 abbrev pub with_value : RowState → Tree → RowState
 with_value row value = record { values = row.values ++ value ∷ []; quotes = None }
 
--- more in the quotes
+-- the row with more text within its open quote
 abbrev pub with_text : RowState → List ℕ → RowState
 with_text row text = record { values = row.values; quotes = Some (in_quotes row ++ text) }
 
--- the row behind what stands behind its opening quote, up to the separator behind the closing one
+-- the row after the rest of a quoted field, which ends at the next separator after the closing quote
 abbrev pub quoted_row : List ℕ → RowState → List ℕ → RowState
 quoted_row separator row text = elim (quoted_at text) [
   | None ↦ with_text row (open_text text)
@@ -85,7 +86,7 @@ quoted_row separator row text = elim (quoted_at text) [
 abbrev pub after_quoted : List ℕ → List ℕ → Option (List ℕ)
 after_quoted separator text = elim (quoted_at text) [ None ↦ None | Some q ↦ after_next separator q.following ]
 
--- the row behind its next field, and what stands behind the separator
+-- the row after one more field, and the text after that field's separator
 abbrev pub field_row : ReadOpts → RowState → List ℕ → RowState
 field_row opts row text =
     if starts_quoted text then quoted_row opts.ifs row (drop 1 text) else with_value row (value_of opts.infer (record { quoted = false; text = before_next opts.ifs text }))
@@ -93,18 +94,18 @@ field_row opts row text =
 abbrev pub after_row_field : List ℕ → List ℕ → Option (List ℕ)
 after_row_field separator text = if starts_quoted text then after_quoted separator (drop 1 text) else after_next separator text
 
--- the row with what was read where no quotes are open
+-- a row without open quote, after one more reading
 abbrev pub row_with : InferOpts → RowState → Reading → RowState
 row_with opts row more = record { values = row.values ++ map (value_of opts) more.fields; quotes = more.left_open }
 
--- the row with what was read as if it stood behind a quote, where quotes are open
+-- a row with an open quote, after a reading of the next line; its first field continues the open quote
 abbrev pub row_on : InferOpts → RowState → Reading → RowState
 row_on opts row more = elim more.fields [
   | [] ↦ record { values = row.values; quotes = option_map (λ text. in_quotes row ++ text) more.left_open }
   | field ∷ fields ↦ record { values = row.values ++ quoted_value (in_quotes row ++ field.text) ∷ map (value_of opts) fields; quotes = more.left_open }
 ]
 
--- the row behind a text
+-- the row after one more line; within an open quote, the line is read as if a quote preceded it
 abbrev pub row_taken : ReadOpts → RowState → List ℕ → RowState
 row_taken opts row text = elim row.quotes [
   | None ↦ row_with opts.infer row (row_reading opts text)

@@ -1,4 +1,4 @@
--- A text as its first quote cuts it.
+-- A text that is cut at its first quote.
 use Rattle.std.specs.Prelude.{◌≡◌, ℕ, ◌+◌, true, false, List, [], ◌∷◌, ◌++◌, length, drop, Some, None}
 use Rattle.mlr_spec.specs.Ascii.{quote_mark}
 use Rattle.read_csv.specs.OpenRow.{after_quotes, inside, starts_quoted}
@@ -7,7 +7,7 @@ pub record HasNoQuote (text : List ℕ) : Type 0 where
   pub content : inside text ≡ text
   pub following : after_quotes text ≡ None
 
--- two quotes are one, and go on; one closes
+-- two quotes in a row are one quote of the content; a single quote closes it
 pub record HasQuote (text prefix rest : List ℕ) : Type 0 where
   pub content : starts_quoted rest ≡ true → inside text ≡ (prefix ++ quote_mark ∷ []) ++ inside (drop 1 rest)
   pub following : starts_quoted rest ≡ true → after_quotes text ≡ after_quotes (drop 1 rest)

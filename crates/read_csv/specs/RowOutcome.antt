@@ -1,4 +1,4 @@
--- What a row gives.
+-- The items of a row's outcome.
 use Rattle.std.specs.Prelude.{List, [], ◌∷◌}
 use Rattle.mlr_event.specs.Reading.{Item, fields, fault}
 use Rattle.read_csv.specs.declared.row_outcome.RowOutcome.{RowOutcome}

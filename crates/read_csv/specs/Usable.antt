@@ -1,4 +1,4 @@
--- Options by which a file can be read row by row.
+-- The options with which the reader can read.
 use Rattle.std.specs.Prelude.{ℕ, Bool, true, false, List, [], ◌∷◌}
 use Rattle.mlr_event.specs.declared.options.Format.{Format}
 use Rattle.mlr_event.specs.declared.options.Format.TheVariants as format
@@ -8,7 +8,7 @@ abbrev pub has_bytes : List ℕ → Bool
 has_bytes [] = false
 has_bytes (b ∷ text) = true
 
--- CSV or TSV, with a separator
+-- the format is CSV or TSV, and the separator isn't empty
 abbrev pub is_usable_as : Format → ReadOpts → Bool
 is_usable_as format.Csv opts = has_bytes opts.ifs
 is_usable_as format.Tsv opts = has_bytes opts.ifs

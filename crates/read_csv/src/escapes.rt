@@ -1,3 +1,4 @@
+//! Resolves the escapes of TSV.
 ghost use Rattle.std.specs.Prelude.{◌≡◌, [], IfOk, MatchOption};
 ghost use Rattle.read_csv.specs.Fields.{unescaped};
 ghost use Rattle.read_csv.specs.Escapes.{Unescapes};
@@ -5,7 +6,7 @@ ghost use Rattle.read_csv.specs.Escapes.{Unescapes};
 use mlr_spec::NoMemory;
 use std::alloc::Global;
 
-/// The text with its escapes resolved.
+/// The text with its escapes resolved. It allocates once.
 pub(crate) fn unescape(alloc: Global, text: &[u8]) -> Result<Vec<u8>, NoMemory>
     ensures { IfOk result (λ made. made.items ≡ unescaped text.now) }
 {
@@ -18,7 +19,7 @@ pub(crate) fn unescape(alloc: Global, text: &[u8]) -> Result<Vec<u8>, NoMemory>
     Ok(made)
 }
 
-/// The first byte of the text that its escapes stand for, and what stands behind it.
+/// The first byte of the text, with its escape resolved, and the rest of the text.
 #[inline]
 fn next_byte(text: &[u8]) -> Option<(u8, &[u8])>
     ensures { MatchOption result (text.now ≡ []) (λ cut. Unescapes text.now cut.0 cut.1.now) }

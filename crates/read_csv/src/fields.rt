@@ -1,3 +1,4 @@
+//! Reads the fields of one line of a row.
 ghost use Rattle.std.specs.Prelude.{◌≡◌, ◌<◌, None, length, IfOk, OnOk, IfSome};
 ghost use Rattle.std.specs.Option.{option_map};
 ghost use Rattle.mlr_spec.specs.Infer.{tree_of_data};
@@ -12,7 +13,7 @@ use mlr_event::{Format, ReadOpts};
 use mlr_record::split::next_part;
 use mlr_spec::{InferOpts, NoMemory};
 
-/// Takes a text of a row without the line end behind it: a line, or a further line of a row whose quotes are open.
+/// Reads a line of a row, without its line ending: its first line, or a further line within an open quote.
 pub(crate) fn take_text(opts: &ReadOpts, row: &mut Row, text: &[u8]) -> Result<(), NoMemory>
     requires { 0 < length opts.now.ifs }
     ensures { OnOk result (row.new ≡ row_taken opts.now row.old text.now) }
@@ -29,7 +30,7 @@ pub(crate) fn take_text(opts: &ReadOpts, row: &mut Row, text: &[u8]) -> Result<(
     }
 }
 
-/// Takes the fields of a text that stands behind no open quote.
+/// Reads the fields of a text that isn't within an open quote.
 fn take_fields(opts: &ReadOpts, row: &mut Row, text: &[u8]) -> Result<(), NoMemory>
     requires ifs { 0 < length opts.now.ifs }
     requires closed { row.old.quotes ≡ None }
@@ -43,7 +44,7 @@ fn take_fields(opts: &ReadOpts, row: &mut Row, text: &[u8]) -> Result<(), NoMemo
     Ok(())
 }
 
-/// Takes the first field of a text, and says what stands behind the separator, if there is one.
+/// Reads the first field of a text, and returns the text after its separator, if there is one.
 #[inline]
 fn take_field<'t>(
     opts: &ReadOpts,
@@ -66,7 +67,7 @@ fn take_field<'t>(
     Ok(rest)
 }
 
-/// Takes the rest of a field from behind its opening quote on, and says what stands behind the separator, if there is
+/// Reads the rest of a field after its opening quote, and returns the text after its separator, if there is
 /// one.
 fn take_quoted<'t>(
     opts: &ReadOpts,
@@ -91,7 +92,7 @@ fn take_quoted<'t>(
     }
 }
 
-/// Takes the fields of a line of TSV.
+/// Reads the fields of a line of TSV.
 fn take_escaped(opts: &ReadOpts, row: &mut Row, text: &[u8]) -> Result<(), NoMemory>
     requires ifs { 0 < length opts.now.ifs }
     requires closed { row.old.quotes ≡ None }
@@ -109,7 +110,7 @@ fn take_escaped(opts: &ReadOpts, row: &mut Row, text: &[u8]) -> Result<(), NoMem
     }
 }
 
-/// Puts a field of TSV last.
+/// Appends a field of TSV to the row.
 #[inline]
 fn push_escaped(row: &mut Row, text: &[u8], infer: InferOpts) -> Result<(), NoMemory>
     requires { row.old.quotes ≡ None }

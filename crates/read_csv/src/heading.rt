@@ -1,3 +1,4 @@
+//! The header of a CSV file.
 ghost use Rattle.std.specs.Prelude.{◌≡◌, true, IfOk};
 ghost use Rattle.mlr_event.specs.Reading.{distinct_names};
 
@@ -7,7 +8,8 @@ use mlr_value::Bytes;
 use std::alloc::Global;
 use std::marker::Model;
 
-/// The header of a file. Whether its names are distinct is told once, so that rows under distinct names make no search.
+/// The header of a file. It records once whether the names are distinct, so that rows under distinct names
+/// need no search.
 #[derive(Drop)]
 pub(crate) struct Heading {
     header: Header,
@@ -36,7 +38,7 @@ impl Heading {
         Ok(Heading { header, distinct })
     }
 
-    /// The names, and the names as they are distinct.
+    /// The names as they are in the file, and made distinct.
     #[inline]
     pub(crate) fn header(&self) -> &Header
         ensures { result.now ≡ self.now }
@@ -44,7 +46,7 @@ impl Heading {
         &self.header
     }
 
-    /// Whether the names are distinct as they are.
+    /// Whether the names in the file are distinct.
     #[inline]
     pub(crate) fn is_distinct(&self) -> bool
         ensures { result ≡ true → distinct_names self.now ≡ self.now }

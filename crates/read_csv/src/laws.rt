@@ -1,3 +1,4 @@
+//! The laws of the events that the first bytes of a file fix.
 ghost use Rattle.std.specs.Prelude.{◌≡◌, ℕ, List, [], false, ◌++◌};
 ghost use Rattle.mlr_event.specs.declared.event.Ctx.{Ctx};
 ghost use Rattle.mlr_event.specs.declared.event.Event.{Event};
@@ -7,8 +8,9 @@ ghost use Rattle.mlr_event.specs.Reading.{is_comment};
 ghost use Rattle.read_csv.specs.Prefixes.{closed_prefix};
 ghost use Rattle.read_csv.specs.Rows.{csv_fed, csv_read};
 
-/// What a front of a file fixes: it stays whatever follows, and it is what the longest front that ends with a line end
-/// in no quote stands for as a whole file, where a comment prefix has a byte at least. It does nothing.
+/// The events that the first bytes of a file fix stay the same whatever bytes follow. They are the events of
+/// a shorter file: of the longest prefix that ends with a line ending outside quotes, provided that a comment
+/// prefix isn't empty. It does nothing.
 pub fn prefix_laws()
     ensures fed { (opts : ReadOpts) (file : FileRef) (start : Ctx) (bytes rest : List ℕ)
         → (more : List Event)

@@ -1,3 +1,4 @@
+//! Reads a line as part of a row, and a row as header or record.
 ghost use Rattle.std.specs.Prelude.{◌≡◌, ◌+◌, ◌^◌, ◌<◌, ◌≤◌, ◌++◌, ◌∷◌, [], false, length, drop, IfOk, OnOk, None};
 ghost use Rattle.mlr_event.specs.Reading.{events_of};
 ghost use Rattle.read_csv.specs.RowOutcome.{outcome_items};
@@ -62,7 +63,7 @@ impl LineFormat for RowRules {
 }
 
 impl RowRules {
-    /// Takes a text: a line without its end.
+    /// Reads a line without its line ending, and appends its events to `out`.
     fn take(&mut self, text: &[u8], out: &mut Events) -> Result<(), NoMemory>
         requires count { count_of self.old < 2 ^ 63 }
         requires goes_on { self.old.stopped ≡ false }
@@ -81,7 +82,7 @@ impl RowRules {
         self.take_row(text, out)
     }
 
-    /// Takes a text that isn't skipped.
+    /// Reads a line that isn't skipped, and appends its events to `out`.
     fn take_row(&mut self, text: &[u8], out: &mut Events) -> Result<(), NoMemory>
         requires count { count_of self.old < 2 ^ 63 }
         requires goes_on { self.old.stopped ≡ false }
@@ -104,7 +105,7 @@ impl RowRules {
         }
     }
 
-    /// Reads a text that isn't skipped, and says what the row gives that it ends.
+    /// Reads a line that isn't skipped, and returns the outcome of the row if the line ends it.
     fn read_row(&mut self, text: &[u8]) -> Result<RowOutcome, NoMemory>
         ensures items { IfOk result (λ given. outcome_items given
             ≡ row_gives self.old (row_taken self.old.opts self.old.row text.now)) }
@@ -132,7 +133,7 @@ impl RowRules {
         )
     }
 
-    /// The line on which the row of the next line begins.
+    /// The number of the line on which the next line's row begins.
     #[inline]
     fn begins_now(&self) -> u64
         ensures { result ≡ begins_now self.now }
@@ -145,7 +146,7 @@ impl RowRules {
     }
 }
 
-/// Takes the fields out of a row that has ended, as a header or under one.
+/// Takes the fields of an ended row, as the header or under it.
 fn close_row(
     alloc: Global,
     opts: &ReadOpts,
@@ -176,7 +177,7 @@ fn close_row(
     }
 }
 
-/// Takes the fields out of a row under a header.
+/// Takes the fields of an ended row under a header.
 fn give_row(
     alloc: Global,
     opts: &ReadOpts,
@@ -205,7 +206,7 @@ fn give_row(
     }))
 }
 
-/// The header that the first row makes.
+/// The header that the first row gives: its texts, or positions if the header is implicit.
 fn first_header(alloc: Global, implicit: bool, row: &Row) -> Result<Heading, NoMemory>
     ensures { IfOk result (λ header. header ≡ header_of implicit row.now.values) }
 {
@@ -217,7 +218,7 @@ fn first_header(alloc: Global, implicit: bool, row: &Row) -> Result<Heading, NoM
     Heading::new(alloc, names)
 }
 
-/// Puts what stands behind a place of a line, and LF, into quotes that are open.
+/// Appends the line ending, which begins at `place`, to an open quote.
 #[inline]
 fn end_line(row: &mut Row, line: &[u8], place: usize) -> Result<(), NoMemory>
     requires { place ≤ length line.now }

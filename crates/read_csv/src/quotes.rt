@@ -1,3 +1,4 @@
+//! Reads the text within quotes.
 ghost use Rattle.std.specs.Prelude.{◌≡◌, ◌≤◌, length, drop, IfOk, OnOk, IfSome, MatchOption};
 ghost use Rattle.std.specs.Option.{option_map};
 ghost use Rattle.read_csv.specs.OpenRow.{after_quotes, inside, starts_quoted, with_text};
@@ -18,7 +19,7 @@ pub(crate) fn starts_quoted(text: &[u8]) -> bool
     }
 }
 
-/// The text from a place on.
+/// The text from `place` on.
 #[inline]
 pub(crate) fn following(text: &[u8], place: usize) -> &[u8]
     requires { place ≤ length text.now }
@@ -27,7 +28,7 @@ pub(crate) fn following(text: &[u8], place: usize) -> &[u8]
     &text[place..]
 }
 
-/// What stands before the first quote, and what stands behind it.
+/// The text before the first quote and the text after it.
 #[inline]
 fn first_quote(text: &[u8]) -> Option<(&[u8], &[u8])>
     ensures { MatchOption result (HasNoQuote text.now)
@@ -37,8 +38,8 @@ fn first_quote(text: &[u8]) -> Option<(&[u8], &[u8])>
     Some((&text[..place], following(text, place + 1)))
 }
 
-/// Puts what stands in quotes, from behind the opening one on, into the quotes of the row, and says what stands behind
-/// the closing one if there is one.
+/// Appends the text after an opening quote, up to the closing one, to the row's open quote. Returns the text
+/// after the closing quote, if there is one.
 pub(crate) fn unquote<'t>(row: &mut Row, text: &'t [u8]) -> Result<Option<&'t [u8]>, NoMemory>
     ensures row { OnOk result (row.new ≡ with_text row.old (inside text.now)) }
     ensures following { IfOk result (λ found. option_map (λ rest. rest.now) found

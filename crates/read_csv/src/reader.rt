@@ -1,3 +1,4 @@
+//! The reader of CSV and TSV.
 ghost use Rattle.std.specs.Prelude.{◌≡◌, ◌↔◌, ◌+◌, ◌^◌, ◌≤◌, ℕ, List, [], ◌++◌, true, length, max, IsTrue, IfOk, OnOk, OnErr};
 ghost use Rattle.mlr_event.specs.declared.event.Ctx.{Ctx};
 ghost use Rattle.mlr_event.specs.declared.names.FileRef.{FileRef};
@@ -14,12 +15,12 @@ use mlr_lines::Lines;
 use mlr_spec::NoMemory;
 use std::alloc::Global;
 
-/// Reads one file in CSV or TSV, whose bytes come in pieces that are cut anywhere.
+/// Reads one file of CSV or TSV, whose bytes come in pieces that may be cut anywhere.
 pub struct CsvReader {
     lines: Lines<RowRules>,
 }
 
-// Written out, so that the crates above call it and don't go into the fields.
+// Written out, so that crates above call it and don't depend on the fields.
 impl Drop for CsvReader {
     fn drop(self) {
         let CsvReader { lines } = self;
@@ -27,7 +28,7 @@ impl Drop for CsvReader {
     }
 }
 
-/// Whether a reader can read by these options: CSV or TSV, with a separator that has bytes.
+/// Whether a reader can read with these options: the format is CSV or TSV, and the separator isn't empty.
 pub fn can_read(opts: &ReadOpts) -> bool
     ensures { result ≡ is_usable opts.now }
 {
@@ -38,8 +39,9 @@ pub fn can_read(opts: &ReadOpts) -> bool
 }
 
 impl CsvReader {
-    /// No bytes yet. `start` is the context of the last record before this file, with the number of this file and
-    /// no record of it. It takes memory for separators and prefixes of more than 16 bytes.
+    /// A reader at the start of a file. `start` is the context of the last record before this file, with the
+    /// number of this file and no record of it. It allocates only for separators and prefixes of more than 16
+    /// bytes.
     pub fn new(
         alloc: Global,
         opts: &ReadOpts,
@@ -69,8 +71,8 @@ impl CsvReader {
         })
     }
 
-    /// Takes the next piece of the file, and puts the events of the rows that it ends behind `out`. Behind a fault
-    /// it puts nothing.
+    /// Reads the next piece of the file, and appends the events of the rows that it ends to `out`. After a
+    /// fault it appends nothing.
     pub fn feed(&mut self, piece: &[u8], out: &mut Events) -> Result<(), NoMemory>
         requires { CanTake self.old (length piece.now) }
         ensures represents { OnOk result ((opts : ReadOpts) (file : FileRef) (start : Ctx)
@@ -89,8 +91,8 @@ impl CsvReader {
         self.lines.feed(piece, out)
     }
 
-    /// Takes the end of the file, and puts the events of the last row behind `out`, or a fault
-    /// where its quotes are open.
+    /// Reads the end of the file, and appends the events of the last row to `out`, or a fault if a quote is
+    /// open.
     pub fn end(&mut self, out: &mut Events) -> Result<(), NoMemory>
         requires { CanTake self.old 0 }
         ensures represents { OnOk result ((opts : ReadOpts) (file : FileRef) (start : Ctx)
@@ -109,7 +111,7 @@ impl CsvReader {
         self.lines.end(out)
     }
 
-    /// The context of the last record so far, or the start.
+    /// The context of the last record so far, or else the start.
     pub fn ctx(&self) -> Ctx
         ensures fed { (opts : ReadOpts) (file : FileRef) (start : Ctx) (bytes : List ℕ)
             → Represents opts file start self.now bytes → result ≡ ctx_fed opts file start bytes }
@@ -122,7 +124,7 @@ impl CsvReader {
         self.lines.format().at
     }
 
-    /// Whether a call found no memory. Then nothing more may be asked of it.
+    /// Whether a call ran out of memory. Then no further call is allowed.
     pub fn is_broken(&self) -> bool
         ensures { IsTrue result ↔ IsBroken self.now }
     {

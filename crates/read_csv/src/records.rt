@@ -1,3 +1,4 @@
+//! Makes records of a header and the values of a row.
 ghost use Rattle.std.specs.Prelude.{◌≡◌, ◌+◌, ◌-◌, ◌<◌, ◌≤◌, ◌^◌, ◌∷◌, [], length, map, take, drop, IfOk, OnOk, vec_len};
 ghost use Rattle.std.specs.List.{zip};
 ghost use Rattle.mlr_event.specs.Reading.{distinct_names, record_of};
@@ -16,10 +17,10 @@ use mlr_value::{Bytes, Value};
 use std::alloc::Global;
 use std::mem;
 
-/// More fields than any memory holds.
+/// A number of fields that no memory can hold.
 const MANY: usize = 1 << 62;
 
-/// Finds no memory for more fields than any memory holds.
+/// Returns an error if there are more fields than any memory can hold.
 #[inline]
 fn few(count: usize) -> Result<(), NoMemory>
     ensures { OnOk result (count < 2 ^ 62) }
@@ -27,7 +28,7 @@ fn few(count: usize) -> Result<(), NoMemory>
     if count < MANY { Ok(()) } else { Err(NoMemory) }
 }
 
-/// The record of a row of these values, which are taken out.
+/// The record of a row of these values, which it moves out of `values`.
 pub(crate) fn record_of_row(
     alloc: Global,
     dedupe: bool,
@@ -52,8 +53,8 @@ pub(crate) fn record_of_row(
     Ok(record)
 }
 
-/// The record of a row that has a value for each name of the header, under the names as they are distinct. Almost all
-/// rows are so.
+/// The record of a row that has a value for each name of the header, under the distinct names. This is the
+/// common case.
 fn full_record(alloc: Global, names: &Header, values: &mut Vec<Value>) -> Result<Record, NoMemory>
     requires full { length names.now ≡ vec_len values.old }
     requires few { length names.now < 2 ^ 62 }
@@ -65,8 +66,8 @@ fn full_record(alloc: Global, names: &Header, values: &mut Vec<Value>) -> Result
     Record::of_values(alloc, names.keys(), mem::replace(values, room))
 }
 
-/// Puts the first values into an empty record, under the names of the header: each made distinct, which takes no
-/// search, or with the last value where a name repeats.
+/// Moves the first `named` values into an empty record, under the names of the header. With `dedupe` each
+/// name is distinct, so no search is needed; else the last value of a repeated name remains.
 fn put_named(
     dedupe: bool,
     header: &Header,
@@ -94,7 +95,7 @@ fn put_named(
     Ok(())
 }
 
-/// Puts the values from a place on into the record, each under its position.
+/// Moves the values from place `named` on into the record, each under its position.
 fn put_surplus(
     alloc: Global,
     dedupe: bool,
@@ -122,7 +123,7 @@ fn put_surplus(
     Ok(())
 }
 
-/// Takes the value at this place.
+/// Moves the value out of its place.
 #[inline]
 fn taken(values: &mut Vec<Value>, place: usize) -> Value
     requires { place < vec_len values.old }
@@ -132,7 +133,7 @@ fn taken(values: &mut Vec<Value>, place: usize) -> Value
     mem::replace(&mut values[place], Value::Empty)
 }
 
-/// The keys 1, 2, 3 and so on.
+/// The keys 1, 2, 3 and so on, up to `count`.
 pub(crate) fn positions(alloc: Global, count: usize) -> Result<Vec<Bytes>, NoMemory>
     ensures { IfOk result (λ made. made.items ≡ positions_from 1 count) }
 {
@@ -145,7 +146,7 @@ pub(crate) fn positions(alloc: Global, count: usize) -> Result<Vec<Bytes>, NoMem
     Ok(made)
 }
 
-/// The texts of values from data.
+/// The texts from which these values were read.
 pub(crate) fn texts(alloc: Global, values: &[Value]) -> Result<Vec<Bytes>, NoMemory>
     ensures { IfOk result (λ made. made.items ≡ map source_of (map tree_of values.now)) }
 {
@@ -156,7 +157,7 @@ pub(crate) fn texts(alloc: Global, values: &[Value]) -> Result<Vec<Bytes>, NoMem
     Ok(made)
 }
 
-/// The text of a value from data.
+/// The text from which the value was read.
 #[inline]
 fn source_text(value: &Value) -> &[u8]
     ensures { result.now ≡ source_of (tree_of value.now) }

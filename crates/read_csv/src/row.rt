@@ -1,3 +1,4 @@
+//! Holds the fields of a row while it is read.
 ghost use Rattle.std.specs.Prelude.{◌≡◌, OnOk, IfOk, is_some, None, length, map};
 ghost use Rattle.mlr_spec.specs.Infer.{tree_of_data};
 ghost use Rattle.mlr_event.specs.Reading.{record_of};
@@ -14,15 +15,15 @@ use mlr_value::{Bytes, Value, from_data};
 use std::alloc::Global;
 use std::marker::Model;
 
-/// A row that is being read. It is kept for the next one, with its room.
+/// A row that is being read. It is reused for the next row, with its capacity.
 #[derive(Drop)]
 pub(crate) struct Row {
     alloc: Global,
     /// The fields that have ended.
     values: Vec<Value>,
-    /// Whether the quotes of the next one are open.
+    /// Whether the quote of the next field is open.
     quoted: bool,
-    /// What stands in them so far.
+    /// The text within that quote so far.
     text: Vec<u8>,
 }
 
@@ -47,7 +48,7 @@ impl Model for Row {
 }
 
 impl Row {
-    /// A row of no fields. It takes no memory.
+    /// A row without fields. It doesn't allocate.
     pub(crate) fn new(alloc: Global) -> Self
         ensures { result ≡ no_row }
     {
@@ -59,13 +60,13 @@ impl Row {
         }
     }
 
-    /// Where its memory comes from.
+    /// The allocator.
     #[inline]
     pub(crate) fn alloc(&self) -> Global {
         self.alloc
     }
 
-    /// Whether quotes are open.
+    /// Whether a quote is open.
     #[inline]
     pub(crate) fn is_open(&self) -> bool
         ensures { result ≡ is_some self.now.quotes }
@@ -73,7 +74,7 @@ impl Row {
         self.quoted
     }
 
-    /// Puts a field of this text last that stands in no quotes.
+    /// Appends an unquoted field of this text.
     #[inline]
     pub(crate) fn push_plain(&mut self, text: &[u8], infer: InferOpts) -> Result<(), NoMemory>
         requires { self.old.quotes ≡ None }
@@ -83,7 +84,7 @@ impl Row {
         Ok(())
     }
 
-    /// Puts more text into the quotes, and opens them if they aren't.
+    /// Appends text to the open quote, and opens one if none is open.
     #[inline]
     pub(crate) fn append(&mut self, text: &[u8]) -> Result<(), NoMemory>
         ensures { OnOk result (self.new ≡ with_text self.old text.now) }
@@ -93,7 +94,7 @@ impl Row {
         Ok(())
     }
 
-    /// Puts what stands in the quotes last, as a field, and closes them.
+    /// Appends the text of the open quote as a field, and closes the quote.
     pub(crate) fn close(&mut self) -> Result<(), NoMemory>
         ensures { OnOk result (self.new ≡ with_value self.old (quoted_value (in_quotes self.old))) }
     {
@@ -108,7 +109,7 @@ impl Row {
         Ok(())
     }
 
-    /// How many fields have ended.
+    /// The number of ended fields.
     #[inline]
     pub(crate) fn len(&self) -> usize
         ensures { result ≡ length self.now.values }
@@ -125,14 +126,14 @@ impl Row {
         self.text.clear();
     }
 
-    /// The texts of the fields that have ended.
+    /// The texts of the ended fields.
     pub(crate) fn texts(&self, alloc: Global) -> Result<Vec<Bytes>, NoMemory>
         ensures { IfOk result (λ made. made.items ≡ map source_of self.now.values) }
     {
         texts(alloc, self.values.as_slice())
     }
 
-    /// Takes the fields out, as a record.
+    /// Moves the fields out of the row, as a record.
     pub(crate) fn record(
         &mut self,
         alloc: Global,

@@ -1,3 +1,4 @@
+//! The state of reading a file, between lines.
 ghost use Rattle.std.specs.Prelude.{◌≡◌, true};
 ghost use Rattle.read_csv.specs.Usable.{is_usable};
 
@@ -6,7 +7,7 @@ use crate::row::Row;
 use mlr_event::{Ctx, FileRef, ReadOpts};
 use std::alloc::Global;
 
-/// How the rows of a file are read, and what came before the next line.
+/// How the rows of a file are read, and the state after the lines so far.
 #[derive(Drop)]
 pub(crate) struct RowRules {
     pub(crate) alloc: Global,
@@ -14,15 +15,15 @@ pub(crate) struct RowRules {
     pub(crate) file: FileRef,
     /// The number of the next line.
     pub(crate) number: u64,
-    /// The line on which the row began whose quotes are open.
+    /// The line on which the open row began.
     pub(crate) begins: u64,
-    /// The names of the fields, if they have come.
+    /// The header, if it has been read.
     pub(crate) header: Option<Heading>,
-    /// The row as far as it has come: no fields where a row may begin.
+    /// The row so far, without fields where a new row begins.
     pub(crate) row: Row,
     /// The context of the last record.
     pub(crate) at: Ctx,
-    /// A fault came, and nothing comes behind it.
+    /// A fault occurred, and no event follows it.
     pub(crate) stopped: bool,
     ghost usable: { is_usable opts ≡ true },
 }

@@ -1,6 +1,6 @@
 //! Files of CSV and TSV, and the events that each gives.
 
-/// An option that differs from those of plain CSV.
+/// An option that differs from the options of plain CSV.
 pub(crate) enum Opt {
     Tsv,
     Dkvp,
@@ -116,7 +116,7 @@ const LINES: [File; 27] = [
     (b"#a\nx#\n#\n", b"1:#a=x#; 2:#a=#; "),
 ];
 
-/// A byte order mark is dropped at the start of a file alone.
+/// A byte order mark is dropped only at the start of a file.
 const MARKS: [File; 10] = [
     (b"\xef\xbb\xbf", b""),
     (b"\xef\xbb\xbfa\n1\n", b"1:a=#1; "),

@@ -94,7 +94,7 @@ fn shown(alloc: Global, events: &Events) -> Result<Bytes, NoMemory> {
     Ok(all)
 }
 
-/// The events of a file that comes in two pieces.
+/// The events of a file that is read in two pieces.
 fn read(alloc: Global, opts: &ReadOpts, prefix: &[u8], rest: &[u8]) -> Result<Bytes, NoMemory> {
     let mut out = Events::new(alloc);
     let start = Ctx {
@@ -185,7 +185,7 @@ const CHANGED: [(&[Opt], &[u8]); 2] = [
 /// A text as a start, a part that is repeated, in which `%` represents the number of the part, and an end.
 type Parts = (&'static [u8], &'static [u8], &'static [u8]);
 
-/// A file and its events, in parts that are repeated so many times.
+/// A file and its events, in parts that are repeated a number of times.
 struct Long {
     opts: &'static [Opt],
     times: usize,
@@ -265,7 +265,8 @@ fn check_place(
     Ok(())
 }
 
-/// `rt try` comes to its time limit at the long files, since each name is compared with those before it; built, it takes a moment.
+/// `rt try` reaches its time limit on the long files, since each name is compared with those before it;
+/// built, it takes a moment.
 #[test]
 fn unlikely_files_give_the_same_events_as_whole(rt: HostRuntime) -> Result<(), NoMemory> {
     let alloc = rt.alloc();

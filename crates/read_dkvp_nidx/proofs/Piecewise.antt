@@ -1,4 +1,4 @@
--- Records put together piece by piece and word by word.
+-- Records that are built field by field.
 use Rattle.std.proofs.Common.{◌≡◌, ℕ, ◌+◌, ◌^◌, ◌<◌, ◌≤◌, Bool, true, false, cond, not, ◌||◌, eqb, Bor, List, [], ◌∷◌, ◌++◌, length, Option, Some, None, IfSome, refl, ap, sym, subst, ◌∙◌, append_assoc, arith, inl, inr}
 use Rattle.std.specs.Fmt.{decimal}
 use Rattle.std.specs.List.{filter}
@@ -23,7 +23,7 @@ use Rattle.read_dkvp_nidx.specs.Dkvp.{key_of, value_of, keys_from, values_from}
 use Rattle.read_dkvp_nidx.specs.Nidx.{by_position}
 use Rattle.read_dkvp_nidx.specs.Pieces.{with_piece, with_word, position_after}
 
--- a text that was cut at its first separator
+-- a text that was cut at its first separator: the rest has the remaining parts
 pub parts-more : (separator left part : List ℕ) (found : Option (Bor (List ℕ))) (rest : Bor (List ℕ)) → found ≡ Some rest
     → split_by separator left ≡ part ∷ parts_of_rest separator (option_map (λ r. r.now) found) → split_by separator left ≡ part ∷ split_by separator rest.now
 parts-more separator left part found rest is parts = parts ∙ ap (λ f. part ∷ parts_of_rest separator (option_map (λ (r : Bor (List ℕ)). r.now) f)) is
@@ -31,7 +31,7 @@ parts-more separator left part found rest is parts = parts ∙ ap (λ f. part �
 pub rest-shorter : (left : List ℕ) (found : Option (Bor (List ℕ))) (rest : Bor (List ℕ)) → found ≡ Some rest → IfSome found (λ r. length r.now < length left) → length rest.now < length left
 rest-shorter left found rest is shorter = subst (λ f. IfSome f (λ (r : Bor (List ℕ)). length r.now < length left)) is shorter
 
--- a field makes a record longer by one at most
+-- a field makes a record longer by at most one
 length-put_at : (key : List ℕ) (value : Tree) (pairs : List (List ℕ × Tree)) → length (put_at key value pairs) ≤ length pairs + 1
 length-put_at key value [] = omega arith
 length-put_at key value (pair ∷ pairs) =
@@ -74,7 +74,7 @@ with_word-more opts position (b ∷ word) words pairs =
     append_assoc pairs ((decimal position, tree_of_data opts.infer (b ∷ word)) ∷ []) (by_position opts (position + 1) (filter is_word words))
     ∙ ap (λ kept. pairs ++ by_position opts position kept) (sym (word-kept b word (filter is_word words)))
 
--- no key from this position on is there
+-- the record has no key that is this position or a later one
 abbrev pub AreFree : ℕ → List (List ℕ × Tree) → Type 0
 AreFree position pairs = (k : ℕ) → position ≤ k → k < 2 ^ 64 → is_among (keys_of pairs) (decimal k) ≡ false
 

@@ -1,4 +1,4 @@
--- The cells of a table's lines.
+-- The cells of a line, found bar by bar, are those of the definition.
 use Rattle.std.proofs.Common.{◌≡◌, ℕ, suc, ◌+◌, ◌-◌, ◌<◌, Bool, true, false, cond, not, ◌&&◌, eqb, List, [], ◌∷◌, ◌++◌, length, take, drop, Option, Some, None, refl, ap, sym, ◌∙◌, append_assoc, arith, inl, inr, add-one, length-drop, length-take}
 use Rattle.std.specs.List.{onto_first}
 use Rattle.std.proofs.Math.Seq.{take-length}
@@ -7,7 +7,7 @@ use Rattle.std.proofs.lemmas.List.{append-nil}
 use Rattle.read_dkvp_nidx.specs.Cells.{IsBarCut, HasNoBar, bar_from, cells_with, is_escape, with_prefix}
 use Rattle.read_dkvp_nidx.specs.Markdown.{bar_parts, cell_of, cells_after, closed, unescaped}
 
--- whether a byte ends a part
+-- whether a byte is a bar that isn't escaped
 abbrev ends : ℕ → ℕ → Bool
 ends last b = eqb b 124 && not (eqb last 92)
 

@@ -1,4 +1,4 @@
--- What lines come to one by one is what the file stands for.
+-- Reading line by line gives the events of the file.
 use Rattle.std.proofs.Common.{◌≡◌, ℕ, ◌+◌, Bool, true, false, if◌then◌else◌, List, [], ◌∷◌, ◌++◌, map, refl, ap, ap₂, sym, ◌∙◌}
 use Rattle.std.specs.List.{flat_map}
 use Rattle.std.proofs.lemmas.Bool.{true≢false}
@@ -30,15 +30,15 @@ block_of-place markdown.outside = refl
 block_of-place (markdown.under header) = refl
 block_of-place (markdown.within header) = refl
 
--- the items of lines without their ends, by the rules
+-- the items of lines without their line endings, from this state on
 abbrev all_by : LineRules → List (List ℕ) → List Item
 all_by rules texts = items_from rules.opts rules.file rules.number (block_of rules.block) texts
 
--- behind a line without a fault so far, the items of the others
+-- the items of the lines after one that isn't a fault
 abbrev others : LineRules → List ℕ → List (List ℕ) → List Item
 others rules text texts = items_from rules.opts rules.file (rules.number + 1) (line_block rules.opts (block_of rules.block) text) texts
 
--- behind a fault
+-- after a fault, a line changes nothing
 stays : (rules : LineRules) (text : List ℕ) → rules.stopped ≡ true → rules_after rules text ≡ rules
 stays rules text is =
     let next : LineRules = record rules { number = rules.number + 1; block = place_of (line_block rules.opts (block_of rules.block) text); at = ctx_after rules.at (items_by rules text); stopped = has_fault (items_by rules text) } in
@@ -78,7 +78,7 @@ ctx-by (text ∷ texts) rules false is =
     ∙ sym (ctx_after-append rules.at items (others rules text texts))
     )
 
--- lines with their ends
+-- lines with their CR
 given-ended : (lines : List (List ℕ)) (rules : LineRules) → given after_line gives_line rules lines ≡ given rules_after line_events rules (map without_return lines)
 given-ended [] rules = refl
 given-ended (line ∷ lines) rules = ap (λ events. gives_line rules line ++ events) (given-ended lines (after_line rules line))
@@ -95,7 +95,7 @@ after-last : (line : List ℕ) (rules : LineRules) → after_last rules line ≡
 after-last [] rules = refl
 after-last (b ∷ line) rules = refl
 
--- The definitions of the formats say the same by their own words.
+-- Each format's own definition gives the same items.
 module _ (opts : ReadOpts) (file : FileRef) where
   dkvp-items : (lines : List (List ℕ)) (n : ℕ) (block : markdown.Block) → opts.format ≡ format.Dkvp → items_from opts file n block lines ≡ flat_map (dkvp_line opts) lines
   dkvp-items [] n block is = refl

@@ -1,4 +1,4 @@
--- A line counts one at most: it gives one item at most.
+-- A line raises the counters by at most one, since it gives at most one item.
 use Rattle.std.specs.Prelude.{◌≡◌, ℕ, ◌+◌, ◌≤◌, ◌==◌, Bool, true, false, if◌then◌else◌, List, [], ◌∷◌, length, Option, Some, None}
 use Rattle.std.specs.List.{list_all}
 use Rattle.std.proofs.Common.{arith, refl}

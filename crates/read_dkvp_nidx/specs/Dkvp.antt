@@ -1,4 +1,4 @@
--- DKVP: a line is a record of pieces, each a key and a value.
+-- DKVP: a line is a record, and each of its pieces is a field of key and value.
 use Rattle.std.specs.Prelude.{ℕ, ◌+◌, if◌then◌else◌, List, [], ◌∷◌, length, take, drop, Some, None}
 use Rattle.std.specs.Fmt.{decimal}
 use Rattle.mlr_spec.specs.Infer.{tree_of_data}
@@ -7,14 +7,16 @@ use Rattle.mlr_spec.specs.Tree.{Tree}
 use Rattle.mlr_event.specs.declared.options.ReadOpts.{ReadOpts}
 use Rattle.mlr_event.specs.Reading.{Item, fields, is_comment, comment_items, record_of}
 
--- a piece is split at its first separator of key and value; a piece without one has its position as key
+-- a piece is split at the first separator of key and value; the key of a piece without separator is its
+-- position
 abbrev pub key_of : List ℕ → ℕ → List ℕ → List ℕ
 key_of ips position piece = elim (place_in ips piece) [ Some place ↦ take place piece | None ↦ decimal position ]
 
 abbrev pub value_of : List ℕ → List ℕ → List ℕ
 value_of ips piece = elim (place_in ips piece) [ Some place ↦ drop (place + length ips) piece | None ↦ piece ]
 
--- the keys and the values of the pieces from a position on; an empty piece counts, and gives none
+-- the keys and the values of the pieces, of which the first has this position; an empty piece is counted, but
+-- is no field
 abbrev pub keys_from : List ℕ → ℕ → List (List ℕ) → List (List ℕ)
 keys_from ips position [] = []
 keys_from ips position ([] ∷ pieces) = keys_from ips (position + 1) pieces
@@ -31,6 +33,6 @@ dkvp_record opts [] = []
 dkvp_record opts (b ∷ line) =
     let pieces = split_by opts.ifs (b ∷ line) in fields (record_of opts.dedupe (keys_from opts.ips 1 pieces) (values_from opts pieces)) ∷ []
 
--- what a line gives
+-- the item of a line without its line ending: a comment, or a record
 abbrev pub dkvp_line : ReadOpts → List ℕ → List Item
 dkvp_line opts line = if is_comment opts.comments line then comment_items opts.comments line else dkvp_record opts line

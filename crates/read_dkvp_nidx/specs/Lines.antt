@@ -1,4 +1,4 @@
--- What a file gives in DKVP, NIDX and Markdown: from its whole lines, and from those that have ended.
+-- The events of a whole file of DKVP, NIDX or Markdown, and those of its ended lines.
 use Rattle.std.specs.Prelude.{ℕ, List, []}
 use Rattle.std.specs.List.{flat_map}
 use Rattle.mlr_lines.specs.Lines.{fixed_lines, whole_lines}
@@ -13,13 +13,14 @@ use Rattle.read_dkvp_nidx.specs.Dkvp.{dkvp_line}
 use Rattle.read_dkvp_nidx.specs.Nidx.{nidx_line}
 use Rattle.read_dkvp_nidx.specs.Markdown.{markdown_lines, outside}
 
--- the items of lines without their ends
+-- the items of lines without their line endings
 abbrev pub items_of_lines : ReadOpts → FileRef → Format → List (List ℕ) → List Item
 items_of_lines opts file format.Dkvp lines = flat_map (dkvp_line opts) lines
 items_of_lines opts file format.Nidx lines = flat_map (nidx_line opts) lines
 items_of_lines opts file format.Markdown lines = markdown_lines opts file 1 outside lines
 items_of_lines opts file _ lines = []
 
+-- the events of a whole file, and those that the first bytes of a file fix
 abbrev pub line_read : ReadOpts → FileRef → Ctx → List ℕ → List Event
 line_read opts file start bytes = events_of start (items_of_lines opts file opts.format (whole_lines bytes))
 

@@ -1,4 +1,4 @@
--- Markdown tables: blocks of lines of cells between bars.
+-- Markdown tables: lines of cells between bars; an empty line ends a table.
 use Rattle.std.specs.Prelude.{ℕ, ◌+◌, ◌-◌, if◌then◌else◌, Bool, not, ◌&&◌, ◌==◌, nat_lt, List, [], ◌∷◌, ◌++◌, map, length, take, drop, Option, Some, None}
 use Rattle.std.specs.List.{list_all, onto_first, prefix_len, suffix_len}
 use Rattle.mlr_spec.specs.Ascii.{space, dash, colon, backslash, vertical_bar}
@@ -8,7 +8,7 @@ use Rattle.mlr_event.specs.declared.fault.Fault.TheVariants.{Length, Table}
 use Rattle.mlr_event.specs.declared.options.ReadOpts.{ReadOpts}
 use Rattle.mlr_event.specs.Reading.{Item, fields, fault, is_comment, comment_items, record_of}
 
--- a line split at each bar that no backslash precedes; `last` is the byte before
+-- the parts of a line between bars that no backslash precedes; `last` is the byte before the text
 abbrev pub bar_parts : ℕ → List ℕ → List (List ℕ)
 bar_parts last [] = [] ∷ []
 bar_parts last (b ∷ text) = if b == vertical_bar && not (last == backslash) then [] ∷ bar_parts b text else onto_first b (bar_parts b text)
@@ -16,27 +16,28 @@ bar_parts last (b ∷ text) = if b == vertical_bar && not (last == backslash) th
 abbrev pub is_space : ℕ → Bool
 is_space b = b == space
 
--- a cell without the spaces round it
+-- a cell without the spaces around it
 abbrev pub trimmed : List ℕ → List ℕ
 trimmed text = let prefix = drop (prefix_len is_space text) text in take (length prefix - suffix_len is_space prefix) prefix
 
--- `\|` is a bar
+-- the escape `\|` is a bar
 abbrev pub unescaped : List ℕ → List ℕ
 unescaped [] = []
 unescaped (b ∷ []) = b ∷ []
 unescaped (b ∷ c ∷ text) = if b == backslash && c == vertical_bar then unescaped (c ∷ text) else b ∷ unescaped (c ∷ text)
 
+-- the cell of a part between two bars
 abbrev pub cell_of : List ℕ → List ℕ
 cell_of part = unescaped (trimmed part)
 
--- the parts but for the last, if that one is empty
+-- the cells of the parts, of which the last has to be empty
 abbrev pub closed : List (List ℕ) → Option (List (List ℕ))
 closed [] = None
 closed ([] ∷ []) = Some []
 closed ((b ∷ part) ∷ []) = None
 closed (part ∷ next ∷ parts) = elim (closed (next ∷ parts)) [ Some cells ↦ Some (cell_of part ∷ cells) | None ↦ None ]
 
--- The cells of a line, which begins and ends with a bar; None of another line, and of one bar alone.
+-- the cells of a line, which begins and ends with a bar; None for any other line, and for a single bar
 abbrev pub cells_after : List (List ℕ) → Option (List (List ℕ))
 cells_after [] = None
 cells_after (part ∷ []) = None
@@ -48,7 +49,7 @@ cells_of line = elim (bar_parts 0 line) [
   | first ∷ parts ↦ if length first == 0 then cells_after parts else None
 ]
 
--- one or more dashes, with or without a colon at either end
+-- a cell of the rule under the header: one or more dashes, with or without a colon at either end
 abbrev pub without_colons : List ℕ → List ℕ
 without_colons text =
     let prefix = (if nat_lt 0 (length text) && list_all (λ b. b == colon) (take 1 text) then drop 1 text else text) in
@@ -57,19 +58,20 @@ without_colons text =
 abbrev pub is_rule : List ℕ → Bool
 is_rule cell = nat_lt 0 (length (without_colons cell)) && list_all (λ b. b == dash) (without_colons cell)
 
--- where a line stands in its block: first, second under a header, or later
+-- the place of a line: the first of a table, the second under its header, or a later one
 pub data Block : Type 0 where
   outside : Block
   under : List (List ℕ) → Block
   within : List (List ℕ) → Block
 
--- what the lines from number n on give, in a block that has come so far
+-- the record of a row under a header, or a fault if the lengths differ
 abbrev pub row : ReadOpts → FileRef → ℕ → List (List ℕ) → List (List ℕ) → List Item
 row opts file n header cells =
     if length cells == length header then fields (record_of opts.dedupe header (map (tree_of_data opts.infer) cells)) ∷ []
     else fault (Length file n (length header) (length cells)) ∷ []
 
--- a line in its block, and where the next one stands
+-- the items of a line with its cells, and the place of the next line; the second line of a table has to be a
+-- rule
 abbrev pub row_items : ReadOpts → FileRef → ℕ → Block → Option (List (List ℕ)) → List Item
 row_items opts file n block None = fault (Table file n) ∷ []
 row_items opts file n outside (Some cells) = []
@@ -84,7 +86,7 @@ row_block outside (Some cells) = under cells
 row_block (under header) (Some cells) = within header
 row_block (within header) (Some cells) = within header
 
--- an empty line ends a block
+-- an empty line ends a table
 abbrev pub markdown_row : ReadOpts → FileRef → ℕ → Block → List ℕ → List Item
 markdown_row opts file n block [] = []
 markdown_row opts file n block (b ∷ line) = row_items opts file n block (cells_of (b ∷ line))
@@ -93,14 +95,14 @@ abbrev pub block_after : Block → List ℕ → Block
 block_after block [] = outside
 block_after block (b ∷ line) = row_block block (cells_of (b ∷ line))
 
--- what the line with number n gives, and the block behind it
+-- the items of line n, and the place of the next line; comments are not part of a table
 abbrev pub markdown_line : ReadOpts → FileRef → ℕ → Block → List ℕ → List Item
 markdown_line opts file n block line = if is_comment opts.comments line then comment_items opts.comments line else markdown_row opts file n block line
 
 abbrev pub markdown_block : ReadOpts → Block → List ℕ → Block
 markdown_block opts block line = if is_comment opts.comments line then block else block_after block line
 
--- the lines of a table from number n on
+-- the items of lines, of which the first has number n
 abbrev pub markdown_lines : ReadOpts → FileRef → ℕ → Block → List (List ℕ) → List Item
 markdown_lines opts file n block [] = []
 markdown_lines opts file n block (line ∷ lines) =

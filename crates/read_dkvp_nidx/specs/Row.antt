@@ -1,4 +1,4 @@
--- What a row gives, and where the line behind it stands in its block.
+-- The items of a row's outcome, and the place of a line as the program keeps it.
 use Rattle.std.specs.Prelude.{ℕ, List, [], ◌∷◌}
 use Rattle.std.specs.declared.vec.Vec.{Vec}
 use Rattle.std.specs.declared.alloc.Global.{Global}

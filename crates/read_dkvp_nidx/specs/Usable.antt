@@ -1,4 +1,4 @@
--- Options by which a file can be read line by line.
+-- The options with which the reader can read.
 use Rattle.std.specs.Prelude.{ℕ, Bool, true, false, ◌&&◌, List, [], ◌∷◌}
 use Rattle.mlr_event.specs.declared.options.Format.{Format}
 use Rattle.mlr_event.specs.declared.options.Format.TheVariants as format
@@ -8,7 +8,7 @@ abbrev pub has_bytes : List ℕ → Bool
 has_bytes [] = false
 has_bytes (b ∷ text) = true
 
--- a format of lines; where it has separators, they aren't empty
+-- one of the three formats, with separators that aren't empty
 abbrev pub is_usable_as : Format → ReadOpts → Bool
 is_usable_as format.Dkvp opts = has_bytes opts.ifs && has_bytes opts.ips
 is_usable_as format.Nidx opts = has_bytes opts.ifs

@@ -1,12 +1,13 @@
+//! The place of a line in a Markdown table.
 use mlr_event::Header;
 
-/// Where a line of a Markdown file stands.
+/// The place of the next line of a Markdown file.
 #[derive(Drop)]
 pub(crate) enum Block {
-    /// It is the first of a table, or stands in none.
+    /// The first line of a table, or a line outside tables.
     Outside,
-    /// It is the second of a table with this header.
+    /// The second line of a table with this header.
     Under(Header),
-    /// It is a later one.
+    /// A later line of a table with this header.
     Within(Header),
 }

@@ -1,3 +1,4 @@
+//! Splits a line of a Markdown table into cells.
 ghost use Rattle.std.specs.Prelude.{◌≡◌, ◌<◌, ◌≤◌, ◌==◌, length, IfOk, MatchOption};
 ghost use Rattle.std.specs.List.{list_all, prefix_len, suffix_len};
 ghost use Rattle.std.specs.Option.{option_map};
@@ -9,7 +10,7 @@ use mlr_spec::NoMemory;
 use mlr_value::Bytes;
 use std::alloc::Global;
 
-/// The cells of a line that begins and ends with a bar.
+/// The cells of a line, or `None` unless it begins and ends with a bar.
 pub(crate) fn cells_of(alloc: Global, line: &[u8]) -> Result<Option<Vec<Bytes>>, NoMemory>
     ensures { IfOk result (λ cells. option_map cells_in cells ≡ cells_of line.now) }
 {
@@ -19,7 +20,7 @@ pub(crate) fn cells_of(alloc: Global, line: &[u8]) -> Result<Option<Vec<Bytes>>,
     }
 }
 
-/// The cells behind the first bar of a line.
+/// The cells of a line, from the text after its first bar.
 fn cells_after(alloc: Global, text: &[u8]) -> Result<Option<Vec<Bytes>>, NoMemory>
     ensures { IfOk result (λ cells. option_map cells_in cells
         ≡ cells_after (bar_parts 124 text.now)) }
@@ -37,7 +38,7 @@ fn cells_after(alloc: Global, text: &[u8]) -> Result<Option<Vec<Bytes>>, NoMemor
     }
 }
 
-/// What stands before the next bar and behind it.
+/// The text before the next bar and the text after it.
 fn cut_bar(text: &[u8]) -> Option<(&[u8], &[u8])>
     ensures { MatchOption result (HasNoBar text.now)
         (λ cut. IsBarCut text.now cut.0.now cut.1.now) }
@@ -46,7 +47,7 @@ fn cut_bar(text: &[u8]) -> Option<(&[u8], &[u8])>
     Some((&text[..place], &text[place + 1..]))
 }
 
-/// The place of the first bar that no backslash precedes, in a text behind a bar.
+/// The place of the first bar that isn't escaped, in a text that follows a bar.
 fn bar_place(text: &[u8]) -> Option<usize>
     ensures place { result ≡ bar_from 0 124 text.now }
     ensures inside { MatchOption result (Unit {0}) (λ place. place < length text.now) }
@@ -61,7 +62,7 @@ fn bar_place(text: &[u8]) -> Option<usize>
     None
 }
 
-/// The cell of a part: without the spaces round it, and with a bar for each `\|`.
+/// The cell of a part: without the spaces around it, and with a bar for each `\|`.
 fn cell_of(alloc: Global, part: &[u8]) -> Result<Bytes, NoMemory>
     ensures { IfOk result (λ cell. cell ≡ cell_of part.now) }
 {
@@ -121,7 +122,7 @@ fn spaces_after(text: &[u8]) -> usize
     text.len() - left
 }
 
-/// Whether all these cells are one or more dashes, with or without a colon at either end.
+/// Whether each cell is one or more dashes, with or without a colon at either end.
 pub(crate) fn are_rules(cells: &[Bytes]) -> bool
     ensures { result ≡ list_all is_rule cells.now }
 {

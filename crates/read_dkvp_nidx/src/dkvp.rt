@@ -1,3 +1,4 @@
+//! Reads a line of DKVP.
 ghost use Rattle.std.specs.Prelude.{◌≡◌, ◌^◌, ◌<◌, [], length, IfOk, OnOk};
 ghost use Rattle.mlr_spec.specs.Split.{split_by};
 ghost use Rattle.mlr_event.specs.Reading.{record_of};
@@ -14,7 +15,7 @@ use mlr_record::split::{next_part, separator_place};
 use mlr_spec::NoMemory;
 use std::alloc::Global;
 
-/// The record of a line, if the line isn't empty.
+/// The record of a line; nothing if the line is empty.
 pub(crate) fn dkvp_row(alloc: Global, opts: &ReadOpts, line: &[u8]) -> Result<Row, NoMemory>
     requires ifs { 0 < length opts.now.ifs }
     requires ips { 0 < length opts.now.ips }
@@ -29,7 +30,7 @@ pub(crate) fn dkvp_row(alloc: Global, opts: &ReadOpts, line: &[u8]) -> Result<Ro
     Ok(Row::Fields(record))
 }
 
-/// Puts the fields of a line into an empty record.
+/// Adds the fields of a line to an empty record.
 fn put_pieces(
     alloc: Global,
     opts: &ReadOpts,
@@ -57,7 +58,7 @@ fn put_pieces(
     }
 }
 
-/// Puts the field of a piece into the record, if the piece isn't empty.
+/// Adds the field at this position to the record, unless its text is empty.
 #[inline]
 fn put_piece(
     alloc: Global,

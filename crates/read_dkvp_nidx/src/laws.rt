@@ -1,3 +1,4 @@
+//! The laws of the events that the first bytes of a file fix.
 ghost use Rattle.std.specs.Prelude.{◌≡◌, ℕ, List, ◌++◌};
 ghost use Rattle.mlr_event.specs.declared.event.Ctx.{Ctx};
 ghost use Rattle.mlr_event.specs.declared.event.Event.{Event};
@@ -6,8 +7,8 @@ ghost use Rattle.mlr_event.specs.declared.options.ReadOpts.{ReadOpts};
 ghost use Rattle.mlr_lines.specs.Prefixes.{ended_prefix};
 ghost use Rattle.read_dkvp_nidx.specs.Lines.{line_fed, line_read};
 
-/// What a front of a file fixes: it stays whatever follows, and it is what the longest front that ends with a line
-/// end stands for as a whole file. It does nothing.
+/// The events that the first bytes of a file fix stay the same whatever bytes follow. They are the events of
+/// a shorter file: of the longest prefix that ends with a line ending. It does nothing.
 pub fn prefix_laws()
     ensures fed { (opts : ReadOpts) (file : FileRef) (start : Ctx) (bytes rest : List ℕ)
         → (more : List Event)

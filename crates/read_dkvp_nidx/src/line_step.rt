@@ -1,3 +1,4 @@
+//! Reads a line as a comment or a row.
 ghost use Rattle.std.specs.Prelude.{◌≡◌, ◌^◌, ◌<◌, ◌++◌, IfOk, OnOk, length, false};
 ghost use Rattle.mlr_event.specs.Reading.{events_of};
 ghost use Rattle.read_dkvp_nidx.specs.Row.{block_of, place_of, row_items};
@@ -42,7 +43,7 @@ impl LineFormat for LineRules {
 }
 
 impl LineRules {
-    /// Takes a line without its end.
+    /// Reads a line without its line ending, and appends its events to `out`.
     fn take(&mut self, line: &[u8], out: &mut Events) -> Result<(), NoMemory>
         requires count { count_of self.old < 2 ^ 63 }
         requires length { length line.now < 2 ^ 63 }
@@ -61,7 +62,7 @@ impl LineRules {
         Ok(())
     }
 
-    /// Takes a line without its end that is no comment, but for its number.
+    /// Reads a line that isn't a comment, and appends its events to `out`. It doesn't count the line.
     fn take_row(&mut self, line: &[u8], out: &mut Events) -> Result<(), NoMemory>
         requires count { count_of self.old < 2 ^ 63 }
         requires length { length line.now < 2 ^ 63 }
@@ -84,7 +85,7 @@ impl LineRules {
         }
     }
 
-    /// What a line gives that is no comment.
+    /// The outcome of a line that isn't a comment.
     fn row(&mut self, line: &[u8]) -> Result<Row, NoMemory>
         requires { length line.now < 2 ^ 63 }
         ensures items { IfOk result (λ row. row_items row

@@ -1,3 +1,4 @@
+//! Reads a line of a Markdown table.
 ghost use Rattle.std.specs.Prelude.{◌≡◌, ◌^◌, ◌<◌, [], Some, length, map, true, IfOk, OnOk};
 ghost use Rattle.std.specs.List.{zip};
 ghost use Rattle.mlr_spec.specs.Infer.{tree_of_data};
@@ -17,14 +18,14 @@ use mlr_value::Bytes;
 use std::alloc::Global;
 use std::mem;
 
-/// Where a row stands in its file.
+/// The file of a row, and the number of its line.
 #[derive(Clone, Copy)]
 pub(crate) struct Place {
     pub(crate) file: FileRef,
     pub(crate) line: u64,
 }
 
-/// What a line of a table gives, and where the next line stands then.
+/// The outcome of a line; sets `block` to the place of the next line.
 pub(crate) fn markdown_row(
     alloc: Global,
     opts: &ReadOpts,
@@ -76,7 +77,7 @@ fn table_row(
     Ok(row)
 }
 
-/// What the line under a header gives: nothing, or a fault.
+/// The outcome of the line under a header: nothing, or a fault.
 fn rule_row(opts: &ReadOpts, place: Place, header: &Header, cells: &[Bytes]) -> Row
     ensures { row_items result ≡ items_in_block opts.now place.file place.line (under header.now)
         (Some cells.now) }
@@ -94,7 +95,7 @@ fn rule_row(opts: &ReadOpts, place: Place, header: &Header, cells: &[Bytes]) -> 
     }
 }
 
-/// What a line of cells gives: a record, or a fault.
+/// The outcome of a line under the rule: a record, or a fault.
 fn cells_row(
     alloc: Global,
     opts: &ReadOpts,
@@ -113,7 +114,7 @@ fn cells_row(
     Ok(Row::Fields(record))
 }
 
-/// Puts cells, as many as those of the header, into an empty record.
+/// Adds the cells to an empty record. There is one for each name of the header.
 fn fill(
     alloc: Global,
     opts: &ReadOpts,
@@ -133,7 +134,7 @@ fn fill(
     }
 }
 
-/// Puts them under names that are distinct.
+/// Adds the cells under names that are distinct.
 fn push_cells(
     alloc: Global,
     opts: &ReadOpts,
@@ -153,7 +154,7 @@ fn push_cells(
     Ok(())
 }
 
-/// Puts them under names that may repeat.
+/// Adds the cells under names that may repeat; the last cell of a name remains.
 fn put_cells(
     alloc: Global,
     opts: &ReadOpts,

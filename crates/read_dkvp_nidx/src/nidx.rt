@@ -1,3 +1,4 @@
+//! Reads a line of NIDX.
 ghost use Rattle.std.specs.Prelude.{◌≡◌, ◌-◌, ◌^◌, ◌<◌, [], None, length, IfOk, OnOk};
 ghost use Rattle.std.specs.Fmt.{decimal};
 ghost use Rattle.mlr_spec.specs.Pairs.{value_at};
@@ -14,7 +15,7 @@ use mlr_spec::NoMemory;
 use mlr_value::from_data;
 use std::alloc::Global;
 
-/// The record of a line, if the line has a value.
+/// The record of a line; nothing if the line has no value.
 pub(crate) fn nidx_row(alloc: Global, opts: &ReadOpts, line: &[u8]) -> Result<Row, NoMemory>
     requires ifs { 0 < length opts.now.ifs }
     requires length { length line.now < 2 ^ 63 }
@@ -29,7 +30,7 @@ pub(crate) fn nidx_row(alloc: Global, opts: &ReadOpts, line: &[u8]) -> Result<Ro
     Ok(Row::Fields(record))
 }
 
-/// Puts the words of a line into an empty record.
+/// Adds the values of a line to an empty record.
 fn put_words(
     alloc: Global,
     opts: &ReadOpts,
@@ -53,7 +54,7 @@ fn put_words(
     }
 }
 
-/// Puts a word, if it isn't empty, at this position into the record, and says the position behind it.
+/// Adds a value at this position to the record, unless it is empty, and returns the next position.
 fn put_word(
     alloc: Global,
     opts: &ReadOpts,

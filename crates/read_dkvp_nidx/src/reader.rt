@@ -1,3 +1,4 @@
+//! The reader of DKVP, NIDX and Markdown.
 ghost use Rattle.std.specs.Prelude.{◌≡◌, ◌↔◌, ◌+◌, ◌^◌, ◌<◌, ◌≤◌, ℕ, List, [], ◌++◌, true, length, max, IsTrue, IfOk, OnOk, OnErr};
 ghost use Rattle.mlr_event.specs.declared.event.Ctx.{Ctx};
 ghost use Rattle.mlr_event.specs.declared.names.FileRef.{FileRef};
@@ -14,12 +15,12 @@ use mlr_lines::Lines;
 use mlr_spec::NoMemory;
 use std::alloc::Global;
 
-/// Reads one file in DKVP, NIDX or Markdown, whose bytes come in pieces that are cut anywhere.
+/// Reads one file of DKVP, NIDX or Markdown, whose bytes come in pieces that may be cut anywhere.
 pub struct LineReader {
     lines: Lines<LineRules>,
 }
 
-// Written out, so that the crates above call it and don't go into the fields.
+// Written out, so that crates above call it and don't depend on the fields.
 impl Drop for LineReader {
     fn drop(self) {
         let LineReader { lines } = self;
@@ -27,7 +28,7 @@ impl Drop for LineReader {
     }
 }
 
-/// Whether a reader can read by these options: a format of lines, whose separators have bytes.
+/// Whether a reader can read with these options: the format is one of these, and its separators aren't empty.
 pub fn can_read(opts: &ReadOpts) -> bool
     ensures { result ≡ is_usable opts.now }
 {
@@ -40,8 +41,9 @@ pub fn can_read(opts: &ReadOpts) -> bool
 }
 
 impl LineReader {
-    /// No bytes yet. `start` is the context of the last record before this file, with the number of this file and
-    /// no record of it. It takes memory for separators and prefixes of more than 16 bytes.
+    /// A reader at the start of a file. `start` is the context of the last record before this file, with the
+    /// number of this file and no record of it. It allocates only for separators and prefixes of more than 16
+    /// bytes.
     pub fn new(
         alloc: Global,
         opts: &ReadOpts,
@@ -69,8 +71,8 @@ impl LineReader {
         })
     }
 
-    /// Takes the next piece of the file, and puts the events of the lines that it ends behind `out`. Behind a fault
-    /// it puts nothing.
+    /// Reads the next piece of the file, and appends the events of the lines that it ends to `out`. After a
+    /// fault it appends nothing.
     pub fn feed(&mut self, piece: &[u8], out: &mut Events) -> Result<(), NoMemory>
         requires { CanTake self.old (length piece.now) }
         ensures represents { OnOk result ((opts : ReadOpts) (file : FileRef) (start : Ctx)
@@ -89,7 +91,7 @@ impl LineReader {
         self.lines.feed(piece, out)
     }
 
-    /// Takes the end of the file, and puts the events of a last line without LF behind `out`.
+    /// Reads the end of the file, and appends the events of a last line without LF to `out`.
     pub fn end(&mut self, out: &mut Events) -> Result<(), NoMemory>
         requires { CanTake self.old 0 }
         ensures represents { OnOk result ((opts : ReadOpts) (file : FileRef) (start : Ctx)
@@ -108,7 +110,7 @@ impl LineReader {
         self.lines.end(out)
     }
 
-    /// The context of the last record so far, or the start.
+    /// The context of the last record so far, or else the start.
     pub fn ctx(&self) -> Ctx
         ensures fed { (opts : ReadOpts) (file : FileRef) (start : Ctx) (bytes : List ℕ)
             → Represents opts file start self.now bytes → result ≡ ctx_fed opts file start bytes }
@@ -121,7 +123,7 @@ impl LineReader {
         self.lines.format().at
     }
 
-    /// Whether a call found no memory. Then nothing more may be asked of it.
+    /// Whether a call ran out of memory. Then no further call is allowed.
     pub fn is_broken(&self) -> bool
         ensures { IsTrue result ↔ IsBroken self.now }
     {

@@ -1,3 +1,4 @@
+//! The state of reading a file, between lines.
 ghost use Rattle.read_dkvp_nidx.specs.Usable.{is_usable};
 ghost use Rattle.std.specs.Prelude.{◌≡◌, true};
 
@@ -5,7 +6,7 @@ use crate::block::Block;
 use mlr_event::{Ctx, FileRef, ReadOpts};
 use std::alloc::Global;
 
-/// How the lines of a file are read, and what came before the next one.
+/// How the lines of a file are read, and the state after the lines so far.
 #[derive(Drop)]
 pub(crate) struct LineRules {
     pub(crate) alloc: Global,
@@ -16,7 +17,7 @@ pub(crate) struct LineRules {
     pub(crate) block: Block,
     /// The context of the last record.
     pub(crate) at: Ctx,
-    /// A fault came, and nothing comes behind it.
+    /// A fault occurred, and no event follows it.
     pub(crate) stopped: bool,
     ghost usable: { is_usable opts ≡ true },
 }

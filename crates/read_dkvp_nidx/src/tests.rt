@@ -8,7 +8,7 @@ use mlr_value::{Bytes, append_text};
 use std::alloc::Global;
 use std::process::Abort;
 
-/// An option that differs from those of plain DKVP.
+/// An option that differs from the options of plain DKVP.
 enum Opt {
     Nidx,
     Markdown,
@@ -88,7 +88,7 @@ fn shown(alloc: Global, events: &Events) -> Result<Bytes, NoMemory> {
     Ok(all)
 }
 
-/// The events of a file that comes in two pieces.
+/// The events of a file that is read in two pieces.
 fn read(alloc: Global, opts: &ReadOpts, prefix: &[u8], rest: &[u8]) -> Result<Bytes, NoMemory> {
     let mut out = Events::new(alloc);
     let start = Ctx {
@@ -109,7 +109,7 @@ fn read(alloc: Global, opts: &ReadOpts, prefix: &[u8], rest: &[u8]) -> Result<By
 /// A file, and its events.
 type File = (&'static [u8], &'static [u8]);
 
-/// Names, positions where none is given, line ends, and names that repeat.
+/// Keys, positions where a field has no key, line endings, and keys that repeat.
 const DKVP: [File; 14] = [
     (b"", b""),
     (b"a=1,b=x\n", b"1:a=1;b=x; "),
@@ -153,7 +153,7 @@ const NIDX: [File; 5] = [
     (b"\xef\xbb\xbfa b", b"1:1=a;2=b; "),
 ];
 
-/// Tables with their rules and escapes, and faults in them.
+/// Tables with their rules and escapes, and tables with faults.
 const TABLES: [File; 10] = [
     (
         b"| a | b |\n| --- | :-: |\n| 1 | x y |\n|2||\n",

@@ -1,4 +1,4 @@
--- A word that a cut has split.
+-- A word that spans two pieces of the file.
 use Rattle.std.proofs.Common.{◌≡◌, ℕ, suc, ◌+◌, ◌<◌, Bool, true, false, cond, List, [], ◌∷◌, ◌++◌, length, take, inl, inr, refl, ap, ap₂, sym, ◌∙◌, arith}
 use Rattle.std.specs.List.{prefix_len}
 use Rattle.std.proofs.Math.Seq.{take-length, take-append-add}
@@ -51,7 +51,7 @@ module _ (p : ℕ → Bool) where
 take-both : (text more : List ℕ) (n : ℕ) → take (length text + n) (text ++ more) ≡ text ++ take n more
 take-both text more n = take-append-add text more n
 
--- a word, and more of its bytes behind it
+-- a word that has begun, and more of its bytes
 pub word-with : (begun more : List ℕ) → 0 < length begun → lexeme_outside begun ≡ found (word begun) (length begun)
     → lexeme_outside (begun ++ more) ≡ found (word (begun ++ take (prefix_len is_word_byte more) more)) (length begun + prefix_len is_word_byte more)
 word-with [] more some is = absurd (omega arith)
@@ -62,7 +62,7 @@ word-with (b ∷ bs) more some is =
     ∙ ap (λ n. found (word (take n (b ∷ bs ++ more))) n) many
     ∙ ap (λ w. found (word w) (length (b ∷ bs) + prefix_len is_word_byte more)) (take-both (b ∷ bs) more (prefix_len is_word_byte more))
 
--- more of its bytes are kept
+-- more bytes of the word are kept
 pub word-grown : (begun more : List ℕ) → 0 < length begun → lexeme_outside begun ≡ found (word begun) (length begun)
     → let grown = begun ++ take (prefix_len is_word_byte more) more in lexeme_outside grown ≡ found (word grown) (length grown)
 word-grown begun more some is =
@@ -73,7 +73,7 @@ word-grown begun more some is =
     ∙ ap (λ t. found (word (begun ++ t)) (length begun + length w)) (take-length w)
     ∙ ap (λ n. found (word (begun ++ w)) n) (sym (length-append begun w))
 
--- no more of its bytes follow
+-- no more bytes of the word follow
 first-of : (text bytes : List ℕ) → 0 < length text → prefix_len is_word_byte text ≡ 0 → prefix_len is_word_byte (text ++ bytes) ≡ 0
 first-of [] bytes some none = absurd (omega arith)
 first-of (b ∷ t) bytes some none = elim (cases_Bool (is_word_byte b)) [

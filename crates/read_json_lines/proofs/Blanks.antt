@@ -1,4 +1,4 @@
--- A run that goes on behind a cut, and bytes that stay bad whatever follows.
+-- A run of blanks that continues in the next piece, and bad bytes, which stay bad whatever follows.
 use Rattle.std.proofs.Common.{◌≡◌, ℕ, zero, suc, ◌+◌, ◌≤◌, Bool, true, false, cond, ◌==◌, List, [], ◌∷◌, ◌++◌, length, drop, Some, None, inl, inr, refl, ap, sym, ◌∙◌, arith}
 use Rattle.std.specs.List.{prefix_len, take_while}
 use Rattle.std.proofs.lemmas.Bool.{cases_Bool, true≢false, eqb-true}
@@ -7,7 +7,7 @@ use Rattle.mlr_spec.specs.JsonTokens.{Piece, Lexeme, blank, mark, word, quote, p
 use Rattle.read_json_lines.specs.Streams.{outside, is_between}
 use Rattle.read_json_lines.proofs.Outside.{outside-one-blank}
 
--- where a blank is found, its bytes are blanks; and a blank byte is found as one
+-- the bytes of a blank are blank bytes, and a blank byte begins a blank
 module _ (c : ℕ) (is : is_blank c ≡ true) where
   differs : (k : ℕ) → is_blank k ≡ false → (c == k) ≡ false
   differs k none = elim (cases_Bool (c == k)) [
@@ -42,7 +42,7 @@ found-blank b t n is =
     by false false true xis h = absurd (let e : found (word (take_while is_word_byte (b ∷ t))) (prefix_len is_word_byte (b ∷ t)) ≡ found blank n = h in cc)
     by false false false xis h = absurd (let e : bad 0 ≡ found blank n = h in cc)
 
--- one blank byte is nothing
+-- a blank byte can be dropped from a run of blanks
 one-more : (b : ℕ) (t : List ℕ) → is_blank b ≡ true → prefix_len is_blank (b ∷ t) ≡ suc (prefix_len is_blank t)
 one-more b t is = ap (λ v. cond v (1 + prefix_len is_blank t) 0) is ∙ sym (suc-is (prefix_len is_blank t))
   where
@@ -81,7 +81,7 @@ outside-blank whole infer end (b ∷ text) bytes n fits is =
     let all = (found-blank b text n is).1 in
     blanks whole infer end (b ∷ text) bytes n fits (omega (arith, all))
 
--- outside strings no piece is found
+-- outside strings there is no piece
 pub no-piece : (text : List ℕ) (p : Piece) (n : ℕ) → lexeme_outside text ≡ found (piece p) n → ⊥
 unfolding lexeme_outside
 no-piece [] p n is = let e : begun ≡ found (piece p) n = is in cc
@@ -97,7 +97,7 @@ no-piece (b ∷ t) p n is =
     by false false true h = let e : found (word (take_while is_word_byte (b ∷ t))) (prefix_len is_word_byte (b ∷ t)) ≡ found (piece p) n = h in cc
     by false false false h = let e : bad 0 ≡ found (piece p) n = h in cc
 
--- a bad byte outside strings
+-- a bad byte outside strings stays bad
 pub outside-bad-stays : (text more : List ℕ) (k : ℕ) → lexeme_outside text ≡ bad k → lexeme_outside (text ++ more) ≡ bad k
 unfolding lexeme_outside
 outside-bad-stays [] more k is = absurd (let e : begun ≡ bad k = is in cc)

@@ -5,7 +5,7 @@ use Rattle.mlr_json.specs.declared.string.StringBuilder.{StringBuilder}
 use Rattle.mlr_json.specs.Decoding.{Holds, pending}
 use Rattle.read_json_lines.specs.Streams.{text_after}
 
--- it holds the text so far, and the unit that waits
+-- the builder holds the text so far, and a surrogate that waits for its pair
 pub pieces_so_far : StringBuilder → List Piece
 pieces_so_far builder = raw builder.text ∷ pending builder.high
 
@@ -21,7 +21,7 @@ pub so-far-decoded : (builder : StringBuilder) → decoded (pieces_so_far builde
 unfolding pieces_so_far
 so-far-decoded builder = ap (λ p. builder.text ++ decoded p) (sym (pending-nil builder.high))
 
--- one piece more
+-- one more piece
 pub piece-pushed : (old new : StringBuilder) (p : Piece) → ((pieces : List Piece) → Holds old pieces → Holds new (pieces ++ p ∷ [])) → (more : List Piece) → text_after old (p ∷ more) ≡ text_after new more
 unfolding pieces_so_far
 piece-pushed old new p pushed more =

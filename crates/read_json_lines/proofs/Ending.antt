@@ -22,7 +22,7 @@ use Rattle.read_json_lines.proofs.Outside.{inside-stops, outside-last}
 use Rattle.read_json_lines.proofs.Taking.{all-following, nothing-following}
 use Rattle.read_json_lines.proofs.Turning.{future-outside, future-begun, begun-word}
 
--- the end of the file, where no string is open and nothing has begun
+-- the end of the file, if no string is open and no word has begun
 pub future-end : (s : Stream) → s.stopped ≡ false → is_some s.text ≡ false → s.begun.items ≡ [] → future s true [] ≡ end_items s.file (state_of s.record_state) (ends (s.place + 0))
 future-end s running no_text none =
     future-outside s true [] no_text none
@@ -50,7 +50,7 @@ ended-cut s new before after no_text none running busy put =
       stopped = put.appends.stopped ∙ ap has_fault (sym is);
     }
 
--- a string that may stand there, and that the end of the file cuts
+-- a string that is allowed, cut by the end of the file
 text-cut : (file : FileRef) (s : State) (place there : ℕ) (text : List ℕ) → IsOn (turn s (text_token text))
     → items_in file s (and_token there (text_token text) (record { tokens = []; ending = stops place })) ≡ reading.fault (fault_of file Syntax place) ∷ []
 text-cut file s place there text on = by (turn s (text_token text)) on
@@ -64,7 +64,7 @@ text-cut file s place there text on = by (turn s (text_token text)) on
     by (gives pairs next) on = absurd on
     by (fails trouble) on = absurd on
 
--- the end of the file within a string that may stand there
+-- the end of the file within a string that is allowed
 pub ended-open : (s new : Stream) (before after : List Event) → is_some s.text ≡ true → s.stopped ≡ false → IsFit s
     → HasPut s new before after (reading.fault (fault_of s.file Syntax (s.place + length s.begun.items)) ∷ []) → Appends s new before after (future s true [])
 ended-open s new before after some running fit put =

@@ -1,4 +1,4 @@
--- What a front of a file has fixed begins what each longer file gives.
+-- The events of each longer file begin with those that its first bytes fix.
 use Rattle.std.proofs.Common.{◌≡◌, ℕ, ◌+◌, ◌≤◌, ◌==◌, Bool, false, List, [], ◌∷◌, ◌++◌, length, inl, inr, refl, ap, sym, subst, ◌∙◌, arith}
 use Rattle.std.proofs.lemmas.Bool.{cases_Bool, eqb-true}
 use Rattle.std.proofs.lemmas.List.{length-append}
@@ -22,7 +22,7 @@ module _ (whole : Bool) (infer : InferOpts) (file : FileRef) (rest : List ℕ) w
   abbrev Stays : List ℕ → Type 0
   Stays bytes = IsPrefix (file_items false infer file bytes) (file_items whole infer file (bytes ++ rest))
 
-  -- both give what the bytes from a place on give
+  -- both give the items of the bytes from a place on
   both-from : (bytes text : List ℕ) (end wide : ℕ) → length text ≤ end → wide ≡ end + length rest
       → file_items false infer file bytes ≡ items_in file start_state (outside false infer end text)
       → file_items whole infer file (bytes ++ rest) ≡ items_in file start_state (outside whole infer wide (text ++ rest)) → Stays bytes

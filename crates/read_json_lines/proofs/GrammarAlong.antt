@@ -1,4 +1,4 @@
--- The machine of a stream goes along whatever the grammar lets a stream begin with.
+-- The machine of a stream accepts the tokens with which a stream of the grammar may begin.
 use Rattle.std.proofs.Common.{◌≡◌, ℕ, ◌+◌, ◌≤◌, List, [], ◌∷◌, ◌++◌, length, take, refl, ap, ap₂, sym, subst, ◌∙◌, append_assoc, cond}
 use Rattle.std.proofs.Math.Seq.{take-append-add}
 use Rattle.std.proofs.lemmas.Bool.{le-ltb}
@@ -22,9 +22,9 @@ use Rattle.read_json_lines.proofs.GrammarMaps.{IsMapAt, map-on, map-open, map-le
 use Rattle.read_json_lines.proofs.GrammarPositions.{between}
 use Rattle.read_json_lines.proofs.GrammarItems.{items_on, items-cons}
 
--- ---- going along tokens
+-- ---- following tokens
 
--- a turn goes on, and the maps that end there
+-- a token is accepted, and these maps are complete after it
 abbrev pub Gives : Turn → List Members → State → Type 0
 Gives (goes s) maps next = (maps ≡ []) × (s ≡ next)
 Gives (gives pairs s) maps next = (m : Members) × (maps ≡ m ∷ []) × (pairs ≡ record_of m) × (s ≡ next)
@@ -42,7 +42,7 @@ goes-append [] b s mid next g h x y = subst (λ k. Goes s b (k ++ h) next) (sym 
 goes-append (t ∷ a) b s mid next g h x y =
     (x.0, x.1, x.2 ++ h, x.3, goes-append a b x.1 mid next x.2 h x.4 y, ap (λ k. k ++ h) x.5 ∙ append_assoc x.0 x.2 h)
 
--- what it gives are the records of the maps
+-- the items are the records of the maps
 module _ (file : FileRef) (ending : Ending) where
   turn-items : (place : ℕ) (tokens : List (ℕ × Token)) (r : Turn) (maps : List Members) (next : State) → Gives r maps next
       → items_on file place tokens ending r ≡ records maps ++ items_of file next tokens ending
@@ -69,7 +69,7 @@ module _ (file : FileRef) (ending : Ending) where
 abbrev pub inner : Listing → List Frame → Phase → State
 inner listing frames at = record { list = listing; frames = frames; phase = at }
 
--- where the tokens of a map lead that is at most 100 levels deep
+-- the step after the tokens of a map that is at most 100 levels deep
 abbrev pub Along : Listing → List (ℕ × Token) → List Frame → Phase → List Token → Step → Type 0
 Along listing done frames at tokens (on more next) =
     (all : List (ℕ × Token)) × (bare all ≡ bare done ++ tokens) × IsMapAt all more next × Goes (inner listing frames at) tokens [] (inner listing more next)
@@ -77,7 +77,7 @@ Along listing done frames at tokens (whole value) = (m : Members) → value ≡ 
 Along listing done frames at tokens wrong = Unit {0}
 
 module _ (listing : Listing) where
-  -- a step that the level allows
+  -- a step that doesn't exceed the level
   inner-on : (f g : Frame) (frames more : List Frame) (at next : Phase) (t : Token) → step (f ∷ frames) at t ≡ on (g ∷ more) next → length (g ∷ more) ≤ 100
       → turn (inner listing (f ∷ frames) at) t ≡ goes (inner listing (g ∷ more) next)
   inner-on f g frames more at next t is few =

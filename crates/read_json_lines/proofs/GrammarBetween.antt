@@ -19,14 +19,14 @@ use Rattle.read_json_lines.proofs.GrammarMaps.{IsMapAt}
 use Rattle.read_json_lines.proofs.GrammarPositions.{Position, outside, map_open, list_open, after_map, after_comma, listed_map, state_at, open_at, list_frame, frames_at, phase_at, Stood, stood-on, stood-part}
 use Rattle.read_json_lines.proofs.GrammarTurns.{Says, wrong-values, right-values, map-says, listed-says}
 
--- ---- what can't begin a record
+-- ---- tokens that can't begin a record
 
 first-token : (parts : List Part) (t : Token) (rest : List Token) → t ∷ rest ≡ stream_tokens parts → (t ≡ sign BeginMap) ⊎ (t ≡ sign BeginArray)
 first-token [] t rest e = absurd cc
 first-token (one m ∷ parts) t rest e = inl cc
 first-token (list maps ∷ parts) t rest e = inr cc
 
--- records that begin with these tokens, from what is open on
+-- records that begin with these tokens, after those that are open
 records-open : (before : List Token) (maps : List Members) (position : Position) (t : Token) → Stood before maps position → (b : BeginsRecords (before ++ t ∷ []))
     → (parts : List Part) × (open_tokens (open_at position) ++ t ∷ b.more ≡ stream_tokens parts)
 records-open before maps position t h b =
@@ -51,7 +51,7 @@ no-map before maps listed position t h is not b =
         let left : each_map listed ++ t ∷ b.more ≡ (element_tokens (objects all) ++ sign EndArray ∷ []) ++ stream_tokens parts = cc in
         not (list-following listed all t b.more (stream_tokens parts) (left ∙ append_assoc (element_tokens (objects all)) (sign EndArray ∷ []) (stream_tokens parts)))
 
--- a list that is open behind a comma, with a comma behind each map
+-- the tokens of an open list after a comma: each map is followed by a comma
 open-comma : (maps : List Members) (m : Members) → open_tokens (open_at (after_comma maps m)) ≡ sign BeginArray ∷ each_map (maps ++ m ∷ [])
 open-comma maps m =
     append-nil (sign BeginArray ∷ element_tokens (objects (maps ++ m ∷ [])) ++ comma_after (maps ++ m ∷ [])) ∙ ap (λ x. sign BeginArray ∷ x) (each-comma (maps ++ m ∷ []))
@@ -64,7 +64,7 @@ no-item : (t : Token) → (t ≡ sign BeginMap → ⊥) → (t ≡ sign EndArray
 no-item t a b (inl e) = a e
 no-item t a b (inr e) = b e
 
--- ---- a map begins
+-- ---- the start of a map
 
 pub map-first : IsMapAt ((0, sign BeginMap) ∷ []) (Map [] [] ∷ []) phase.FirstKey
 unfolding step
@@ -75,7 +75,7 @@ map-first = record {
   begins = refl;
 }
 
--- ---- outside of all
+-- ---- outside lists and maps
 
 module _ (before : List Token) (maps : List Members) (h : Stood before maps outside) where
   outside-says : (t : Token) → Says (turn (state_at outside) t) before maps outside t
@@ -102,13 +102,13 @@ module _ (before : List Token) (maps : List Members) (h : Stood before maps outs
 
 -- ---- in a list
 
--- a value that is no map
+-- a value that isn't a map
 module _ (before : List Token) (maps listed : List Members) (position : Position) (t : Token) (h : Stood before maps position) where
   kind-says : open_tokens (open_at position) ≡ sign BeginArray ∷ each_map listed → (MayCome t → ⊥) → (step (frames_at position) (phase_at position) t ≡ wrong → ⊥)
       → IsTrouble Kind before (open_at position) t
   kind-says is not right = (right-values before maps position t h right, no-map before maps listed position t h is not)
 
-  -- the list ends
+  -- the end of the list
   list-says : (all : List Members) → open_tokens (open_at position) ++ t ∷ [] ≡ sign BeginArray ∷ element_tokens (objects all) ++ sign EndArray ∷ [] → open_maps (open_at position) ≡ all
       → Stood (before ++ t ∷ []) maps outside
   list-says all tokens same =
@@ -182,7 +182,7 @@ module _ (before : List Token) (maps listed : List Members) (m : Members) where
       kind-says before maps (listed ++ m ∷ []) (after_comma listed m) (word_token value) h (open-comma listed m) (no-item (word_token value) (λ e. cc) (λ e. cc))
       (value-represents value (list_frame (listed ++ m ∷ [])) [])
 
--- ---- anywhere
+-- ---- at any place
 
 pub turn-says : (before : List Token) (maps : List Members) (position : Position) (t : Token) → Stood before maps position → Says (turn (state_at position) t) before maps position t
 turn-says before maps outside t h = outside-says before maps h t

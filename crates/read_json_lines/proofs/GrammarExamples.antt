@@ -48,12 +48,12 @@ module _ (file : FileRef) where
   unfolding step
   open-items = has-items file ((1, sign BeginMap) ∷ (2, sign EndMap) ∷ (3, sign BeginArray) ∷ []) (ends 4)
 
-  -- {"a" and a word that begins: a colon is missing
+  -- {"a" and the start of a word: a colon is missing
   word-items : HasItems file ((1, sign BeginMap) ∷ (2, text_token a) ∷ []) (begins 5) (reading.fault (fault.JsonSyntax file 5) ∷ [])
   unfolding step
   word-items = has-items file ((1, sign BeginMap) ∷ (2, text_token a) ∷ []) (begins 5)
 
-  -- [ and a word, of which the grammar says that it is no map
+  -- [ and a word: by the grammar it isn't a map
   kind-items : (value : Tree) → HasItems file ((1, sign BeginArray) ∷ (2, word_token value) ∷ []) goes_on (reading.fault (fault.JsonKind file 2) ∷ [])
   kind-items value = inl (record {
     before = (1, sign BeginArray) ∷ [];
@@ -75,7 +75,7 @@ module _ (file : FileRef) where
       none (list [] ∷ parts) more e = cc
       none (list (m ∷ maps) ∷ parts) more e = cc
 
-  -- {, with which no value begins
+  -- {, is no start of a value
   syntax-items : HasItems file ((1, sign BeginMap) ∷ (2, sign Comma) ∷ (3, sign BeginMap) ∷ []) goes_on (reading.fault (fault.JsonSyntax file 2) ∷ [])
   syntax-items = inl (record {
     before = (1, sign BeginMap) ∷ [];
@@ -105,11 +105,11 @@ module _ (file : FileRef) where
       none (object (member_and key value m) ∷ values) more e = cc
       none (elements items ∷ values) more e = cc
 
-  -- so the machine finds these, and nothing else
+  -- so the machine gives these items, and no others
   kind-found : (value : Tree) → reading.fault (fault.JsonKind file 2) ∷ [] ≡ items_of file start_state ((1, sign BeginArray) ∷ (2, word_token value) ∷ []) goes_on
   kind-found value = items-only file ((1, sign BeginArray) ∷ (2, word_token value) ∷ []) goes_on (reading.fault (fault.JsonKind file 2) ∷ []) (kind-items value)
 
-  -- a map with a hundred arrays in it is a level too deep, in a list too, where one with fewer isn't
+  -- a map that contains a hundred nested arrays is a level too deep, also in a list; a map with fewer isn't
   deep-items : HasItems file ((1, sign BeginArray) ∷ (2, sign BeginMap) ∷ (3, text_token a) ∷ (6, sign Colon) ∷ replicate 100 (7, sign BeginArray)) goes_on (reading.fault (fault.JsonDeep file 7) ∷ [])
   unfolding step
   deep-items = has-items file ((1, sign BeginArray) ∷ (2, sign BeginMap) ∷ (3, text_token a) ∷ (6, sign Colon) ∷ replicate 100 (7, sign BeginArray)) goes_on

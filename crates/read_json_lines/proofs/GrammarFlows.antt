@@ -1,4 +1,5 @@
--- The machine of values over a stream: a value may stand behind a whole one. What it can't go over begins no values.
+-- The machine of values over a stream, where a value may follow a complete one. Tokens that it doesn't accept
+-- begin no values.
 use Rattle.std.proofs.Common.{◌≡◌, List, [], ◌∷◌, ◌++◌, map, refl, ap, ap₂, sym, subst, ◌∙◌, append_assoc}
 use Rattle.std.specs.List.{flat_map}
 use Rattle.std.proofs.lemmas.List.{append-nil}
@@ -14,7 +15,7 @@ use Rattle.mlr_json.proofs.GrammarRuns.{run, run_on, run-cons, run-whole, repres
 use Rattle.mlr_json.proofs.GrammarOutcome.{run-push, run_on-nil}
 use Rattle.read_json_lines.specs.Grammar.{Part, one, list, objects, part_tokens, stream_tokens, BeginsValues, BeginsRecords}
 
--- token by token, from the start again behind each whole value
+-- the step after tokens; after each complete value the machine starts again
 abbrev pub flow : List Frame → Phase → List Token → Step
 flow frames at [] = on frames at
 flow frames at (token ∷ tokens) = elim (step frames at token) [
@@ -51,7 +52,7 @@ flow-append frames at (x ∷ xs) ys =
     by (whole value) later = later [] phase.Value
     by wrong later = refl
 
--- it goes as a run goes, but for what may follow a whole value
+-- the steps are those of a run, except for the tokens that follow a complete value
 abbrev Goes : Step → Step → Type 0
 Goes (on frames at) flowed = flowed ≡ on frames at
 Goes (whole value) flowed = flowed ≡ on [] phase.Value
@@ -98,12 +99,12 @@ stream-values (p ∷ parts) = ap (λ t. t ++ stream_tokens parts) (part-value p)
 pub records-values : (tokens : List Token) → BeginsRecords tokens → BeginsValues tokens
 records-values tokens h = record { values = map part_value h.parts; more = h.more; whole = h.whole ∙ stream-values h.parts }
 
--- ---- what stands behind whole parts
+-- ---- the tokens after complete parts
 
 pub join-middle : (a b c d : List Token) → ((a ++ b) ++ c) ++ d ≡ a ++ ((b ++ c) ++ d)
 join-middle a b c d = simp append_assoc
 
--- the machine of values stands here behind these tokens
+-- the machine of values is in this state after these tokens
 pub record Reaches (tokens : List Token) (frames : List Frame) (at : Phase) : Type 0 where
   pub represents : Represents frames at tokens
   pub runs : run [] phase.Value tokens ≡ on frames at
@@ -121,7 +122,7 @@ module _ (parts : List Part) (tokens : List Token) (frames : List Frame) (at : P
       ap (λ t. flow [] phase.Value (t ++ tokens)) (stream-values parts) ∙ flow-values (map part_value parts) tokens
       ∙ subst (λ r. Goes r (flow [] phase.Value tokens)) h.runs (flow-run [] phase.Value tokens)
 
-  -- a token that may not come
+  -- a token that isn't allowed
   pub no-values : (t : Token) → step frames at t ≡ wrong → BeginsValues ((stream_tokens parts ++ tokens) ++ t ∷ []) → ⊥
   no-values t is begins =
       let stuck : flow [] phase.Value ((stream_tokens parts ++ tokens) ++ t ∷ []) ≡ wrong =
@@ -133,7 +134,7 @@ module _ (parts : List Part) (tokens : List Token) (frames : List Frame) (at : P
       let e : on [] phase.Value ≡ wrong = sym ends ∙ all in
       cc
 
-  -- one that may
+  -- a token that is allowed
   pub some-values : (t : Token) → (step frames at t ≡ wrong → ⊥) → BeginsValues ((stream_tokens parts ++ tokens) ++ t ∷ [])
   some-values t right = following (by (step frames at t) refl)
     where
@@ -154,7 +155,7 @@ module _ (parts : List Part) (tokens : List Token) (frames : List Frame) (at : P
             ∙ sym (flat_map-append tokens_in (map part_value parts) (b.syntax ∷ []));
       }
 
-  -- with a bracket open they are no whole stream
+  -- with an open bracket the tokens are no complete stream
   pub no-stream : (is_open : (frames ≡ []) → ⊥) (other : List Part) → stream_tokens parts ++ tokens ≡ stream_tokens other → ⊥
   no-stream is_open other is =
       let ends : flow [] phase.Value (stream_tokens other) ≡ on [] phase.Value =

@@ -1,4 +1,4 @@
--- What the tokens of a stream give is what the grammar says of them.
+-- The items of the tokens of a stream are those of the grammar.
 use Rattle.std.proofs.Common.{◌≡◌, ℕ, Bool, true, false, cond, List, [], ◌∷◌, ◌++◌, inl, inr, refl, ap, sym, subst, ◌∙◌, append_assoc}
 use Rattle.std.proofs.lemmas.List.{append-nil, map-append}
 use Rattle.std.proofs.lemmas.Bool.{cases_Bool}
@@ -27,7 +27,7 @@ use Rattle.read_json_lines.proofs.GrammarBetween.{turn-says}
 -- ---- the end of the tokens
 
 module _ (file : FileRef) (before : List Token) (maps : List Members) (place : ℕ) where
-  -- a word that begins within a map
+  -- a word that has begun within a map
   within-last : (position : Position) (f : Frame) (frames : List Frame) (at : Phase) → frames_at position ≡ f ∷ frames → phase_at position ≡ at → Stood before maps position
       → IsLast file before (begins place) (cond (takes_value at) [] (reading.fault (fault_of file Syntax place) ∷ []))
   within-last position f frames at frames_are at_is h =
@@ -80,7 +80,7 @@ last-says file before maps position (ends place) h = whole-last file before maps
 
 -- ---- all tokens
 
--- what a turn gives, and the tokens behind it
+-- the items of an outcome, and of the tokens after it
 abbrev pub items_on : FileRef → ℕ → List (ℕ × Token) → Ending → Turn → List Item
 items_on file place tokens ending (goes next) = items_of file next tokens ending
 items_on file place tokens ending (gives pairs next) = fields pairs ∷ items_of file next tokens ending

@@ -1,4 +1,4 @@
--- A map that isn't whole, on the machine's stack: where it goes on, where it ends, and what its tokens begin.
+-- An incomplete map on the machine's stack: how it continues, where it ends, and which tokens begin it.
 use Rattle.std.proofs.Common.{◌≡◌, ℕ, ◌+◌, ◌<◌, ◌≤◌, List, [], ◌∷◌, ◌++◌, length, refl, ap, sym, subst, ◌∙◌, arith, zero-add}
 use Rattle.std.proofs.lemmas.List.{append-nil}
 use Rattle.std.specs.List.{count_by}
@@ -15,14 +15,14 @@ use Rattle.mlr_json.proofs.GrammarRuns.{run, run-whole, represents-begins}
 use Rattle.mlr_json.proofs.GrammarOutcome.{one_if, at_most_one, Balanced, balanced, shallow-push, bare-push, level-push, Reads, reads-push}
 use Rattle.read_json_lines.specs.Grammar.{record_of, IsBegun}
 
--- a value whose tokens begin as those of a map is a map
+-- a value whose tokens begin like those of a map is a map
 pub object-begun : (s : Syntax) (rest : List Token) → sign BeginMap ∷ rest ≡ tokens_in s → (m : Members) × (s ≡ object m)
 object-begun (text t) rest e = absurd cc
 object-begun (word value) rest e = absurd cc
 object-begun (object m) rest e = (m, refl)
 object-begun (elements items) rest e = absurd cc
 
--- no bracket is open before the first token alone
+-- no bracket is open only before the first token
 pub nothing-open : (at : Phase) (tokens : List Token) → Represents [] at tokens → tokens ≡ []
 nothing-open phase.Value tokens h = h
 nothing-open phase.FirstItem tokens h = absurd h
@@ -31,7 +31,7 @@ nothing-open phase.Key tokens h = absurd h
 nothing-open phase.Colon tokens h = absurd h
 nothing-open phase.Later tokens h = absurd h
 
--- tokens of a map that isn't whole, and the stack behind them
+-- the tokens of an incomplete map, and the stack after them
 pub record IsMapAt (done : List (ℕ × Token)) (frames : List Frame) (at : Phase) : Type 0 where
   pub reads : Reads done frames at
   pub few : length frames ≤ 100
@@ -39,7 +39,7 @@ pub record IsMapAt (done : List (ℕ × Token)) (frames : List Frame) (at : Phas
   pub begins : bare done ≡ sign BeginMap ∷ rest
 
 module _ (done : List (ℕ × Token)) (frames : List Frame) (at : Phase) (h : IsMapAt done frames at) where
-  -- its tokens begin a map, and aren't all of it
+  -- the tokens begin a map, and aren't all of it
   pub map-begun : IsBegun (bare done)
   map-begun =
       let b : Begins (bare done) = represents-begins frames at (bare done) h.reads.represents in
@@ -64,7 +64,7 @@ module _ (done : List (ℕ × Token)) (frames : List Frame) (at : Phase) (h : Is
         → count_by is_opening (bare done ++ t ∷ []) ≡ count_by is_closing (bare done ++ t ∷ []) + n
     level-following n e = level-push done frames at t n h.reads e
 
-    -- where the stack goes on, with the level that it has then
+    -- if the machine continues, the level is the height of its stack
     pub map-level : (more : List Frame) (next : Phase) → step frames at t ≡ on more next → level_of (bare done ++ t ∷ []) ≡ length more
     map-level more next is =
         let l : count_by is_opening (bare done ++ t ∷ []) ≡ count_by is_closing (bare done ++ t ∷ []) + length more =
@@ -87,21 +87,21 @@ module _ (done : List (ℕ × Token)) (frames : List Frame) (at : Phase) (h : Is
       begins = bare-push done 0 t ∙ begins-push;
     }
 
-    -- a bracket stays open
+    -- a bracket remains open
     pub map-open : (next : Phase) → step frames at t ≡ on [] next → ⊥
     map-open next is =
         let none : bare done ++ t ∷ [] ≡ [] = nothing-open next (bare done ++ t ∷ []) (came (on [] next) is) in
         let e : sign BeginMap ∷ (h.rest ++ t ∷ []) ≡ [] = sym begins-push ∙ none in
         cc
 
-    -- it goes on to a map
+    -- the tokens can be completed to a map
     pub map-goes : (more : List Frame) (next : Phase) → step frames at t ≡ on more next → (m : Members) × (rest : List Token) × ((bare done ++ t ∷ []) ++ rest ≡ tokens_in (object m))
     map-goes more next is =
         let b : Begins (bare done ++ t ∷ []) = represents-begins more next (bare done ++ t ∷ []) (came (on more next) is) in
         let m = object-begun b.syntax ((h.rest ++ t ∷ []) ++ b.more) (sym (ap (λ x. x ++ b.more) begins-push) ∙ b.whole) in
         (m.0, b.more, b.whole ∙ ap tokens_in m.1)
 
-    -- it is whole
+    -- the map is complete
     pub record IsWhole (value : Tree) : Type 0 where
       pub members : Members
       pub tokens_are : bare done ++ t ∷ [] ≡ tokens_in (object members)

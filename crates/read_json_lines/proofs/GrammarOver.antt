@@ -1,4 +1,4 @@
--- The machine within a bracket goes as it goes with more brackets open round it.
+-- Within a bracket, the machine takes the same steps when more brackets are open around it.
 use Rattle.std.proofs.Common.{◌≡◌, ℕ, List, [], ◌∷◌, ◌++◌, refl}
 use Rattle.mlr_spec.specs.declared.json.JsonMark.TheVariants.{BeginMap, EndMap, BeginArray, EndArray, Colon, Comma}
 use Rattle.mlr_spec.specs.Tree.{Tree, map_of, array_of}
@@ -11,12 +11,12 @@ use Rattle.mlr_json.specs.declared.frame.Phase.{Phase}
 use Rattle.mlr_json.specs.declared.frame.Phase.TheVariants as phase
 use Rattle.mlr_json.specs.Machine.{Step, on, whole, wrong, with_value, with_key, map_ended, array_ended, colon_read, comma_read, step_mark, step}
 
--- within a bracket a value goes on
+-- within a bracket a value is accepted
 pub value-represents : (value : Tree) (f : Frame) (frames : List Frame) → with_value value (f ∷ frames) ≡ wrong → ⊥
 value-represents value (Array items) frames e = let x : on (Array (items ++ value ∷ []) ∷ frames) phase.Later ≡ wrong = e in cc
 value-represents value (Map pairs key) frames e = let x : on (Map (put_at key value pairs) key ∷ frames) phase.Later ≡ wrong = e in cc
 
--- a step, with these frames round it
+-- a step, with these frames around it
 abbrev pub over : List Frame → Step → Step
 over outer (on frames at) = on (frames ++ outer) at
 over outer (whole value) = with_value value outer

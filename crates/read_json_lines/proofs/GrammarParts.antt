@@ -1,4 +1,4 @@
--- The tokens of maps and lists of maps: how they go on, and that they can be read in one way.
+-- The tokens of maps and of lists of maps: how they continue, and that they can be read in only one way.
 use Rattle.std.proofs.Common.{◌≡◌, List, [], ◌∷◌, ◌++◌, ◌⊎◌, inl, inr, refl, ap, ap₂, sym, ◌∙◌, append_assoc}
 use Rattle.std.specs.List.{flat_map}
 use Rattle.std.proofs.lemmas.List.{append-nil}
@@ -25,7 +25,7 @@ parts-push parts p rest =
 pub maps-push : (parts : List Part) (p : Part) → stream_maps (parts ++ p ∷ []) ≡ stream_maps parts ++ part_maps p
 maps-push parts p = flat_map-append part_maps parts (p ∷ []) ∙ ap (λ t. stream_maps parts ++ t) (append-nil (part_maps p))
 
--- each map with a comma behind it
+-- each map, followed by a comma
 abbrev pub each_map : List Members → List Token
 each_map maps = flat_map (λ m. tokens_in (object m) ++ sign Comma ∷ []) maps
 
@@ -59,9 +59,9 @@ list-push (k ∷ l ∷ maps) m =
     regroup : (a b c d e : List Token) → a ++ (b ++ ((c ++ d) ++ e)) ≡ ((a ++ (b ++ c)) ++ d) ++ e
     regroup a b c d e = simp append_assoc
 
--- ---- a whole value at the front of tokens is the only one there
+-- ---- only one complete value is a prefix of the tokens
 
--- of two fronts one is a front of the other
+-- of two prefixes of a list, one is a prefix of the other
 prefixes : {A : Type 0} (a b x y : List A) → a ++ x ≡ b ++ y → ((z : List A) × (b ≡ a ++ z) × (x ≡ z ++ y)) ⊎ ((z : List A) × (a ≡ b ++ z) × (y ≡ z ++ x))
 prefixes [] b x y e = inl (b, refl, e)
 prefixes (u ∷ a) [] x y e = inr (u ∷ a, refl, sym e)
@@ -85,7 +85,7 @@ one-value a b x y e = elim (prefixes (tokens_in a) (tokens_in b) x y e) [
   | inr h ↦ sym (h.2 ∙ ap (λ z. z ++ x) (nothing-more b a h.0 h.1))
 ]
 
--- what is behind whole parts, in a stream of parts, is parts
+-- in a stream of parts, the tokens after complete parts are parts
 pub parts-following : (parts all : List Part) (rest : List Token) → stream_tokens parts ++ rest ≡ stream_tokens all → (more : List Part) × (rest ≡ stream_tokens more)
 parts-following [] all rest e = (all, e)
 parts-following (one m ∷ parts) [] rest e = absurd cc
@@ -96,7 +96,7 @@ parts-following (p ∷ parts) (q ∷ all) rest e =
     (ap (λ t. t ++ (stream_tokens parts ++ rest)) (sym (part-value p)) ∙ sym (append_assoc (part_tokens p) (stream_tokens parts) rest) ∙ e
     ∙ ap (λ t. t ++ stream_tokens all) (part-value q)))
 
--- what may come behind a comma of a list of maps, or first in it
+-- a token that is allowed after a comma of a list of maps, or first in the list
 abbrev pub MayCome : Token → Type 0
 MayCome t = (t ≡ sign BeginMap) ⊎ (t ≡ sign EndArray)
 

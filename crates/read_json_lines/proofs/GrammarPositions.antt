@@ -1,4 +1,4 @@
--- Where the machine of a stream stands behind tokens, as the grammar has them.
+-- The state of the machine of a stream after tokens, in the grammar's terms.
 use Rattle.std.proofs.Common.{◌≡◌, ℕ, List, [], ◌∷◌, ◌++◌, map, refl, ap, sym, subst, ◌∙◌, append_assoc}
 use Rattle.std.proofs.lemmas.List.{append-nil}
 use Rattle.std.proofs.lemmas.List.Elements.{All-append, All-nil, All-push}
@@ -20,7 +20,8 @@ use Rattle.read_json_lines.proofs.GrammarFlows.{join-middle, Reaches, reaches-pu
 use Rattle.read_json_lines.proofs.GrammarParts.{parts-push, maps-push}
 use Rattle.read_json_lines.proofs.GrammarMaps.{IsMapAt, map-begun}
 
--- outside of all; in a map; in a list, before its first map, behind a map, or behind a comma; or in a map of a list
+-- outside lists and maps; in a map; in a list before its first map, after a map, or after a comma; or in a
+-- map of a list
 pub data Position : Type 0 where
   outside : Position
   map_open : List (ℕ × Token) → Frame → List Frame → Phase → Position
@@ -107,7 +108,7 @@ stood-prefix before maps position h = record {
 -- ---- one more token
 
 module _ (before : List Token) (maps : List Members) (position : Position) (t : Token) (h : Stood before maps position) where
-  -- the same parts, with other tokens open behind them
+  -- the same parts, with other tokens open after them
   pub stood-on : (next : Position) → open_tokens (open_at position) ++ t ∷ [] ≡ open_tokens (open_at next) → open_maps (open_at position) ≡ open_maps (open_at next)
       → step (frames_at position) (phase_at position) t ≡ on (frames_at next) (phase_at next) → HasMap next → Stood (before ++ t ∷ []) maps next
   stood-on next tokens same is has = record {
@@ -120,7 +121,7 @@ module _ (before : List Token) (maps : List Members) (position : Position) (t : 
     shallow = h.shallow;
   }
 
-  -- one more map of the list that is open
+  -- the open list has one more map
   pub stood-map : (listed : List Members) (m : Members) → open_maps (open_at position) ≡ listed → open_tokens (open_at position) ++ t ∷ [] ≡ sign BeginArray ∷ element_tokens (objects (listed ++ m ∷ []))
       → step (frames_at position) (phase_at position) t ≡ on (list_frame (listed ++ m ∷ []) ∷ []) phase.Later → IsShallow (tokens_in (object m))
       → Stood (before ++ t ∷ []) (maps ++ m ∷ []) (after_map listed m)
@@ -134,7 +135,7 @@ module _ (before : List Token) (maps : List Members) (position : Position) (t : 
     shallow = All-push (λ x. IsShallow (tokens_in (object x))) maps m h.shallow low;
   }
 
-  -- one more part is whole
+  -- one more part is complete
   pub stood-part : (p : Part) (more : List Members) → open_tokens (open_at position) ++ t ∷ [] ≡ part_tokens p → open_maps (open_at position) ++ more ≡ grammar.part_maps p → AreShallow more
       → Stood (before ++ t ∷ []) (maps ++ more) outside
   stood-part p more tokens same low = record {
@@ -150,7 +151,7 @@ module _ (before : List Token) (maps : List Members) (position : Position) (t : 
     shallow = All-append (λ m. IsShallow (tokens_in (object m))) maps more h.shallow low;
   }
 
-  -- records go on, with these tokens behind
+  -- the tokens can be completed to records, with these tokens after them
   pub records-go : (p : Part) (rest : List Token) → (open_tokens (open_at position) ++ t ∷ []) ++ rest ≡ part_tokens p → BeginsRecords (before ++ t ∷ [])
   records-go p rest tokens = record {
     parts = h.parts ++ p ∷ [];

@@ -1,4 +1,4 @@
--- The machine of a stream along maps, lists of maps, whole streams, and the fronts of streams.
+-- The machine of a stream accepts maps, lists of maps, complete streams, and the prefixes of streams.
 use Rattle.std.proofs.Common.{◌≡◌, ◌+◌, false, List, [], ◌∷◌, ◌++◌, length, refl, ap, sym, subst, ◌∙◌}
 use Rattle.std.proofs.lemmas.List.{append-nil}
 use Rattle.std.proofs.lemmas.List.Elements.{All-head, All-tail, All-cons, All-nil}
@@ -31,7 +31,7 @@ all-following P (x ∷ xs) ys h = all-following P xs ys (All-tail P x (xs ++ ys)
 abbrev Low : Members → Type 0
 Low m = IsShallow (tokens_in (object m))
 
--- the stack behind the first token of a map
+-- the stack after the first token of a map
 abbrev first_frames : List Frame
 first_frames = Map [] [] ∷ []
 
@@ -56,7 +56,7 @@ module _ (listing : Listing) (may : is_after listing ≡ false) where
       (sym (run-first (member_tokens m ++ sign EndMap ∷ [])) ∙ run-whole (object m))
       (along listing (member_tokens m ++ sign EndMap ∷ []) ((0, sign BeginMap) ∷ []) (Map [] []) [] phase.FirstKey map-first low) m refl)
 
-  -- a map that isn't whole, and how many brackets of it are open
+  -- an incomplete map, and the number of its open brackets
   abbrev GoesBegun : List Token → Type 0
   GoesBegun tokens =
       (s : State) × Goes (between listing) tokens [] s × (count_by is_opening tokens ≡ count_by is_closing tokens + length s.frames)
@@ -128,9 +128,9 @@ goes-stream (p ∷ parts) low =
     goes-append (part_tokens p) (stream_tokens parts) (between Outside) (between Outside) (between Outside) (part_maps p) (stream_maps parts)
     (goes-part p (all-prefix Low (part_maps p) (stream_maps parts) low)) (goes-stream parts (all-following Low (part_maps p) (stream_maps parts) low))
 
--- ---- what is open behind it
+-- ---- what is open after it
 
--- it goes along them, and so many brackets of a map are open then
+-- the machine accepts these tokens, and then has the open brackets of the incomplete map
 abbrev pub GoesOpen : List Token → List Members → Open → Type 0
 GoesOpen tokens maps following =
     (s : State) × Goes (between Outside) tokens maps s × (count_by is_opening (begun_tokens following) ≡ count_by is_closing (begun_tokens following) + length s.frames)

@@ -1,4 +1,5 @@
--- Each token leads the machine of a stream where the grammar leads, or is in the trouble that the grammar has with it.
+-- Each token leads the machine of a stream to the state that the grammar says, or is the fault that the
+-- grammar says.
 use Rattle.std.proofs.Common.{◌≡◌, ℕ, ◌<◌, ◌≤◌, cond, List, [], ◌∷◌, ◌++◌, inl, inr, length, refl, ap, sym, subst, ◌∙◌, append_assoc, ltb}
 use Rattle.std.proofs.lemmas.List.{map-append}
 use Rattle.std.proofs.lemmas.List.Elements.{All-nil, All-push}
@@ -24,7 +25,7 @@ use Rattle.read_json_lines.proofs.GrammarParts.{list-push}
 use Rattle.read_json_lines.proofs.GrammarMaps.{map-level, map-deep, map-on, map-open, map-goes, map-whole}
 use Rattle.read_json_lines.proofs.GrammarPositions.{Position, outside, map_open, after_map, listed_map, between, state_at, open_at, list_frame, frames_at, phase_at, Stood, stood-on, stood-map, stood-part, records-go}
 
--- where a turn leads behind these tokens and maps
+-- the outcome of a token after these tokens and maps
 abbrev pub Says : Turn → List Token → List Members → Position → Token → Type 0
 Says (goes s) before maps position t = (next : Position) × (s ≡ state_at next) × Stood (before ++ t ∷ []) maps next × (level_of (begun_tokens (open_at position) ++ t ∷ []) ≤ 100)
 Says (gives pairs s) before maps position t =
@@ -34,7 +35,7 @@ Says (fails trouble) before maps position t = IsTrouble trouble before (open_at 
 
 -- ---- within a map
 
--- a token that may not come
+-- a token that isn't allowed
 pub wrong-values : (before : List Token) (maps : List Members) (position : Position) (t : Token) → Stood before maps position → step (frames_at position) (phase_at position) t ≡ wrong
     → BeginsValues (before ++ t ∷ []) → ⊥
 wrong-values before maps position t h is =
@@ -45,7 +46,7 @@ pub right-values : (before : List Token) (maps : List Members) (position : Posit
 right-values before maps position t h right =
     subst (λ x. BeginsValues (x ++ t ∷ [])) (sym h.tokens_are) (some-values h.parts (open_tokens (open_at position)) (frames_at position) (phase_at position) h.reaches t right)
 
--- a step that stays within the map: it goes on, or opens level 101
+-- a step that stays within the map: it is accepted, or it opens level 101
 module _ (before : List Token) (maps : List Members) (position : Position) (t : Token) (listing : Listing) (f : Frame) (more : List Frame) (next : Phase) where
   on-says : (length (f ∷ more) ≤ 100 → Says (goes (record { list = listing; frames = f ∷ more; phase = next })) before maps position t)
       → (100 < length (f ∷ more) → IsTrouble Deep before (open_at position) t) → Says (value_turn listing (on (f ∷ more) next)) before maps position t
@@ -56,7 +57,7 @@ module _ (before : List Token) (maps : List Members) (position : Position) (t : 
       ]
 
 module _ (before : List Token) (maps : List Members) (done : List (ℕ × Token)) (f : Frame) (frames : List Frame) (at : Phase) (t : Token) where
-  -- outside of lists
+  -- outside lists
   pub map-says : Stood before maps (map_open done f frames at) → (s : Step) → step (f ∷ frames) at t ≡ s → Says (value_turn Outside s) before maps (map_open done f frames at) t
   map-says h wrong is = wrong-values before maps (map_open done f frames at) t h is
   map-says h (on [] next) is = absurd (map-open done (f ∷ frames) at h.has_map t next is)

@@ -1,4 +1,4 @@
--- What the grammar says of the tokens of a stream, the machine gives: so it says one thing.
+-- The machine gives the items that the grammar says, so the grammar determines them.
 use Rattle.std.proofs.Common.{◌≡◌, ℕ, ◌+◌, ◌≤◌, List, [], ◌∷◌, ◌++◌, inl, inr, length, refl, ap, sym, subst, ◌∙◌, append_assoc, arith}
 use Rattle.std.proofs.lemmas.List.{append-nil}
 use Rattle.std.proofs.lemmas.Grind.{flat_map-append}
@@ -24,9 +24,9 @@ use Rattle.read_json_lines.proofs.GrammarItems.{last-says, items_on, items-cons}
 use Rattle.read_json_lines.proofs.GrammarAlong.{Goes, Gives, goes-items}
 use Rattle.read_json_lines.proofs.GrammarStreams.{goes-prefix}
 
--- ---- a stream goes on behind each front
+-- ---- each prefix of a stream can be continued
 
--- what is open can be made whole
+-- what is open can be completed
 abbrev IsPart : Open → Type 0
 IsPart following = (parts : List Part) × (more : List Token) × (open_tokens following ++ more ≡ stream_tokens parts)
 
@@ -56,7 +56,7 @@ prefix-begins tokens maps following h =
           ∙ sym (flat_map-append part_tokens h.parts p.0);
     }
 
--- ---- a token has one trouble at most
+-- ---- a token has at most one fault
 
 trouble-only : (why other : Trouble) (before : List Token) (following others : Open) (t : Token) → IsTrouble why before following t → IsTrouble other before others t → why ≡ other
 trouble-only Syntax Syntax before following others t x y = refl
@@ -69,13 +69,13 @@ trouble-only Deep Syntax before following others t x y = absurd (y (records-valu
 trouble-only Deep Kind before following others t x y = absurd (y.1 x.0)
 trouble-only Deep Deep before following others t x y = refl
 
--- none, where records go on and the level allows it
+-- there is no fault if records continue and the level is allowed
 no-trouble : (why : Trouble) (before : List Token) (following : Open) (t : Token) → BeginsRecords (before ++ t ∷ []) → level_of (begun_tokens following ++ t ∷ []) ≤ 100 → IsTrouble why before following t → ⊥
 no-trouble Syntax before following t records low x = x (records-values (before ++ t ∷ []) records)
 no-trouble Kind before following t records low x = x.1 records
 no-trouble Deep before following t records low x = let e : level_of (begun_tokens following ++ t ∷ []) ≡ 101 = x.1 in omega arith
 
--- ---- the machine behind a front
+-- ---- the machine after a prefix
 
 stood-level : (position : Position) → HasMap position
     → count_by is_opening (begun_tokens (open_at position)) ≡ count_by is_closing (begun_tokens (open_at position)) + length (state_at position).frames
@@ -86,7 +86,7 @@ stood-level (after_map maps m) h = refl
 stood-level (after_comma maps m) h = refl
 stood-level (listed_map listing maps done f frames at) h = h.0.reads.level
 
--- so many open brackets make the level, whatever the tokens
+-- the number of open brackets determines the level
 same-level : (a b : List Token) (t : Token) (n : ℕ) → count_by is_opening a ≡ count_by is_closing a + n → count_by is_opening b ≡ count_by is_closing b + n
     → level_of (a ++ t ∷ []) ≤ 100 → level_of (b ++ t ∷ []) ≤ 100
 same-level a b t n x y low =
@@ -115,7 +115,7 @@ goes-stood (t ∷ tokens) before all maps position next h g =
         later (all ++ says.2 ∷ []) says.0 more says.4 (subst (λ x. Goes x tokens more next) (sym given.3 ∙ says.1) go)
     by (fails trouble) says first mid given more go later = absurd given
 
--- ---- one description
+-- ---- the items are determined
 
 last-only : (file : FileRef) (tokens : List Token) (ending : Ending) (a b : List Item) → IsLast file tokens ending a → IsLast file tokens ending b → a ≡ b
 last-only file tokens goes_on a b x y = x ∙ sym y

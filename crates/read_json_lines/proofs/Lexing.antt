@@ -1,4 +1,4 @@
--- Lexemes of what is left, as far as they are known.
+-- The known lexemes of the rest of a text.
 use Rattle.std.proofs.Common.{◌≡◌, ℕ, suc, ◌+◌, ◌-◌, ◌<◌, ◌≤◌, Bool, true, false, cond, ◌==◌, List, [], ◌∷◌, length, drop, Option, Some, None, refl, ap, ◌∙◌, arith, add-one}
 use Rattle.std.specs.List.{prefix_len, take_while}
 use Rattle.std.proofs.lemmas.Bool.{lt-ltb}
@@ -31,7 +31,7 @@ left-prefix : (inside : Bool) (end : ℕ) (text : List ℕ) → lexemes_left ins
 unfolding lexemes_left
 left-prefix inside end text = rw add-one (from-prefix (length text) inside (end - length text) text)
 
--- an empty text begins a lexeme
+-- the empty text has begun a lexeme, but has none
 pub nothing-between : lexeme_outside [] ≡ begun
 unfolding lexeme_outside
 nothing-between = refl
@@ -48,7 +48,7 @@ pub ending-stops : (whole : Bool) (end place : ℕ) → place < end → ending w
 ending-stops true end place below = refl
 ending-stops false end place below = ap (λ b. cond b (stops place) goes_on) (lt-ltb place end below)
 
--- no lexeme is there
+-- there is no lexeme
 abbrev pub stopped_at : Bool → ℕ → Option ℕ → Settled
 stopped_at whole end stop = record { lexemes = []; ending = ending whole end stop }
 
@@ -68,14 +68,14 @@ known-step : (whole : Bool) (end place : ℕ) (l : Lexeme) (more : Lexemes) → 
 known-step true end place l more never = refl
 known-step false end place l more never = ap (λ b. cond b (record { lexemes = []; ending = begins place }) (and_settled place l (settled end more.lexemes more.stop))) never
 
--- a lexeme that isn't a word at the end
+-- a lexeme that isn't a word at the end of the text
 pub left-step : (whole inside : Bool) (end : ℕ) (text : List ℕ) (l : Lexeme) (len : ℕ) → length text ≤ end → first_lexeme inside text ≡ found l len
     → is_begun l (lexemes_left (is_inside inside l) end (drop len text)).lexemes (lexemes_left (is_inside inside l) end (drop len text)).stop ≡ false
     → left whole inside end text ≡ and_settled (end - length text) l (left whole (is_inside inside l) end (drop len text))
 left-step whole inside end text l len fits is never =
     ap (known whole end) (left-found inside end text l len fits is) ∙ known-step whole end (end - length text) l (lexemes_left (is_inside inside l) end (drop len text)) never
 
--- a word is whole if bytes follow
+-- a word is complete if bytes follow
 outside-begins : (b : ℕ) (t : List ℕ) → lexeme_outside (b ∷ t) ≡ begun → ⊥
 unfolding lexeme_outside
 outside-begins b t is =

@@ -33,13 +33,13 @@ module _ (opts : ReadOpts) (file : FileRef) (start : Ctx) (old : Stream) (all : 
     represents = subst (λ p. RepresentsWith mark opts file start new all left p) (sym (append-nil put)) (subst (λ t. RepresentsWith mark opts file start new all t put) (sym is) represents);
   }
 
-  -- one byte more of it
+  -- one more byte of the mark
   one-more : (n b : ℕ) (t : List ℕ) → n + 1 < 3 → b ≡ slice_index_or {A = ℕ} byte_order_mark n 0 → RepresentsWith (Some n) opts file start old all (b ∷ t) put → RepresentsWith (Some (n + 1)) opts file start old all t put
   one-more zero b t small is represents = (represents.0, small, represents.2 ∙ ap (λ x. x ∷ t) is, represents.3)
   one-more (suc zero) b t small is represents = (represents.0, small, represents.2 ∙ ap (λ x. 239 ∷ x ∷ t) is, represents.3)
   one-more (suc (suc n)) b t small is represents = absurd (omega (arith, small))
 
-  -- its last byte
+  -- the last byte of the mark
   abbrev past_mark : Stream
   past_mark = record old { place = old.place + 3 }
 
@@ -72,7 +72,7 @@ module _ (opts : ReadOpts) (file : FileRef) (start : Ctx) (old : Stream) (all : 
       }
   last-one (suc (suc (suc n))) b t small many is represents = absurd (omega (arith, small))
 
-  -- another byte, where no mark has begun
+  -- another byte, before any byte of the mark
   none-begun : (b : ℕ) (t : List ℕ) → (b ≡ 239 → ⊥) → RepresentsWith (Some 0) opts file start old all (b ∷ t) put → Goes opts file start old all (b ∷ t) put
   none-begun b t differs represents =
       let starts = represents.0 in
@@ -97,7 +97,7 @@ module _ (opts : ReadOpts) (file : FileRef) (start : Ctx) (old : Stream) (all : 
         | inr other ↦ other
       ]
 
-  -- another byte behind a part of it
+  -- another byte, after a part of the mark
   not-whole : (new : Stream) (after : List Event) (n b : ℕ) (t : List ℕ) → 0 < n → (b ≡ slice_index_or {A = ℕ} byte_order_mark n 0 → ⊥)
       → HasPut old new before after (reading.fault (fault_of old.file Syntax (n + 1)) ∷ []) → RepresentsWith (Some n) opts file start old all (b ∷ t) put
       → Moves opts file start None new all (b ∷ t) put before after
@@ -133,7 +133,7 @@ module _ (opts : ReadOpts) (file : FileRef) (start : Ctx) (old : Stream) (all : 
       by whole rest (suc (suc zero)) some differs small = third-other whole opts.infer file b (t ++ rest) (apart b 191 differs)
       by whole rest (suc (suc (suc n))) some differs small = absurd (omega (arith, small))
 
-  -- the same for what the code asks
+  -- the same, in terms of the code's tests
   module _ (mark : Option ℕ) (m : ℕ) (text : List ℕ) (m_is : m ≡ unwrap_or mark 0) (waits : is_some mark ≡ true) (some : 0 < length text) where
     abbrev left : List ℕ
     left = take (length text - 1) (drop 1 text)

@@ -1,4 +1,4 @@
--- The front of a file: with a byte order mark, with a part of one, or without.
+-- The start of a file: with a byte order mark, with a part of one, or without.
 use Rattle.std.proofs.Common.{◌≡◌, ℕ, zero, suc, ◌+◌, ◌<◌, nat_lt, Bool, true, false, not, ◌&&◌, ◌==◌, cond, if◌then◌else◌, List, [], ◌∷◌, length, take, refl, ap, sym, ◌∙◌, arith, is_some}
 use Rattle.std.proofs.lemmas.Bool.{lt-ltb}
 use Rattle.mlr_spec.specs.declared.infer.InferOpts.{InferOpts}
@@ -17,7 +17,7 @@ use Rattle.read_json_lines.specs.Streams.{outside, future, Starts}
 use Rattle.read_json_lines.proofs.Taking.{all-following}
 use Rattle.read_json_lines.proofs.Turning.{future-outside}
 
--- a stream before its first byte gives what the bytes from there on give
+-- a stream at its start gives the items of the bytes from there on
 pub starts-future : (s : Stream) (infer : InferOpts) (file : FileRef) (start : Ctx) (place : ℕ) → Starts s infer file start place → (whole : Bool) (text : List ℕ)
     → future s whole text ≡ items_in file start_state (outside whole infer (place + length text) text)
 starts-future s infer file start place starts whole text =
@@ -30,14 +30,14 @@ starts-future s infer file start place starts whole text =
     ∙ ap (λ p. items_in file start_state (outside whole infer (p + length text) text)) starts.place_is
 
 module _ (whole : Bool) (infer : InferOpts) (file : FileRef) where
-  -- what bytes give from their mark on
+  -- the items of bytes, by their byte order mark
   abbrev text_items : List ℕ → List Item
   text_items bytes = items_in file start_state (tokens_known infer (known whole (length bytes + 1) (lexemes_left false (length bytes + 1) (without_mark bytes))))
 
   abbrev by_part : List ℕ → ℕ → List Item
   by_part bytes n = if nat_lt 0 n then reading.fault (fault_of file Syntax (n + 1)) ∷ [] else text_items bytes
 
-  -- bytes that don't end within a mark, and those of them that begin no part of one
+  -- bytes that don't end within a mark, and those that don't begin with a part of one
   not-ended : (bytes : List ℕ) → (not whole && is_mark_begun bytes) ≡ false → file_items whole infer file bytes ≡ by_part bytes (mark_part bytes)
   not-ended bytes none = ap (λ b. cond b [] (by_part bytes (mark_part bytes))) none
 
@@ -54,7 +54,7 @@ module _ (whole : Bool) (infer : InferOpts) (file : FileRef) where
       by true = refl
       by false = none
 
-  -- the first bytes of a mark, where the next of it doesn't come
+  -- the first bytes of a mark, followed by another byte
   mark-fault : (bytes : List ℕ) (n : ℕ) → 0 < n → (not whole && is_mark_begun bytes) ≡ false → mark_part bytes ≡ n → file_items whole infer file bytes ≡ reading.fault (fault_of file Syntax (n + 1)) ∷ []
   mark-fault bytes n some none part =
       not-ended bytes none ∙ ap (by_part bytes) part
@@ -70,7 +70,7 @@ module _ (whole : Bool) (infer : InferOpts) (file : FileRef) where
   pub third-other : (b : ℕ) (text : List ℕ) → (b == 191) ≡ false → file_items whole infer file (239 ∷ 187 ∷ b ∷ text) ≡ reading.fault (fault_of file Syntax 3) ∷ []
   third-other b text other = mark-fault (239 ∷ 187 ∷ b ∷ text) 2 (omega arith) (not-begun (239 ∷ 187 ∷ b ∷ text) refl) (rw other refl)
 
-  -- a whole mark
+  -- a complete mark
   pub marked : (text : List ℕ) → file_items whole infer file (239 ∷ 187 ∷ 191 ∷ text) ≡ items_in file start_state (outside whole infer (4 + length text) text)
   marked text =
       let end : length (239 ∷ 187 ∷ 191 ∷ text) + 1 ≡ 4 + length text = omega arith in

@@ -1,4 +1,4 @@
--- A piece of a file, from what stands before it to what stands behind it.
+-- A piece of a file, from the state before it to the state after it.
 use Rattle.std.proofs.Common.{◌≡◌, ℕ, Bool, true, false, ◌==◌, ◌||◌, ◌⊎◌, List, [], ◌∷◌, ◌++◌, length, take, Option, Some, None, inl, inr, refl, ap, sym, subst, ◌∙◌, arith, append_assoc, is_some}
 use Rattle.std.proofs.lemmas.Bool.{true≢false, eqb-true}
 use Rattle.std.proofs.lemmas.List.{append-nil}
@@ -22,7 +22,7 @@ nothing-left [] is = refl
 nothing-left (b ∷ t) is = absurd (omega (arith, eqb-true (length (b ∷ t)) 0 is))
 
 module _ (opts : ReadOpts) (file : FileRef) (start : Ctx) where
-  -- before a piece
+  -- the state before a piece
   pub represents-start : (mark : Option ℕ) (stream : Stream) (bytes piece : List ℕ) → RepresentsBy mark opts file start stream bytes → RepresentsWith mark opts file start stream (bytes ++ piece) piece (json_fed opts file start bytes)
   represents-start (Some n) stream bytes piece represents =
       (represents.0, represents.1, ap (λ x. x ++ piece) represents.2, ap (events_of start) (ap (file_items false opts.infer file) represents.2 ∙ marked-nothing opts.infer file n represents.1))
@@ -53,7 +53,7 @@ module _ (opts : ReadOpts) (file : FileRef) (start : Ctx) where
           represents = subst (λ p. RepresentsWith after_mark opts file start new all rest p) (append_assoc put first.more second.more) second.represents;
         }
 
-    -- the stream takes what is left
+    -- the stream reads the rest of the piece
     pub moves-fed : (mark : Option ℕ) (stream new : Stream) (left : List ℕ) (put before after : List Event) → is_some mark ≡ false → stream.stopped ≡ false
         → (IsFit stream → Turned stream new left [] before after) → RepresentsWith mark opts file start stream all left put → Moves opts file start mark new all [] put before after
     moves-fed (Some n) stream new left put before after none running fed represents = absurd (true≢false none)
@@ -76,7 +76,7 @@ module _ (opts : ReadOpts) (file : FileRef) (start : Ctx) where
           };
         }
 
-    -- behind a piece
+    -- the state after a piece
     pub represents-end : (mark : Option ℕ) (stream : Stream) (left : List ℕ) (put : List Event) → (left ≡ []) ⊎ (stream.stopped ≡ true) → RepresentsWith mark opts file start stream all left put
         → RepresentsBy mark opts file start stream all × (json_fed opts file start all ≡ put)
     represents-end (Some n) stream left put (inr stopped) represents = absurd (true≢false (sym stopped ∙ represents.0.goes_on))
@@ -97,7 +97,7 @@ module _ (opts : ReadOpts) (file : FileRef) (start : Ctx) where
         by whole rest (inl none) = ap (λ l. future stream whole (l ++ rest)) none
         by whole rest (inr stopped) = nothing-following stream _ stopped ∙ sym (nothing-following stream _ stopped)
 
-  -- a piece was taken
+  -- a piece was read
   pub record Taken (mark : Option ℕ) (stream : Stream) (bytes piece : List ℕ) (before after : List Event) : Type 0 where
     pub represents : RepresentsBy mark opts file start stream (bytes ++ piece)
     pub adds : Adds before after (json_fed opts file start bytes) (json_fed opts file start (bytes ++ piece))

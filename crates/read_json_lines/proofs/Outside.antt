@@ -1,4 +1,4 @@
--- Tokens of what is left between strings, one after another.
+-- The tokens of the rest of a text that begins outside strings, one after another.
 use Rattle.std.proofs.Common.{◌≡◌, ℕ, ◌+◌, ◌-◌, ◌<◌, ◌≤◌, Bool, true, false, List, [], ◌∷◌, length, drop, Option, Some, None, refl, ap, ◌∙◌}
 use Rattle.std.proofs.lemmas.List.{drop_all}
 use Rattle.mlr_spec.specs.declared.infer.InferOpts.{InferOpts}
@@ -12,7 +12,7 @@ use Rattle.read_json_lines.specs.Files.{Settled, ending, known, tokens_then, tok
 use Rattle.read_json_lines.specs.Streams.{and_token, or_stop, left, outside, inside, pieces}
 use Rattle.read_json_lines.proofs.Lexing.{left-step, left-bad, word-ends, none-left}
 
--- a word with a value, or without
+-- a word, with or without value
 pub word-then : (place : ℕ) (token : Option Token) (all : spec.Tokens) (following : Ending) → tokens_then (spec.or_stop place token all) following ≡ or_stop place token (tokens_then all following)
 word-then place None all following = refl
 word-then place (Some token) all following = refl
@@ -35,7 +35,7 @@ module _ (whole : Bool) (infer : InferOpts) (end : ℕ) (text : List ℕ) (fits 
       ap (tokens_known infer) (left-step whole false end text (word w) len fits is (word-ends end w (drop len text) more))
       ∙ word-then (end - length text) (token_of_word infer w) (tokens_outside infer following.lexemes None) following.ending
 
-  -- a word that reaches the end: of the file, or of a front
+  -- a word at the end of the file, or at the end of the bytes so far
   pub outside-last : (w : List ℕ) (len : ℕ) → lexeme_outside text ≡ found (word w) len → outside true infer end text ≡ or_stop (end - length text) (token_of_word infer w) (outside true infer end (drop len text))
   outside-last w len is =
       let following = left true false end (drop len text) in

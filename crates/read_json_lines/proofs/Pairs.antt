@@ -1,4 +1,4 @@
--- The pairs of a map, and their chain.
+-- The pairs of a map, as a list and as a chain.
 use Rattle.std.proofs.Common.{◌≡◌, ℕ, List, [], ◌∷◌, refl, ap}
 use Rattle.mlr_spec.specs.Tree.{Tree, pairs_in, fields_of}
 

@@ -1,4 +1,4 @@
--- What a front of a file has fixed stays, whatever follows.
+-- What the first bytes of a file fix stays the same whatever bytes follow.
 use Rattle.std.proofs.Common.{◌≡◌, ℕ, ◌+◌, ◌-◌, ◌≤◌, true, false, cond, List, [], ◌∷◌, length, Option, Some, None, inl, inr, refl, ap, ap₂, ◌∙◌, arith}
 use Rattle.std.proofs.lemmas.Bool.{cases_Bool, le-ltb}
 use Rattle.std.proofs.lemmas.List.{append-nil}
@@ -19,7 +19,7 @@ use Rattle.read_json_lines.proofs.Lexing.{left-begun, stopped_at, nothing-betwee
 use Rattle.read_json_lines.proofs.Outside.{inside-stops, outside-open}
 use Rattle.read_json_lines.proofs.Taking.{all-following, nothing-following}
 
--- a string that goes on behind the front
+-- a string that continues after the bytes so far
 pub goes-following : (file : FileRef) (s : State) (end there : ℕ) (text : List ℕ) → IsOn (turn s (text_token text))
     → items_in file s (and_token there (text_token text) (record { tokens = []; ending = ending false end (Some end) })) ≡ []
 goes-following file s end there text on =
@@ -34,14 +34,14 @@ goes-following file s end there text on =
     by (gives pairs next) on = absurd on
     by (fails trouble) on = absurd on
 
--- a word that may stand there, and reaches the end of a front, gives nothing yet
+-- an allowed word at the end of the bytes so far gives no items yet
 pub begun-outside : (file : FileRef) (s : State) (infer : InferOpts) (end : ℕ) (bytes : List ℕ) → length bytes ≤ end → FitsText None s bytes → items_in file s (outside false infer end bytes) ≡ []
 begun-outside file s infer end bytes small (inl none) = ap (λ t. items_in file s (outside false infer end t)) none ∙ ap (λ x. items_in file s (tokens_known infer x)) (left-begun false false end [] nothing-between)
 begun-outside file s infer end bytes small (inr fits) =
     ap (items_in file s) (outside-open false infer end bytes small bytes (length bytes) fits.0 (omega arith))
     ∙ ap (λ b. cond b [] (reading.fault (fault_of file Syntax (end - length bytes)) ∷ [])) fits.1
 
--- a stream gives nothing as long as nothing follows
+-- a stream gives no items for no bytes
 pub future-nothing : (s : Stream) → IsFit s → future s false [] ≡ []
 future-nothing s fit =
     let b = s.begun.items in

@@ -1,4 +1,4 @@
--- Pieces of a string, where a cut splits a run of bytes.
+-- Pieces of a string, where a run of bytes is split between two pieces of the file.
 use Rattle.std.proofs.Common.{◌≡◌, ℕ, zero, suc, ◌+◌, ◌<◌, ◌≤◌, Bool, true, false, cond, ◌==◌, nat_le, nat_lt, ◌⊎◌, List, [], ◌∷◌, ◌++◌, length, take, drop, Option, Some, None, inl, inr, refl, ap, ap₂, sym, ◌∙◌, arith, append_assoc}
 use Rattle.std.specs.List.{prefix_len, take_while}
 use Rattle.std.proofs.Math.Seq.{take-length, take-append-add, drop-append-add}
@@ -66,7 +66,7 @@ module _ (whole : Bool) (infer : InferOpts) (end : ℕ) (o : Option OpenText) wh
       let found_is = inside-piece whole infer end text fits p len is in
       ap₂ (λ q t. text_tokens o q t) found_is.0 found_is.1
 
-  -- a run of bytes at the front of what follows
+  -- a run of bytes at the start of the text
   split-run : (a bytes : List ℕ) → length bytes ≤ end → (first : ℕ) → prefix_len is_raw bytes ≡ first
       → text_tokens o (raw (a ++ take first bytes) ∷ pieces whole end (drop first bytes)) (inside whole infer end (drop first bytes)) ≡ string_with (raw a) bytes
   split-run a bytes fits zero is = ap (λ t. text_tokens o (raw t ∷ pieces whole end bytes) (inside whole infer end bytes)) (append-nil a)
@@ -82,7 +82,7 @@ module _ (whole : Bool) (infer : InferOpts) (end : ℕ) (o : Option OpenText) wh
         | inr n ↦ absurd (omega (arith, is, ap (λ v. cond v (1 + prefix_len is_raw bytes) 0) n))
       ]
 
-  -- one that reaches the end of a text
+  -- a run that reaches the end of the text
   at-end : (text bytes : List ℕ) (p : Piece) (len : ℕ) → length (text ++ bytes) ≤ end → len ≤ length text → lexeme_inside text ≡ found (piece p) len → length text ≤ len
       → string_of (text ++ bytes) ≡ string_with p (drop len text ++ bytes)
   at-end [] bytes p len fits within is ends = absurd (let e : begun ≡ found (piece p) len = sym nothing-inside ∙ is in cc)
@@ -113,7 +113,7 @@ module _ (whole : Bool) (infer : InferOpts) (end : ℕ) (o : Option OpenText) wh
         ]
       ]
 
-  -- the piece at the front of a text, whatever follows
+  -- the piece at the start of a text, whatever follows
   pub string-piece : (text bytes : List ℕ) (p : Piece) (len : ℕ) → length (text ++ bytes) ≤ end → len ≤ length text → lexeme_inside text ≡ found (piece p) len
       → string_of (text ++ bytes) ≡ string_with p (drop len text ++ bytes)
   string-piece text bytes p len fits within is =
@@ -124,7 +124,7 @@ module _ (whole : Bool) (infer : InferOpts) (end : ℕ) (o : Option OpenText) wh
         | inr ends ↦ at-end text bytes p len fits within is ends
       ]
 
--- a byte that can't stand in a string
+-- a byte that isn't allowed in a string
 unit-bad : (text more : List ℕ) (k : ℕ) → lexeme_of_unit text ≡ bad k → lexeme_of_unit (text ++ more) ≡ bad k
 unit-bad text more k is =
     let n = prefix_len is_hex text in
@@ -182,7 +182,7 @@ inside-bad-stays (b ∷ t) more k is =
       ]
     ]
 
--- an escape that has begun ends with one byte more, and is a piece
+-- an escape that has begun ends with one more byte, and is a piece
 unit-ends : (d : List ℕ) (b : ℕ) (l : Lexeme) (len : ℕ) → lexeme_of_unit d ≡ begun → lexeme_of_unit (d ++ b ∷ []) ≡ found l len → (len ≡ length d + 3) × (is_quote l ≡ false)
 unit-ends d b l len before is =
     let n = prefix_len is_hex d in

@@ -1,4 +1,4 @@
--- What a reader stands for, as what it gave.
+-- What a reader represents, in terms of the events that it has given.
 use Rattle.std.proofs.Common.{◌≡◌, ℕ, zero, suc, ◌+◌, ◌<◌, ◌≤◌, true, false, List, [], ◌∷◌, ◌++◌, take, Option, Some, None, refl, ap, sym, ◌∙◌, arith, is_some}
 use Rattle.std.specs.Option.{unwrap_or}
 use Rattle.std.proofs.lemmas.Bool.{true≢false}
@@ -25,7 +25,7 @@ use Rattle.read_json_lines.proofs.Turning.{fit-outside}
 use Rattle.read_json_lines.proofs.Prefixes.{future-nothing}
 use Rattle.read_json_lines.proofs.Marks.{part-fault, empty-whole}
 
--- the first bytes of a byte order mark give nothing yet
+-- the first bytes of a byte order mark give no items yet
 pub marked-nothing : (infer : InferOpts) (file : FileRef) (n : ℕ) → n < 3 → file_items false infer file (take n byte_order_mark) ≡ []
 marked-nothing infer file zero small = ap (λ x. items_in file start_state (tokens_known infer x)) (left-begun false false 1 [] nothing-between)
 marked-nothing infer file (suc zero) small = refl
@@ -33,7 +33,7 @@ marked-nothing infer file (suc (suc zero)) small = refl
 marked-nothing infer file (suc (suc (suc n))) small = absurd (omega (arith, small))
 
 module _ (opts : ReadOpts) (file : FileRef) (start : Ctx) (stream : Stream) (bytes : List ℕ) where
-  -- what it gave is what the bytes so far have fixed
+  -- the items that it has given are those that the bytes so far fix
   pub gave-fed : (gave : Gave opts file start stream bytes) → file_items false opts.infer file bytes ≡ gave.given
   gave-fed gave =
       ap (file_items false opts.infer file) (sym (append-nil bytes)) ∙ gave.items false []
@@ -43,12 +43,12 @@ module _ (opts : ReadOpts) (file : FileRef) (start : Ctx) (stream : Stream) (byt
   represents-ctx (Some n) represents = represents.0.at_is ∙ ap (ctx_after start) (sym (ap (file_items false opts.infer file) represents.2 ∙ marked-nothing opts.infer file n represents.1))
   represents-ctx None gave = gave.at ∙ ap (ctx_after start) (sym (gave-fed gave))
 
-  -- the whole file was read, and its last events were put
+  -- the whole file was read, and its last events were appended
   pub record HasEnd (at_last : Ctx) (before after : List Event) : Type 0 where
     pub at : at_last ≡ ctx_read opts file start bytes
     pub adds : Adds before after (json_fed opts file start bytes) (json_read opts file start bytes)
 
-  -- what the end of the file gives behind what the bytes so far have given
+  -- the items of the end of the file follow those of the bytes so far
   ends-with : (given more : List Item) (old new : Ctx) (before after : List Event) → old ≡ ctx_after start given → has_fault given ≡ false
       → file_items false opts.infer file bytes ≡ given → file_items true opts.infer file bytes ≡ given ++ more
       → new ≡ ctx_after old more → after ≡ before ++ events_of old more → HasEnd new before after
@@ -65,7 +65,7 @@ module _ (opts : ReadOpts) (file : FileRef) (start : Ctx) (stream : Stream) (byt
   gave-read : (gave : Gave opts file start stream bytes) → file_items true opts.infer file bytes ≡ gave.given ++ future stream true []
   gave-read gave = ap (file_items true opts.infer file) (sym (append-nil bytes)) ∙ gave.items true []
 
-  -- the end of the file, behind a fault or where the stream goes on
+  -- the end of the file, after a fault or without one
   pub end-stopped : (marked : Option ℕ) (before : List Event) → stream.stopped ≡ true → RepresentsBy marked opts file start stream bytes → HasEnd stream.at before before
   end-stopped (Some n) before stopped represents = absurd (true≢false (sym stopped ∙ represents.0.goes_on))
   end-stopped None before stopped gave =

@@ -1,4 +1,4 @@
--- What a front of a file has fixed begins what each longer text gives.
+-- The items of each longer text begin with those that its first bytes fix.
 use Rattle.std.proofs.Common.{◌≡◌, ℕ, zero, suc, ◌+◌, ◌-◌, ◌<◌, ◌≤◌, Bool, true, false, cond, List, [], ◌∷◌, ◌++◌, length, drop, Option, Some, None, inl, inr, refl, ap, ap₂, sym, subst, ◌∙◌, arith}
 use Rattle.std.proofs.lemmas.Bool.{true≢false, cases_Bool, cases_lt, le-ltb}
 use Rattle.std.proofs.lemmas.List.{append-nil, drop_all, length-append, length-drop, drop-append-le}
@@ -50,7 +50,7 @@ module _ (file : FileRef) (place : ℕ) (rest more : Known) where
     | fails trouble ↦ reading.fault (fault_of file trouble place) ∷ []
   ]
 
-  -- one token, and then each what it gives
+  -- the items of one token, then those of the tokens after it
   token-prefix : (s : State) (token : Token) → ((next : State) → IsPrefix (items_in file next rest) (items_in file next more))
       → IsPrefix (items_in file s (and_token place token rest)) (items_in file s (and_token place token more))
   token-prefix s token following = by (turn s token)
@@ -60,7 +60,7 @@ module _ (file : FileRef) (place : ℕ) (rest more : Known) where
       by (gives pairs next) = ((following next).0, ap (λ x. fields pairs ∷ x) (following next).1)
       by (fails trouble) = ([], refl)
 
--- a text that another one goes on from
+-- a string whose text continues
 text-fails : (file : FileRef) (s : State) (place : ℕ) (text : List ℕ) (rest : Known) (trouble : Trouble) → turn s (text_token text) ≡ fails trouble
     → items_in file s (and_token place (text_token text) rest) ≡ reading.fault (fault_of file trouble place) ∷ []
 text-fails file s place text rest trouble is = ap (by_turn file place rest rest rest) is
@@ -73,7 +73,7 @@ module _ (whole : Bool) (infer : InferOpts) (file : FileRef) (rest : List ℕ) w
     | inr following ↦ prefix-none (items_in file s (stop_at false end place)) (items_in file s (stop_at whole wide place)) (ap (λ b. end_items file s (cond b (stops place) goes_on)) (le-ltb place end following))
   ]
 
-  -- how far a string goes: to its last quote, to a bad byte, or on behind the front
+  -- the extent of a string: up to its closing quote, up to a bad byte, or beyond the bytes so far
   data StringPrefix (end wide : ℕ) (text : List ℕ) : Type 0 where
     closed : (following : List ℕ) → length following < length text → pieces whole wide (text ++ rest) ≡ pieces false end text
         → inside false infer end text ≡ outside false infer end following → inside whole infer wide (text ++ rest) ≡ outside whole infer wide (following ++ rest) → StringPrefix end wide text
@@ -146,7 +146,7 @@ module _ (whole : Bool) (infer : InferOpts) (file : FileRef) (rest : List ℕ) w
   token-stays : (s : State) (end wide place : ℕ) (token : Token) (tokens more : Known) → ((next : State) → Stays next end wide tokens more) → Stays s end wide (and_token place token tokens) (and_token place token more)
   token-stays s end wide place token tokens more following = token-prefix file place tokens more s token following
 
-  -- a text goes on behind the front
+  -- the text of a string continues after the bytes so far
   text-stays : (s : State) (end wide place : ℕ) (text longer : List ℕ) (more : Known) → Stays s end wide (and_token place (text_token text) (stop_at false end end)) (and_token place (text_token longer) more)
   text-stays s end wide place text longer more =
       let a = items_in file s (and_token place (text_token text) (stop_at false end end)) in
@@ -188,7 +188,7 @@ module _ (whole : Bool) (infer : InferOpts) (file : FileRef) (rest : List ℕ) w
       following : (again : (left : List ℕ) → length left ≤ n → length left ≤ end → (next : State) → Stays next end wide (outside false infer end left) (outside whole infer wide (left ++ rest))) (left : List ℕ) → length left < length text → (next : State) → Stays next end wide (outside false infer end left) (outside whole infer wide (left ++ rest))
       following again left short next = again left (omega (arith, few, short)) (omega (arith, fits, short)) next
 
-      -- a word that reaches the end
+      -- a word at the end of the bytes so far
       begun-stays : (w : List ℕ) (len : ℕ) → lexeme_outside text ≡ found (word w) len → length text ≤ len → Stays s end wide (outside false infer end text) (outside whole infer wide (text ++ rest))
       begun-stays w len is ends =
           let a = items_in file s (outside false infer end text) in

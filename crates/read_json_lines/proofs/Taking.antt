@@ -1,4 +1,4 @@
--- What tokens give, one after another.
+-- The items of tokens, one after another.
 use Rattle.std.proofs.Common.{◌≡◌, ℕ, true, false, cond, List, [], ◌∷◌, ◌++◌, Some, None, refl, ap, ap₂, sym, subst, ◌∙◌, arith}
 use Rattle.std.proofs.lemmas.Bool.{true≢false}
 use Rattle.std.proofs.lemmas.List.{append-nil}
@@ -45,7 +45,7 @@ module _ (file : FileRef) (next : State) (place : ℕ) (tokens : List (ℕ × To
       → items_of file s ((place, token) ∷ tokens) e ≡ turn_items file made place ++ cond (has_fault (turn_items file made place)) [] (items_of file next tokens e)
   token-taken s token made is = turned (turn s token) made is
 
--- one token that was taken, and what it gave that was put
+-- one token was read, and its items were appended
 pub takes-token : (old new : Stream) (before after : List Event) (place : ℕ) (token : Token) (made : Turn)
     → IsTurn (turn (state_of old.record_state) token) made (state_of new.record_state) → new.file ≡ old.file
     → Appends old new before after (turn_items old.file made place) → Counts old new
@@ -59,14 +59,14 @@ takes-token old new before after place token made is file appends counts = recor
       ∙ ap₂ (λ stop f. turn_items old.file made place ++ cond stop [] (items_in f (state_of new.record_state) rest)) (sym appends.stopped) (sym file);
 }
 
--- behind a fault nothing comes
+-- after a fault there are no items
 pub nothing-following : (s : Stream) (rest : Known) → s.stopped ≡ true → rest_items s rest ≡ []
 nothing-following s rest is = ap (λ b. cond b [] (items_in s.file (state_of s.record_state) rest)) is
 
 pub all-following : (s : Stream) (rest : Known) → s.stopped ≡ false → rest_items s rest ≡ items_in s.file (state_of s.record_state) rest
 all-following s rest running = ap (λ b. cond b [] (items_in s.file (state_of s.record_state) rest)) running
 
--- a first quote that may not come, and one that may
+-- an opening quote that isn't allowed, and one that is
 pub opens-refused : (old new : Stream) (before after : List Event) (trouble : Trouble) → RefusesText (state_of old.record_state) (Some trouble)
     → HasPut old new before after (reading.fault (fault_of old.file trouble old.place) ∷ []) → Opens old new before after
 opens-refused old new before after trouble refused put = record {

@@ -1,4 +1,4 @@
--- Where a string may come, whatever its text.
+-- Whether a string is allowed, whatever its text.
 use Rattle.std.proofs.Common.{◌≡◌, ℕ, ◌≤◌, ◌<◌, ◌⊎◌, inl, inr, Bool, true, false, cond, List, [], ◌∷◌, length, refl, ap, sym, subst, ◌∙◌}
 use Rattle.std.proofs.lemmas.Bool.{le-ltb, lt-ltb, cases_Bool, cases_lt}
 use Rattle.mlr_spec.specs.JsonTokens.{text_token}
@@ -72,7 +72,7 @@ module _ (s : State) where
   pub text-deep : 100 < length s.frames → is_within s.frames ≡ true → takes_text s.frames s.phase ≡ true → (text : List ℕ) → turn s (text_token text) ≡ fails Deep
   text-deep deep within takes text = ap (turned text) within ∙ deep-step s.list text s.frames s.phase deep within takes
 
-  -- what a text leads to does not depend on it
+  -- the outcome of a string doesn't depend on its text
   pub text-either : ((text : List ℕ) → IsOn (turn s (text_token text))) ⊎ ((trouble : Trouble) × ((text : List ℕ) → turn s (text_token text) ≡ fails trouble))
   text-either = elim (cases_Bool (is_within s.frames)) [
     | inr between ↦ inr (other_value s.list, text-between between)

@@ -1,4 +1,4 @@
--- A turn of the stream, as the items of all that follows.
+-- A step of the stream, in terms of the items of all bytes that follow.
 use Rattle.std.proofs.Common.{◌≡◌, ℕ, ◌+◌, ◌-◌, ◌<◌, ◌≤◌, Bool, true, false, ◌||◌, List, [], ◌∷◌, ◌++◌, length, take, drop, Option, Some, None, ◌⊎◌, inl, inr, refl, ap, ap₂, sym, subst, ◌∙◌, arith, append_assoc, is_some}
 use Rattle.std.proofs.lemmas.Bool.{true≢false, cases_Bool}
 use Rattle.std.proofs.lemmas.List.{append-nil, length-append}
@@ -32,7 +32,7 @@ use Rattle.read_json_lines.specs.Turns.{state_of, IsOn}
 use Rattle.read_json_lines.specs.Streams.{and_token, or_stop, outside, inside, pieces, text_tokens, text_after, tokens_of, IsOpen, Opens, Pushes, is_quote, HasPut, future, items_at, rest_items, IsFit, FitsText, Takes, Turned}
 use Rattle.read_json_lines.proofs.Taking.{all-following, nothing-following}
 
--- outside strings, with nothing begun
+-- outside strings, with no word begun
 pub no-text : (o : Option OpenText) → is_some o ≡ false → o ≡ None
 no-text None none = refl
 no-text (Some t) none = absurd (true≢false none)
@@ -49,7 +49,7 @@ fit-outside s text none = λ _. subst (λ o. FitsText o (state_of s.record_state
 pub drop-prefix : (len : ℕ) (text bytes : List ℕ) → len ≤ length text → drop len (text ++ bytes) ≡ drop len text ++ bytes
 drop-prefix len text bytes fits = drop-append-le len text bytes fits
 
--- one that takes tokens between strings
+-- a step that reads tokens outside strings
 module _ (old mid : Stream) (before after : List Event) (text : List ℕ) (len : ℕ) (tokens : Known → Known) where
   pub turned-outside : old.stopped ≡ false → is_some old.text ≡ false → old.begun.items ≡ []
       → mid ≡ record old { record_state = mid.record_state; at = mid.at; stopped = mid.stopped }
@@ -80,7 +80,7 @@ module _ (old mid : Stream) (before after : List Event) (text : List ℕ) (len :
     fit = fit-outside (record mid { place = mid.place + len }) (ap (λ (s : Stream). is_some s.text) same ∙ no_text) (ap (λ (s : Stream). s.begun.items) same ∙ none);
   }
 
--- bytes that have begun are kept
+-- the bytes that have begun are kept
 pub turned-kept : (old new : Stream) (before : List Event) (text rest : List ℕ) → old.begun.items ++ text ≡ new.begun.items ++ rest → IsFit (record old { begun = new.begun })
     → old.stopped ≡ false → Turned old (record old { begun = new.begun }) text rest before before
 turned-kept old new before text rest same fit running = record {
@@ -100,7 +100,7 @@ drop-length (b ∷ text) = drop-length text
 pub fit-word : (old new : Stream) → is_some old.text ≡ false → takes_word (state_of old.record_state) ≡ true → lexeme_outside new.begun.items ≡ found (word new.begun.items) (length new.begun.items) → IsFit (record old { begun = new.begun })
 fit-word old new text takes is = λ _. subst (λ o. FitsText o (state_of old.record_state) new.begun.items) (sym (no-text old.text text)) (inr (is, takes))
 
--- a word that is all that is there
+-- a word that is all of the text
 pub turned-word : (old new : Stream) (before : List Event) (text w rest : List ℕ) (len : ℕ) → old.stopped ≡ false → is_some old.text ≡ false → old.begun.items ≡ [] → takes_word (state_of old.record_state) ≡ true
     → lexeme_outside text ≡ found (word w) len → len ≡ length text → new.begun.items ≡ old.begun.items ++ w → rest ≡ drop len text
     → Turned old (record old { begun = new.begun }) text rest before before
@@ -113,7 +113,7 @@ turned-word old new before text w rest len running no_text none takes prefix who
     ap lexeme_outside begun_is ∙ prefix ∙ ap₂ (λ x n. found (word x) n) (all ∙ sym begun_is) (whole ∙ ap length (sym begun_is)) in
     turned-kept old new before text rest same (fit-word old new no_text takes found_it) running
 
--- a word where none may stand
+-- a word where none is allowed
 pub turned-no-word : (old new : Stream) (before after : List Event) (text w rest : List ℕ) (len : ℕ) → old.stopped ≡ false → is_some old.text ≡ false → old.begun.items ≡ [] → takes_word (state_of old.record_state) ≡ false
     → lexeme_outside text ≡ found (word w) len → HasPut old new before after (reading.fault (fault_of old.file Syntax old.place) ∷ []) → Turned old new text rest before after
 turned-no-word old new before after text w rest len running no_text none takes prefix put = record {
@@ -133,7 +133,7 @@ turned-no-word old new before after text w rest len running no_text none takes p
   fit = λ runs. absurd (true≢false (sym put.appends.stopped ∙ runs));
 }
 
--- blanks between strings
+-- blanks outside strings
 takes-nothing : (old : Stream) (before : List Event) → old.stopped ≡ false → Takes old old before before (λ rest. rest)
 takes-nothing old before running = record {
   more = [];
@@ -161,7 +161,7 @@ module _ (old : Stream) (before : List Event) (text rest : List ℕ) (len : ℕ)
       ∙ ap (λ p. and_token p (sign m) (outside whole old.infer end (drop len (text ++ bytes)))) place
       ∙ ap (λ t. and_token old.place (sign m) (outside whole old.infer end t)) (drop-prefix len text bytes within)))
 
--- a first quote
+-- an opening quote
 pub turned-quote : (old mid : Stream) (before after : List Event) (text rest : List ℕ) (len : ℕ) → old.stopped ≡ false → is_some old.text ≡ false → old.begun.items ≡ []
     → 0 < length text → len ≤ length text → mid ≡ record old { text = mid.text; stopped = mid.stopped } → Opens old mid before after → lexeme_outside text ≡ found quote len → rest ≡ drop len text
     → Turned old (record mid { place = mid.place + len }) text rest before after
@@ -209,7 +209,7 @@ turned-quote old mid before after text rest len running no_text none some within
         by None is = absurd is
         by (Some t) is = refl
 
--- a byte that can't stand there
+-- a byte that isn't allowed outside strings
 pub turned-bad : (old new : Stream) (before after : List Event) (text rest : List ℕ) (k : ℕ) → old.stopped ≡ false → is_some old.text ≡ false → old.begun.items ≡ []
     → k < length text → lexeme_outside text ≡ bad k → HasPut old new before after (reading.fault (fault_of old.file Syntax (old.place + k)) ∷ []) → Turned old new text rest before after
 turned-bad old new before after text rest k running no_text none within prefix put = record {
@@ -231,7 +231,7 @@ turned-bad old new before after text rest k running no_text none within prefix p
   fit = λ runs. absurd (true≢false (sym put.appends.stopped ∙ runs));
 }
 
--- the word that has begun, as it stands where no string is open
+-- the word that has begun, if no string is open
 pub begun-word : (s : Stream) → s.stopped ≡ false → is_some s.text ≡ false → 0 < length s.begun.items → IsFit s
     → (lexeme_outside s.begun.items ≡ found (word s.begun.items) (length s.begun.items)) × (takes_word (state_of s.record_state) ≡ true)
 begun-word s running no_text some fit = by s.begun.items some (subst (λ o. FitsText o (state_of s.record_state) s.begun.items) (no-text s.text no_text) (fit running))
@@ -246,7 +246,7 @@ future-begun s whole rest text =
     let all = s.begun.items ++ rest in
     ap (λ o. rest_items s (tokens_of whole s.infer o (s.place + length all) all)) (no-text s.text text)
 
--- a word that a cut has split has come to its end
+-- the end of a word that spans two pieces of the file
 pub turned-flush : (old new : Stream) (before after : List Event) (text : List ℕ) → old.stopped ≡ false → is_some old.text ≡ false → 0 < length old.begun.items → 0 < length text
     → prefix_len is_word_byte text ≡ 0 → IsFit old
     → new ≡ record old { place = old.place + length old.begun.items; begun = new.begun; record_state = new.record_state; at = new.at; stopped = new.stopped } → new.begun.items ≡ []
@@ -278,7 +278,7 @@ turned-flush old new before after text running no_text some more ends fit same n
   fit = fit-outside new (ap (λ (s : Stream). is_some s.text) same ∙ no_text) none;
 }
 
--- within a string, with nothing begun
+-- within a string, with no escape begun
 module _ (s : Stream) (whole : Bool) (rest : List ℕ) (some : is_some s.text ≡ true) (none : s.begun.items ≡ []) where
   pub future-inside : future s whole rest
       ≡ rest_items s (text_tokens s.text (pieces whole (s.place + length rest) rest) (inside whole s.infer (s.place + length rest) rest))
@@ -324,7 +324,7 @@ turned-piece old mid before text rest p len running some none fit within prefix 
     fits-open None (Some m) s bytes none m_is o_is fits = absurd (true≢false (sym o_is))
     fits-open (Some o) (Some m) s bytes none m_is o_is fits = fits
 
--- the last quote of a string
+-- the closing quote of a string
 pub turned-closed : (old mid : Stream) (before after : List Event) (text rest : List ℕ) (len : ℕ) → old.stopped ≡ false → is_some old.text ≡ true → old.begun.items ≡ []
     → 0 < length text → len ≤ length text → lexeme_inside text ≡ found quote len → rest ≡ drop len text
     → mid ≡ record old { text = mid.text; record_state = mid.record_state; at = mid.at; stopped = mid.stopped } → mid.text ≡ None
@@ -358,7 +358,7 @@ turned-closed old mid before after text rest len running some none bytes_there w
       fit = fit-outside (record mid { place = mid.place + len }) no_text none_mid;
     }
 
--- an escape that a cut has split
+-- an escape that spans two pieces of the file
 pub fit-escape : (old new : Stream) → old.stopped ≡ false → is_some old.text ≡ true → lexeme_inside new.begun.items ≡ begun → IsFit old → IsFit (record old { begun = new.begun })
 fit-escape old new running some prefix fit = λ _. by old.text some (fit running)
   where
@@ -366,7 +366,7 @@ fit-escape old new running some prefix fit = λ _. by old.text some (fit running
     by None is fits = absurd (true≢false (sym is))
     by (Some t) is fits = (prefix, fits.1)
 
--- what is found within a string: its last quote, or a piece
+-- a lexeme within a string is its closing quote, or a piece
 pub quote-of : (l : Lexeme) → is_quote l ≡ true → l ≡ quote
 quote-of quote is = refl
 quote-of blank is = absurd (true≢false (sym is))
@@ -381,7 +381,7 @@ piece-of (mark m) here is = absurd (true≢false (sym here))
 piece-of (word w) here is = absurd (true≢false (sym here))
 piece-of (piece p) here is = (p, refl)
 
--- a bad byte in a string that may stand there
+-- a bad byte in a string that is allowed
 stops-following : (file : FileRef) (s : State) (place there : ℕ) (text : List ℕ) → IsOn (turn s (text_token text))
     → items_in file s (and_token there (text_token text) (record { tokens = []; ending = stops place })) ≡ reading.fault (fault_of file Syntax place) ∷ []
 stops-following file s place there text on = by (turn s (text_token text)) on
@@ -423,7 +423,7 @@ turned-bad-inside old new before after text rest k running some none fit within 
     by None is fits = absurd (true≢false (sym is))
     by (Some t) is fits = stops-following old.file (state_of old.record_state) (old.place + k) t.place (text_after t.builder []) (fits.1 (text_after t.builder []))
 
--- nothing was taken, and one turn after another
+-- no step, and one step after another
 pub turned-none : (old : Stream) (before : List Event) (text : List ℕ) → old.stopped ≡ false → IsFit old → Turned old old text text before before
 turned-none old before text running fit = record {
   more = [];
@@ -450,7 +450,7 @@ turned-both old mid new text left rest before between after running first second
       fit = second.fit;
     }
 
--- what is left does not matter behind a fault, and nothing may be left
+-- after a fault the rest of the text doesn't matter, and may be taken as empty
 pub turned-all : (old new : Stream) (text left : List ℕ) (before after : List Event) → (new.stopped ≡ true) ⊎ (left ≡ []) → Turned old new text left before after → Turned old new text [] before after
 turned-all old new text left before after ends turned = record {
   more = turned.more;
@@ -463,7 +463,7 @@ turned-all old new text left before after ends turned = record {
     by whole bytes (inl stopped) = nothing-following new _ stopped ∙ sym (nothing-following new _ stopped)
     by whole bytes (inr none) = ap (λ t. future new whole (t ++ bytes)) none
 
--- an escape over a cut is taken as one text
+-- an escape that spans two pieces is read as one text
 pub turned-over : (old v new : Stream) (text whole_text rest : List ℕ) (before after : List Event) → v.begun.items ≡ [] → old.begun.items ++ text ≡ whole_text ++ rest
     → Turned (record old { begun = v.begun }) new whole_text [] before after → Turned old new text rest before after
 turned-over old v new text whole_text rest before after none parts turned = record {

@@ -1,11 +1,11 @@
--- Words at the front of a text.
+-- Words at the start of a text.
 use Rattle.std.proofs.Common.{◌≡◌, ℕ, ◌<◌, Bool, true, false, cond, ◌==◌, List, [], ◌∷◌, ◌++◌, length, take, Some, None, inl, inr, refl, ap, sym, ◌∙◌}
 use Rattle.std.specs.List.{prefix_len, take_while}
 use Rattle.std.proofs.lemmas.Bool.{cases_Bool, true≢false, eqb-true}
 use Rattle.mlr_json.proofs.Stable.{stays-found}
 use Rattle.mlr_spec.specs.JsonTokens.{blank, mark, word, quote, Scanned, found, begun, bad, mark_of, is_blank, is_word_byte, lexeme_unmarked, lexeme_outside}
 
--- what a word begins with is no mark, no blank and no quote
+-- the first byte of a word is no mark, no blank and no quote
 module _ (c : ℕ) (is : is_word_byte c ≡ true) where
   differs : (k : ℕ) → is_word_byte k ≡ false → (c == k) ≡ false
   differs k none = elim (cases_Bool (c == k)) [
@@ -27,7 +27,7 @@ module _ (c : ℕ) (is : is_word_byte c ≡ true) where
       ∙ ap (λ v. cond v (found blank (prefix_len is_blank (c ∷ t))) (cond (c == 34) (found quote 1) (cond (is_word_byte c) last (bad 0)))) no-blank
       ∙ ap (λ v. cond v (found quote 1) (cond (is_word_byte c) last (bad 0))) (differs 34 refl) ∙ ap (λ v. cond v last (bad 0)) is
 
--- where a word is found, its bytes are those that may stand in one
+-- the bytes of a word are those that are allowed in one
 abbrev pub IsWordHere : List ℕ → List ℕ → ℕ → Type 0
 IsWordHere text w n = (w ≡ take_while is_word_byte text) × (n ≡ prefix_len is_word_byte text)
 
@@ -58,7 +58,7 @@ word-taken (b ∷ t) w n is =
     let here = found-word b t w n is in
     here.1.0 ∙ ap (λ k. take k (b ∷ t)) (sym here.1.1)
 
--- a word is still one where more bytes follow, and may be longer
+-- a word at the start of a text is still a word when bytes follow, and may be longer
 pub word-still : (text more w : List ℕ) (n : ℕ) → lexeme_outside text ≡ found (word w) n → lexeme_outside (text ++ more) ≡ found (word (take_while is_word_byte (text ++ more))) (prefix_len is_word_byte (text ++ more))
 unfolding lexeme_outside
 word-still [] more w n is = absurd (let e : begun ≡ found (word w) n = is in cc)

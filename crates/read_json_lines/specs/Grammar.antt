@@ -1,4 +1,4 @@
--- Streams of records by the grammar alone: what a list of tokens gives, and its first fault.
+-- Streams of records by the JSON grammar alone: the records of a list of tokens, and the first fault.
 use Rattle.std.specs.Prelude.{◌≡◌, ◌⊎◌, ℕ, List, [], ◌∷◌, ◌++◌, map, All}
 use Rattle.std.specs.List.{flat_map}
 use Rattle.mlr_spec.specs.declared.json.JsonMark.TheVariants.{BeginArray, Comma}
@@ -18,7 +18,7 @@ pub data Part : Type 0 where
   one : Members → Part
   list : List Members → Part
 
--- maps as the items of a list
+-- a list of maps, as the elements of an array
 abbrev pub objects : List Members → Elements
 objects [] = no_elements
 objects (m ∷ maps) = element_and (object m) (objects maps)
@@ -37,20 +37,20 @@ stream_tokens parts = flat_map part_tokens parts
 abbrev pub stream_maps : List Part → List Members
 stream_maps parts = flat_map part_maps parts
 
--- the fields of a map: a key that comes again keeps its place and takes the last value
+-- the fields of a map: a repeated key keeps its place and takes the last value
 abbrev pub record_of : Members → List (List ℕ × Tree)
 record_of m = put_each [] (pairs_of m)
 
--- a record for each map
+-- the items of maps: each gives a record
 abbrev pub records : List Members → List Item
 records maps = map (λ m. fields (record_of m)) maps
 
--- each map is at most 100 levels deep; a list round it doesn't count
+-- each map is at most 100 levels deep; a list around it isn't counted
 abbrev pub AreShallow : List Members → Type 0
 AreShallow maps = All (λ m. IsShallow (tokens_in (object m))) maps
 
--- what is open behind whole parts: nothing; a map that isn't whole; a list behind some maps; or a map in such a list,
--- behind a comma if it isn't the first, and of which no token may have come yet
+-- what is open after complete parts: nothing; an incomplete map; a list after some maps; or an incomplete map
+-- in a list, which follows a comma unless it is the first. An incomplete map in a list may have no token yet.
 pub data Open : Type 0 where
   nothing : Open
   in_map : List Token → Open
@@ -67,21 +67,21 @@ open_tokens (in_map begun) = begun
 open_tokens (in_list maps) = sign BeginArray ∷ element_tokens (objects maps)
 open_tokens (map_in_list maps begun) = sign BeginArray ∷ element_tokens (objects maps) ++ comma_after maps ++ begun
 
--- its maps that are whole
+-- the complete maps of what is open
 abbrev pub open_maps : Open → List Members
 open_maps nothing = []
 open_maps (in_map begun) = []
 open_maps (in_list maps) = maps
 open_maps (map_in_list maps begun) = maps
 
--- the tokens of its map that isn't whole
+-- the tokens of the incomplete map
 abbrev pub begun_tokens : Open → List Token
 begun_tokens nothing = []
 begun_tokens (in_map begun) = begun
 begun_tokens (in_list maps) = []
 begun_tokens (map_in_list maps begun) = begun
 
--- tokens that are the front of a map and not all of it, at most 100 levels deep
+-- the tokens begin a map but aren't all of it, and are at most 100 levels deep
 pub record IsBegun (tokens : List Token) : Type 0 where
   pub members : Members
   pub next : Token
@@ -95,7 +95,8 @@ HasBegun (in_map begun) = IsBegun begun
 HasBegun (in_list maps) = Unit {0}
 HasBegun (map_in_list maps begun) = IsBegun begun
 
--- tokens with which a stream begins, the maps that are whole in them, and what is open behind
+-- the tokens begin a stream of records, `maps` are the complete maps in them, and `opened` is what is open
+-- after them
 pub record IsPrefix (tokens : List Token) (maps : List Members) (opened : Open) : Type 0 where
   pub parts : List Part
   pub tokens_are : tokens ≡ stream_tokens parts ++ open_tokens opened
@@ -103,26 +104,26 @@ pub record IsPrefix (tokens : List Token) (maps : List Members) (opened : Open) 
   pub begun : HasBegun opened
   pub shallow : AreShallow maps
 
--- a stream of any values begins with these tokens
+-- the tokens begin a stream of any JSON values
 pub record BeginsValues (tokens : List Token) : Type 0 where
   pub values : List Syntax
   pub more : List Token
   pub whole : tokens ++ more ≡ flat_map tokens_in values
 
--- a stream of records begins with these tokens
+-- the tokens begin a stream of records
 pub record BeginsRecords (tokens : List Token) : Type 0 where
   pub parts : List Part
   pub more : List Token
   pub whole : tokens ++ more ≡ stream_tokens parts
 
--- why a token may not come behind these: with it they begin no JSON values; they do, but no records; or it opens
--- level 101 of a map
+-- why `token` is a fault after the tokens `before`: with it they begin no JSON values; or they begin JSON
+-- values but no records; or it opens level 101 of a map
 abbrev pub IsTrouble : Trouble → List Token → Open → Token → Type 0
 IsTrouble trouble.Syntax before opened token = BeginsValues (before ++ token ∷ []) → ⊥
 IsTrouble trouble.Kind before opened token = BeginsValues (before ++ token ∷ []) × (BeginsRecords (before ++ token ∷ []) → ⊥)
 IsTrouble trouble.Deep before opened token = BeginsRecords (before ++ token ∷ []) × (level_of (begun_tokens opened ++ token ∷ []) ≡ 101)
 
--- a fault at a token: the records before it, and the fault
+-- the items end with a fault at a token, which follows the records before it
 pub record HasFault (file : FileRef) (tokens : List (ℕ × Token)) (items : List Item) : Type 0 where
   pub before : List (ℕ × Token)
   pub place : ℕ
@@ -136,8 +137,8 @@ pub record HasFault (file : FileRef) (tokens : List (ℕ × Token)) (items : Lis
   pub why_is : IsTrouble why (bare before) opened token
   pub items_are : items ≡ records maps ++ reading.fault (fault_of file why place) ∷ []
 
--- what the end of the tokens gives. At the end of the file there is a fault unless they are a whole stream; and where a
--- word has begun, unless a word may stand there
+-- the items of the end of the tokens: the end of the file is a fault unless the tokens are a complete stream,
+-- and a word that has begun is a fault unless a word is allowed there
 abbrev pub IsLast : FileRef → List Token → Ending → List Item → Type 0
 IsLast file tokens goes_on last = last ≡ []
 IsLast file tokens (stops place) last = last ≡ reading.fault (fault_of file trouble.Syntax place) ∷ []
@@ -148,7 +149,7 @@ IsLast file tokens (begins place) last =
     (((value : Tree) → BeginsValues (tokens ++ word_token value ∷ [])) × (last ≡ []))
     ⊎ (((value : Tree) → BeginsValues (tokens ++ word_token value ∷ []) → ⊥) × (last ≡ reading.fault (fault_of file trouble.Syntax place) ∷ []))
 
--- each token may stand where it does: the records, and what the end gives
+-- no token is a fault: the items are the records, then those of the end
 pub record HasNone (file : FileRef) (tokens : List (ℕ × Token)) (ending : Ending) (items : List Item) : Type 0 where
   pub maps : List Members
   pub opened : Open
@@ -157,6 +158,6 @@ pub record HasNone (file : FileRef) (tokens : List (ℕ × Token)) (ending : End
   pub last_is : IsLast file (bare tokens) ending last
   pub items_are : items ≡ records maps ++ last
 
--- the items of a stream
+-- the items of a stream: either a token is a fault, or none is
 abbrev pub HasItems : FileRef → List (ℕ × Token) → Ending → List Item → Type 0
 HasItems file tokens ending items = HasFault file tokens items ⊎ HasNone file tokens ending items

@@ -1,4 +1,4 @@
--- The records of a stream of JSON tokens: maps, and lists of maps, one behind another.
+-- The records of a stream of JSON tokens, which is a sequence of maps and lists of maps.
 use Rattle.std.specs.Prelude.{ℕ, nat_lt, Bool, true, false, not, ◌&&◌, if◌then◌else◌, List, [], ◌∷◌, length}
 use Rattle.mlr_spec.specs.declared.json.JsonMark.TheVariants.{BeginMap, EndMap, BeginArray, EndArray, Colon, Comma}
 use Rattle.mlr_spec.specs.Tree.{Tree, mapping, pairs_in}
@@ -18,7 +18,7 @@ use Rattle.read_json_lines.specs.declared.listing.Listing.TheVariants.{Outside, 
 use Rattle.read_json_lines.specs.declared.listing.Trouble.{Trouble}
 use Rattle.read_json_lines.specs.declared.listing.Trouble.TheVariants.{Syntax, Deep, Kind}
 
--- where the stream stands: in which place of a list of records, and with which brackets of a record open
+-- the state of a stream: its place in a list of records, and the open brackets of the current record
 pub record State : Type 0 where
   pub list : Listing
   pub frames : List Frame
@@ -27,7 +27,7 @@ pub record State : Type 0 where
 abbrev pub start_state : State
 start_state = record { list = Outside; frames = []; phase = phase.Value }
 
--- what a token leads to: it goes on, it ends a record, or it has a fault
+-- the outcome of a token: the stream continues, a record is complete, or the token is a fault
 pub data Turn : Type 0 where
   goes : State → Turn
   gives : List (List ℕ × Tree) → State → Turn
@@ -39,18 +39,18 @@ after_record First = After
 after_record After = After
 after_record Next = After
 
--- a whole value is a record if it is a map
+-- a complete value is a record if it is a map
 abbrev pub record_turn : Listing → Tree → Turn
 record_turn list (mapping pairs) = gives (pairs_in pairs) (record { list = after_record list; frames = []; phase = phase.Value })
 record_turn list _ = fails Kind
 
--- within a record, its value goes on
+-- the outcome of a token within a record
 abbrev pub value_turn : Listing → Step → Turn
 value_turn list (on frames at) = if nat_lt 100 (length frames) then fails Deep else goes (record { list = list; frames = frames; phase = at })
 value_turn list (whole value) = record_turn list value
 value_turn list wrong = fails Syntax
 
--- between records: where a value may stand, it must be a map
+-- the outcome of a token between records: any value there has to be a map
 abbrev pub is_after : Listing → Bool
 is_after Outside = false
 is_after First = false
@@ -99,19 +99,19 @@ fault_of file Syntax place = fault.JsonSyntax file place
 fault_of file Deep place = fault.JsonDeep file place
 fault_of file Kind place = fault.JsonKind file place
 
--- a word may stand here: within a record where a value may come, and between records where a map might
+-- whether a word is allowed: within a record where a value is, and between records where a map is
 abbrev pub takes_word : State → Bool
 takes_word s = if is_within s.frames then takes_value s.phase else not (is_after s.list)
 
--- what is behind the last token: bytes that aren't known, a word that has begun and may go on, a byte at which the text
--- stops, or the end of the file
+-- what follows the last token: bytes that aren't known yet, a word that has begun and may continue, a byte
+-- that stops the text, or the end of the file
 pub data Ending : Type 0 where
   goes_on : Ending
   begins : ℕ → Ending
   stops : ℕ → Ending
   ends : ℕ → Ending
 
--- no record and no list is open
+-- neither a record nor a list is open
 abbrev pub is_outside : Listing → Bool
 is_outside Outside = true
 is_outside First = false

@@ -1,4 +1,4 @@
--- The turns of the code as the definitions have them.
+-- The outcomes of the code, in terms of the definitions.
 use Rattle.std.specs.Prelude.{◌≡◌, ℕ, List, Option, Some, None}
 use Rattle.mlr_spec.specs.Tree.{Tree, mapping, pairs_in}
 use Rattle.mlr_json.specs.Steps.{frames_of}
@@ -13,19 +13,19 @@ use Rattle.read_json_lines.specs.Records.{State, goes, gives, fails, turn}
 abbrev pub state_of : RecordState → State
 state_of record_state = record { list = record_state.list; frames = frames_of record_state.machine; phase = record_state.machine.phase }
 
--- the fields of a value that is a map
+-- the fields of a value, if it is a map
 abbrev pub record_in : Tree → Option (List (List ℕ × Tree))
 record_in (mapping pairs) = Some (pairs_in pairs)
 record_in _ = None
 
--- what a token led to
+-- the outcome and the next state are those of the definition
 abbrev pub IsTurn : records.Turn → Turn → State → Type 0
 IsTurn (goes next) On s = s ≡ next
 IsTurn (gives pairs next) (Record made) s = (made ≡ pairs) × (s ≡ next)
 IsTurn (fails trouble) (Fault seen) s = seen ≡ trouble
 IsTurn _ _ s = ⊥
 
--- what is wrong with each string here, or each leads on
+-- the stream continues; `RefusesText` says whether every string continues it, or every string is this fault
 abbrev pub IsOn : records.Turn → Type 0
 IsOn (goes next) = Unit {0}
 IsOn (gives pairs next) = ⊥

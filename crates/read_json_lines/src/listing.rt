@@ -1,23 +1,24 @@
-/// Where a stream stands between its records.
+//! The place of a stream between records, and the kinds of faults.
+/// The place of a stream, with respect to a list of records.
 #[derive(Clone, Copy, Debug, PartialEq, Eq)]
 pub(crate) enum Listing {
-    /// In no list.
+    /// Outside lists.
     Outside,
-    /// Behind the bracket that opens a list.
+    /// After the bracket that opens a list.
     First,
-    /// Behind a record of a list.
+    /// After a record of a list.
     After,
-    /// Behind a comma.
+    /// After a comma of a list.
     Next,
 }
 
-/// What is wrong with a text.
+/// The kind of a fault.
 #[derive(Clone, Copy, Debug, PartialEq, Eq)]
 pub(crate) enum Trouble {
-    /// It no longer begins any JSON text.
+    /// The text isn't a prefix of any JSON text.
     Syntax,
     /// A bracket opens level 101.
     Deep,
-    /// A value that is no map stands where a record must stand.
+    /// A value where a record is required isn't a map.
     Kind,
 }

@@ -1,3 +1,4 @@
+//! The reader of JSON and JSON Lines.
 ghost use Rattle.std.specs.Prelude.{◌≡◌, ◌↔◌, ◌+◌, ◌*◌, ◌^◌, ◌<◌, ◌≤◌, ℕ, List, [], ◌++◌, true, length, max, IsTrue, IfOk, OnOk, OnErr, Some, None, is_some};
 ghost use Rattle.mlr_event.specs.declared.event.Ctx.{Ctx};
 ghost use Rattle.mlr_event.specs.declared.event.Event.{Event};
@@ -16,26 +17,26 @@ use std::alloc::Global;
 /// The byte order mark of UTF-8.
 const MARK: [u8; 3] = [0xef, 0xbb, 0xbf];
 
-/// What may still come.
+/// What may still follow.
 #[derive(Clone, Copy, Debug, PartialEq, Eq)]
 pub(crate) enum Stage {
-    /// More bytes, or the end.
+    /// More bytes or the end.
     Open,
     /// Nothing: the file has ended.
     Ended,
-    /// Nothing: there was no memory.
+    /// Nothing: a call ran out of memory.
     Broken,
 }
 
-/// Reads one file of JSON or JSON Lines, whose bytes come in pieces that are cut anywhere.
+/// Reads one file of JSON or JSON Lines, whose bytes come in pieces that may be cut anywhere.
 pub struct JsonReader {
-    /// How many bytes of the byte order mark have come, as long as nothing else has.
+    /// The number of bytes of the byte order mark so far, until it is complete or another byte follows.
     mark: Option<usize>,
     stream: Stream,
     stage: Stage,
 }
 
-// Written out, so that the crates above call it and don't go into the fields.
+// Written out, so that crates above call it and don't depend on the fields.
 impl Drop for JsonReader {
     fn drop(self) {
         let JsonReader {
@@ -49,7 +50,7 @@ impl Drop for JsonReader {
     }
 }
 
-/// Whether a reader can read by these options: JSON or JSON Lines.
+/// Whether a reader can read with these options: the format is JSON or JSON Lines.
 pub fn can_read(opts: &ReadOpts) -> bool
     ensures { result ≡ is_usable opts.now }
 {
@@ -57,8 +58,8 @@ pub fn can_read(opts: &ReadOpts) -> bool
 }
 
 impl JsonReader {
-    /// No bytes yet. `start` is the context of the last record before this file, with the number of this file and
-    /// no record of it. It takes no memory.
+    /// A reader at the start of a file. `start` is the context of the last record before this file, with the
+    /// number of this file and no record of it. It doesn't allocate.
     pub fn new(
         alloc: Global,
         opts: &ReadOpts,
@@ -79,8 +80,8 @@ impl JsonReader {
         })
     }
 
-    /// Takes the next piece of the file, and puts the events of the records that it ends behind `out`. Behind a fault
-    /// it puts nothing.
+    /// Reads the next piece of the file, and appends the events of the records that it ends to `out`. After a
+    /// fault it appends nothing.
     pub fn feed(&mut self, piece: &[u8], out: &mut Events) -> Result<(), NoMemory>
         requires { CanTake self.old (length piece.now) }
         ensures represents { OnOk result ((opts : ReadOpts) (file : FileRef) (start : Ctx)
@@ -103,7 +104,7 @@ impl JsonReader {
         fed
     }
 
-    /// Takes the end of the file, and puts a fault behind `out` where a value or a list isn't whole.
+    /// Reads the end of the file, and appends a fault to `out` if a value or a list isn't complete.
     pub fn end(&mut self, out: &mut Events) -> Result<(), NoMemory>
         requires { CanTake self.old 0 }
         ensures represents { OnOk result ((opts : ReadOpts) (file : FileRef) (start : Ctx)
@@ -128,7 +129,7 @@ impl JsonReader {
         ended
     }
 
-    /// The context of the last record so far, or the start.
+    /// The context of the last record so far, or else the start.
     pub fn ctx(&self) -> Ctx
         ensures fed { (opts : ReadOpts) (file : FileRef) (start : Ctx) (bytes : List ℕ)
             → Represents opts file start self.now bytes → result ≡ ctx_fed opts file start bytes }
@@ -141,7 +142,7 @@ impl JsonReader {
         self.stream.at
     }
 
-    /// Whether a call found no memory. Then nothing more may be asked of it.
+    /// Whether a call ran out of memory. Then no further call is allowed.
     pub fn is_broken(&self) -> bool
         ensures { IsTrue result ↔ IsBroken self.now }
     {
@@ -172,7 +173,7 @@ impl JsonReader {
         self.stream.feed(left, out)
     }
 
-    /// Takes a byte of the mark, or begins the stream.
+    /// Reads a byte of the mark, or else begins the stream. Returns the rest of the text.
     fn take_mark<'a>(&mut self, text: &'a [u8], out: &mut Events) -> Result<&'a [u8], NoMemory>
         requires bytes { 0 < length text.now }
         requires marked { is_some self.old.mark ≡ true }

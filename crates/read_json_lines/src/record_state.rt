@@ -1,3 +1,4 @@
+//! Reads the tokens of records and of lists of records.
 ghost use Rattle.std.specs.Prelude.{◌≡◌, [], IfOk};
 ghost use Rattle.mlr_spec.specs.JsonTokens.{sign, text_token, word_token};
 ghost use Rattle.mlr_json.specs.Machine.{Step};
@@ -15,28 +16,29 @@ use mlr_spec::{JsonMark, NoMemory};
 use mlr_value::{Bytes, Value};
 use std::alloc::Global;
 
-/// Where a stream of records stands. Behind a fault, and without memory, it is given up.
+/// The state of a stream of records, between tokens. It must not be used after a fault, or after running out
+/// of memory.
 #[derive(Drop)]
 pub(crate) struct RecordState {
     alloc: Global,
     list: Listing,
-    /// The record that is open, or the start of the next one.
+    /// The machine of the current record, or of the next one.
     machine: Machine,
 }
 
-/// What a token led to.
+/// The outcome of a token.
 #[derive(Drop)]
 pub(crate) enum Turn {
-    /// More tokens may follow.
+    /// The token continues a record or a list, or begins one.
     On,
-    /// A record is whole.
+    /// The token completes a record.
     Record(Record),
     /// The token has a fault.
     Fault(Trouble),
 }
 
 impl RecordState {
-    /// The start of a stream. It takes no memory.
+    /// The state at the start of a stream. It doesn't allocate.
     pub(crate) fn new(alloc: Global) -> Self
         ensures { state_of result ≡ start_state }
     {
@@ -54,7 +56,7 @@ impl RecordState {
         self.list == Listing::Outside && !self.machine.is_within()
     }
 
-    /// What is wrong with a string here, whatever its text.
+    /// The fault of a string at this place, if it isn't allowed, whatever its text.
     pub(crate) fn refused_text(&self) -> Option<Trouble>
         ensures { RefusesText (state_of self.now) result }
     {
@@ -68,7 +70,7 @@ impl RecordState {
         }
     }
 
-    /// Whether a word may come next, whatever its value.
+    /// Whether a word is allowed at this place, whatever its value.
     pub(crate) fn takes_word(&self) -> bool
         ensures { result ≡ takes_word (state_of self.now) }
     {
@@ -90,7 +92,7 @@ impl RecordState {
         self.mark_between(mark)
     }
 
-    /// Reads a word that has this value.
+    /// Reads a word with this value.
     pub(crate) fn word(&mut self, value: Value) -> Result<Turn, NoMemory>
         ensures { IfOk result (λ made. IsTurn (turn (state_of self.old)
             (word_token (tree_of value))) made (state_of self.new)) }
@@ -102,7 +104,7 @@ impl RecordState {
         Ok(Turn::Fault(other_value(self.list)))
     }
 
-    /// Reads a string that has this text.
+    /// Reads a string with this text.
     pub(crate) fn text(&mut self, text: Bytes) -> Result<Turn, NoMemory>
         ensures { IfOk result
             (λ made. IsTurn (turn (state_of self.old) (text_token text)) made (state_of self.new)) }
@@ -173,7 +175,7 @@ impl RecordState {
         Turn::On
     }
 
-    /// What a step within a record led to.
+    /// The outcome of a step within a record.
     fn value_turn(&mut self, went: Went) -> Result<Turn, NoMemory>
         ensures { IfOk result (λ made. (step : Step) → IsStep step went self.old.machine
             → IsTurn (value_turn self.old.list step) made (state_of self.new)) }
@@ -186,7 +188,7 @@ impl RecordState {
         }
     }
 
-    /// Takes a value that is whole.
+    /// Completes a record with this value, or returns a fault unless the value is a map.
     fn end_record(&mut self, value: Value) -> Result<Turn, NoMemory>
         ensures turn { IfOk result (λ made. Represents self.old.machine [] Phase.Value
             → IsTurn (record_turn self.old.list (tree_of value)) made (state_of self.new)) }
@@ -201,7 +203,7 @@ impl RecordState {
     }
 }
 
-/// What is wrong with a value that is no map.
+/// The fault of a value that isn't a map.
 fn other_value(list: Listing) -> Trouble
     ensures { result ≡ other_value list }
 {
@@ -212,7 +214,7 @@ fn other_value(list: Listing) -> Trouble
     }
 }
 
-/// Where a stream stands behind a record.
+/// The place of a stream after a record.
 fn after_record(list: Listing) -> Listing
     ensures { result ≡ after_record list }
 {

@@ -1,3 +1,4 @@
+//! Makes a record of a value.
 ghost use Rattle.std.specs.Prelude.{◌≡◌, IfOk};
 ghost use Rattle.mlr_value.specs.Value.{tree_of};
 ghost use Rattle.read_json_lines.specs.Turns.{record_in};
@@ -7,7 +8,7 @@ use mlr_spec::NoMemory;
 use mlr_value::{MapValue, Value};
 use std::alloc::Global;
 
-/// The record that a value is, if it is a map.
+/// The record of a value, if the value is a map.
 pub(crate) fn record_of(alloc: Global, value: &Value) -> Result<Option<Record>, NoMemory>
     ensures { IfOk result (λ made. made ≡ record_in (tree_of value.now)) }
 {

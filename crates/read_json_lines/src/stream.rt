@@ -1,3 +1,4 @@
+//! Reads the bytes of a file after its byte order mark.
 ghost use Rattle.std.specs.Prelude.{ℕ, ◌≡◌, ◌+◌, ◌^◌, ◌<◌, ◌≤◌, ◌++◌, ◌∷◌, [], true, false, length, drop, take, IfOk, OnOk, is_some, None};
 ghost use Rattle.mlr_spec.specs.JsonTokens.{lexeme_outside, found, sign, token_of_word};
 ghost use Rattle.mlr_spec.specs.JsonTokens as lexeme;
@@ -17,27 +18,27 @@ use mlr_value::Value;
 use std::alloc::Global;
 use std::mem::replace;
 
-/// A file behind its byte order mark, as far as it has come.
+/// A file after its byte order mark, as far as it has been read.
 #[derive(Drop)]
 pub(crate) struct Stream {
     pub(crate) alloc: Global,
     pub(crate) infer: InferOpts,
     pub(crate) file: FileRef,
-    /// The place of the first byte that isn't read yet.
+    /// The place of the first byte that isn't part of a token yet.
     pub(crate) place: u64,
     pub(crate) record_state: RecordState,
-    /// The string that is open.
+    /// The current string, if its closing quote hasn't been read.
     pub(crate) text: Option<OpenText>,
-    /// The bytes that aren't read yet: of a word that may go on, or of an escape.
+    /// The bytes that have begun a word, or an escape of a string.
     pub(crate) begun: Vec<u8>,
     /// The context of the last record.
     pub(crate) at: Ctx,
-    /// A fault came, and nothing comes behind it.
+    /// A fault occurred, and no event follows it.
     pub(crate) stopped: bool,
 }
 
 impl Stream {
-    /// No bytes yet. It takes no memory.
+    /// A stream at its start. It doesn't allocate.
     pub(crate) fn new(alloc: Global, infer: InferOpts, file: FileRef, start: Ctx) -> Self
         ensures starts { Starts result infer file start 1 }
     {
@@ -54,7 +55,7 @@ impl Stream {
         }
     }
 
-    /// Takes a piece of the file, and puts the events of the records that it ends behind `out`.
+    /// Reads a piece of the file, and appends the events of the records that it ends to `out`.
     pub(crate) fn feed(&mut self, piece: &[u8], out: &mut Events) -> Result<(), NoMemory>
         requires goes_on { self.old.stopped ≡ false }
         requires room { count_of self.old + length piece.now < 2 ^ 63 }
@@ -69,7 +70,7 @@ impl Stream {
         Ok(())
     }
 
-    /// Takes the end of the file.
+    /// Reads the end of the file, and appends its fault, if there is one, to `out`.
     pub(crate) fn end(&mut self, out: &mut Events) -> Result<(), NoMemory>
         requires goes_on { self.old.stopped ≡ false }
         requires room { count_of self.old < 2 ^ 63 }
@@ -90,7 +91,7 @@ impl Stream {
         self.end_between(out)
     }
 
-    /// Takes the end of the file behind all bytes, where no string is open.
+    /// Reads the end of the file outside strings, after all words.
     fn end_between(&mut self, out: &mut Events) -> Result<(), NoMemory>
         requires goes_on { self.old.stopped ≡ false }
         requires text { is_some self.old.text ≡ false }
@@ -105,7 +106,7 @@ impl Stream {
         self.fail(Trouble::Syntax, self.place, out)
     }
 
-    /// Takes a front of a text, and says what is left of it.
+    /// Reads the start of a text, and returns the rest of it.
     fn turn<'a>(&mut self, text: &'a [u8], out: &mut Events) -> Result<&'a [u8], NoMemory>
         requires bytes { 0 < length text.now }
         requires goes_on { self.old.stopped ≡ false }
@@ -130,7 +131,7 @@ impl Stream {
         }
     }
 
-    /// Takes what stands between strings.
+    /// Reads one lexeme outside strings.
     fn turn_outside<'a>(&mut self, text: &'a [u8], out: &mut Events) -> Result<&'a [u8], NoMemory>
         requires bytes { 0 < length text.now }
         requires goes_on { self.old.stopped ≡ false }
@@ -153,7 +154,7 @@ impl Stream {
         }
     }
 
-    /// Takes the lexeme at the front of a text, between strings.
+    /// Reads the lexeme at the start of a text, outside strings.
     fn turn_lexeme<'a>(
         &mut self,
         lexeme: Lexeme<'_>,
@@ -195,7 +196,8 @@ impl Stream {
         }
     }
 
-    /// Takes a word at the front of a text, or keeps it where it may go on. Where none may stand, no byte of it may.
+    /// Reads a word at the start of a text, or keeps it if the next piece may continue it. If no word is
+    /// allowed, its first byte is a fault.
     fn turn_word<'a>(
         &mut self,
         word: &[u8],
@@ -229,7 +231,7 @@ impl Stream {
         Ok(following(text, len))
     }
 
-    /// Goes on with the word that has begun, or ends it.
+    /// Continues the word that has begun, or ends it.
     fn go_on<'a>(&mut self, text: &'a [u8], out: &mut Events) -> Result<&'a [u8], NoMemory>
         requires bytes { 0 < length text.now }
         requires goes_on { self.old.stopped ≡ false }
@@ -252,7 +254,7 @@ impl Stream {
         Ok(text)
     }
 
-    /// Takes the word that has begun.
+    /// Ends the word that has begun.
     fn end_word(&mut self, out: &mut Events) -> Result<(), NoMemory>
         requires goes_on { self.old.stopped ≡ false }
         requires nr { self.old.at.nr < 2 ^ 63 }
@@ -316,7 +318,7 @@ impl Stream {
         self.take_value(value, self.place, out)
     }
 
-    /// Takes a word that has this value, if it has one.
+    /// Reads a word with this value; a word without value is a fault.
     fn take_value(
         &mut self,
         value: Option<Value>,
@@ -343,7 +345,7 @@ impl Stream {
         self.put(turn, place, out)
     }
 
-    /// Takes the first quote of a string.
+    /// Reads the opening quote of a string.
     fn open_text(&mut self, out: &mut Events) -> Result<(), NoMemory>
         requires goes_on { self.old.stopped ≡ false }
         ensures opens { OnOk result (Opens self.old self.new out.old out.new) }
@@ -360,7 +362,7 @@ impl Stream {
         Ok(())
     }
 
-    /// Takes what stands within a string.
+    /// Reads one lexeme within a string.
     fn turn_inside<'a>(&mut self, text: &'a [u8], out: &mut Events) -> Result<&'a [u8], NoMemory>
         requires bytes { 0 < length text.now }
         requires goes_on { self.old.stopped ≡ false }
@@ -395,7 +397,7 @@ impl Stream {
         }
     }
 
-    /// Takes one more byte of an escape that has begun.
+    /// Reads one more byte of the escape that has begun.
     fn end_escape<'a>(&mut self, text: &'a [u8], out: &mut Events) -> Result<&'a [u8], NoMemory>
         requires bytes { 0 < length text.now }
         requires goes_on { self.old.stopped ≡ false }
@@ -427,7 +429,7 @@ impl Stream {
         }
     }
 
-    /// Puts a piece into the string that is open.
+    /// Appends a piece to the current string.
     fn push_piece(&mut self, lexeme: Lexeme<'_>) -> Result<(), NoMemory>
         requires text { is_some self.old.text ≡ true }
         ensures pushes { OnOk result (Pushes self.old.text self.new.text
@@ -445,7 +447,7 @@ impl Stream {
         Ok(())
     }
 
-    /// Takes the last quote of the string that is open.
+    /// Reads the closing quote of the current string.
     fn close_text(&mut self, out: &mut Events) -> Result<(), NoMemory>
         requires text { is_some self.old.text ≡ true }
         requires goes_on { self.old.stopped ≡ false }
@@ -471,7 +473,7 @@ impl Stream {
         self.put(turn, open.place, out)
     }
 
-    /// Puts what a token led to.
+    /// Appends the outcome of a token to `out`.
     fn put(&mut self, turn: Turn, place: u64, out: &mut Events) -> Result<(), NoMemory>
         requires goes_on { self.old.stopped ≡ false }
         requires nr { self.old.at.nr < 2 ^ 63 }
@@ -513,7 +515,7 @@ fn fault_of(trouble: Trouble, file: FileRef, byte: u64) -> Fault
     }
 }
 
-/// The text behind its first bytes.
+/// The text after its first `len` bytes.
 #[inline(always)]
 fn following(text: &[u8], len: usize) -> &[u8]
     requires { len ≤ length text.now }
@@ -522,7 +524,7 @@ fn following(text: &[u8], len: usize) -> &[u8]
     &text[len..]
 }
 
-/// The first bytes of a text.
+/// The first `len` bytes of the text.
 #[inline(always)]
 fn prefix(text: &[u8], len: usize) -> &[u8]
     requires { len ≤ length text.now }

@@ -1,9 +1,10 @@
+//! A string that is being read.
 use mlr_json::StringBuilder;
 
-/// A string whose last quote hasn't come.
+/// A string whose closing quote hasn't been read.
 #[derive(Drop)]
 pub(crate) struct OpenText {
     pub(crate) builder: StringBuilder,
-    /// The place of its first quote.
+    /// The place of its opening quote.
     pub(crate) place: u64,
 }

@@ -74,7 +74,7 @@ fn options(alloc: Global, format: Format, infer: InferOpts) -> ReadOpts
     }
 }
 
-/// A reader before its first byte.
+/// A reader at the start of a file.
 fn reader(alloc: Global, infer: InferOpts) -> Result<JsonReader, NoMemory>
     ensures open { IfOk result (λ reader. IsOpen reader) }
     ensures room { IfOk result (λ reader. used reader ≤ 2 ^ 62) }
@@ -88,7 +88,7 @@ fn reader(alloc: Global, infer: InferOpts) -> Result<JsonReader, NoMemory>
     JsonReader::new(alloc, &opts, FileRef::Main(1), start)
 }
 
-/// Takes a text in pieces of this size.
+/// Reads a text in pieces of this size.
 fn feed_pieces(
     reader: &mut JsonReader,
     text: &[u8],
@@ -127,14 +127,14 @@ const OCTAL: InferOpts = InferOpts {
     octal: true,
 };
 
-/// A whole file that comes at once.
+/// A whole file that is read in one piece.
 const WHOLE: How = How {
     infer: PLAIN,
     ends: true,
     size: 65_536,
 };
 
-/// A prefix of a file, while more may come.
+/// A prefix of a file, after which more bytes may follow.
 const PREFIX: How = How {
     ends: false,
     ..WHOLE
@@ -201,7 +201,7 @@ const STRINGS: [Text; 5] = [
 
 const NUMBERS: &[u8] = b"{\"a\":010,\"b\":1.5,\"c\":true}";
 
-/// A syntax fault is there once its byte was read.
+/// A syntax fault is reported once its byte was read.
 const SYNTAX: [Text; 11] = [
     (b"{\"a\":1}}", b"1:a=1; S8 "),
     (b"[{},]", b"1: S5 "),
@@ -230,7 +230,7 @@ const ENDS: [Text; 10] = [
     (b"\xef\xbb", b"S3 "),
 ];
 
-/// A value that is no record has a kind fault where no syntax fault comes first.
+/// A value that isn't a record is a fault of kind, unless a syntax fault precedes it.
 const KIND: [Text; 9] = [
     (b"1", b"K1 "),
     (b"true", b"K1 "),
@@ -243,7 +243,7 @@ const KIND: [Text; 9] = [
     (b"[x]", b"S2 "),
 ];
 
-/// A word where none may be has its fault with its first byte.
+/// A word where none is allowed is a fault at its first byte.
 const REFUSED: [Text; 7] = [
     (b"{1", b"S2 "),
     (b"{x", b"S2 "),
@@ -254,7 +254,7 @@ const REFUSED: [Text; 7] = [
     (b"[{} 5", b"1: S5 "),
 ];
 
-/// A word where one may be has its fault once the byte after it was read.
+/// A word where one is allowed has its fault once the byte after it was read.
 const WORDS: [Text; 8] = [
     (b"5", b""),
     (b"5 ", b"K1 "),
@@ -266,7 +266,7 @@ const WORDS: [Text; 8] = [
     (b"{\"a\":x}", b"S6 "),
 ];
 
-/// A record is there with its closing brace, and a string that may not be there has its fault with its first quote.
+/// A record is given with its closing brace, and a string that isn't allowed is a fault at its opening quote.
 const PREFIXES: [Text; 8] = [
     (b"{\"a\":1", b""),
     (b"{\"a\":1}", b"1:a=1; "),
@@ -297,7 +297,7 @@ const GROUPS: [(&str, How, &[Text]); 11] = [
     ("prefixes", PREFIX, &PREFIXES),
 ];
 
-/// The events of a text whose prefix comes at once, and the rest of it in pieces.
+/// The events of a text whose prefix is read at once, and the rest in pieces.
 fn events_of(alloc: Global, how: How, prefix: &[u8], rest: &[u8]) -> Result<Bytes, NoMemory> {
     let mut out = Events::new(alloc);
     let mut reader = reader(alloc, how.infer)?;
@@ -339,10 +339,10 @@ fn texts_give_these_events_cut_in_two_and_byte_by_byte(rt: HostRuntime) -> Resul
     Ok(())
 }
 
-/// Texts, each repeated so many times, one after another.
+/// Texts, each repeated a number of times, one after another.
 type Parts = &'static [(&'static [u8], usize)];
 
-/// Prefixes with as many levels as are taken, and with one more; a list round a record isn't counted.
+/// Prefixes with as many levels as are allowed, and with one more; a list around a record isn't counted.
 const LEVELS: [(Parts, &[u8]); 6] = [
     (&[(b"{\"a\":", 100)], b""),
     (&[(b"{\"a\":", 101)], b"D501 "),
@@ -352,8 +352,8 @@ const LEVELS: [(Parts, &[u8]); 6] = [
     (&[(b"{\"a\":", 1), (b"[", 100)], b"D105 "),
 ];
 
-/// A text that comes in pieces of each of these sizes, how many events it gives, the number of the last record, and
-/// its first value: an int, or the length of a string.
+/// A text that is read in pieces of each of these sizes, the number of its events, the number of the last
+/// record, and its first value: an int, or the length of a string.
 struct Long {
     infer: InferOpts,
     parts: Parts,
@@ -361,7 +361,7 @@ struct Long {
     want: (usize, u64, i64),
 }
 
-/// Octal numbers, many records, a deep one, and a string of 10 MB, of which each byte is taken once.
+/// Octal numbers, many records, a deep one, and a string of 10 MB, each byte of which is read once.
 const LONG: [Long; 6] = [
     Long {
         infer: OCTAL,
@@ -423,7 +423,7 @@ fn first_of(record: &Record) -> i64 {
     }
 }
 
-/// Checks a long text that comes in pieces of this size.
+/// Checks a long text that is read in pieces of this size.
 fn check_long(
     rt: &impl Abort,
     alloc: Global,

@@ -1,4 +1,5 @@
--- XTAB: what a front of a file fixes is what its longest front that ends with an empty line stands for as a whole file.
+-- XTAB: what the first bytes of a file fix is what their longest prefix that ends with an empty line gives as
+-- a whole file.
 use Rattle.std.proofs.Common.{◌≡◌, ℕ, zero, suc, ◌≤◌, Bool, true, false, cond, not, ◌&&◌, eqb, List, [], ◌∷◌, ◌++◌, map, length, take, get_or, refl, ap, sym, ◌∙◌, arith, inl, inr, add-one}
 use Rattle.std.proofs.Math.Seq.{take-length}
 use Rattle.std.proofs.lemmas.Bool.{cases_Bool, true≢false, and_parts, eqb-true, not-true}
@@ -16,7 +17,7 @@ use Rattle.read_xtab_pprint.specs.Blocks.{block_fed, block_read, items_fixed, it
 use Rattle.read_xtab_pprint.specs.Prefixes.{end_empty, ends_with_gap, gap_prefix, gap_prefix_within, is_empty_line}
 use Rattle.read_xtab_pprint.specs.Xtab.{is_gap, record_items, xtab_from, xtab_rest}
 
--- one more byte ends a line, or none
+-- one more byte either ends a line or doesn't
 unmarked-nothing : (first : Bool) → unmarked_line first [] ≡ []
 unmarked-nothing true = refl
 unmarked-nothing false = refl
@@ -55,7 +56,7 @@ no-bytes [] is = refl
 no-bytes (b ∷ line) is = absurd (omega (arith, eqb-true (length (b ∷ line)) 0 is))
 
 module _ (opts : ReadOpts) where
-  -- a line that is no empty line fixes nothing
+  -- a line that isn't empty fixes nothing
   from-comment : (line : List ℕ) (passed : List Item) (begun lines : List (List ℕ)) → is_comment opts.comments line ≡ true
       → xtab_from opts passed begun (line ∷ lines) ≡ xtab_from opts (passed ++ comment_items opts.comments line) begun lines
   from-comment line passed begun lines is = rw is refl
@@ -91,7 +92,7 @@ module _ (opts : ReadOpts) where
         ]
       ]
 
-  -- nothing stands behind an empty line that comes last
+  -- after a last line that is empty, there is no rest
   rest-none : (lines : List (List ℕ)) (passed : List Item) (begun : List (List ℕ)) → end_empty opts.comments lines ≡ true → xtab_rest opts passed begun lines ≡ []
   rest-none [] passed begun ends = absurd (true≢false (sym ends))
   rest-none (line ∷ []) passed begun ends =
@@ -115,7 +116,7 @@ module _ (opts : ReadOpts) where
       rest-line : is_comment opts.comments line ≡ false → is_gap line ≡ false → xtab_rest opts passed begun (line ∷ next ∷ lines) ≡ xtab_rest opts passed (begun ++ line ∷ []) (next ∷ lines)
       rest-line isnt text = rw isnt (rw text refl)
 
-  -- the items of a text as a whole file, and those that it fixes as a front of one
+  -- the items of a text as a whole file, and those that it fixes as the first bytes of one
   abbrev whole : List ℕ → List Item
   whole text = xtab_from opts [] [] (whole_lines text) ++ xtab_rest opts [] [] (whole_lines text)
 

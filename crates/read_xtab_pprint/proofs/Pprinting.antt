@@ -1,4 +1,4 @@
--- PPRINT: what lines come to one by one is what the definition says.
+-- PPRINT: reading line by line gives the events of the definition.
 use Rattle.std.proofs.Common.{◌≡◌, ℕ, ◌+◌, Bool, true, false, if◌then◌else◌, List, [], ◌∷◌, ◌++◌, None, refl, ap, ap₂, sym, ◌∙◌}
 use Rattle.std.proofs.lemmas.List.{append-nil}
 use Rattle.mlr_lines.specs.Lines.{last_line}
@@ -15,14 +15,14 @@ use Rattle.read_xtab_pprint.specs.Pprint.{pprint_header, pprint_lines}
 use Rattle.read_xtab_pprint.specs.PprintRules.{pprint_after, pprint_events, pprint_items}
 use Rattle.read_xtab_pprint.specs.Rules.{PprintBegins}
 
--- the items of lines by the rules, and those behind a line
+-- the items of lines from this state on, and those of the lines after one line
 abbrev all_by : PprintRules → List (List ℕ) → List Item
 all_by rules texts = pprint_lines rules.opts rules.file rules.number rules.header texts
 
 abbrev others : PprintRules → List ℕ → List (List ℕ) → List Item
 others rules text texts = pprint_lines rules.opts rules.file (rules.number + 1) (pprint_header rules.opts rules.header text) texts
 
--- behind a fault
+-- after a fault, a line changes nothing
 stays : (rules : PprintRules) (text : List ℕ) → rules.stopped ≡ true → pprint_after rules text ≡ rules
 stays rules text is =
     let next : PprintRules = record rules { number = rules.number + 1; header = pprint_header rules.opts rules.header text; at = ctx_after rules.at (pprint_items rules text); stopped = has_fault (pprint_items rules text) } in

@@ -1,4 +1,4 @@
--- What a front of a file fixes stays.
+-- What the first bytes of a file fix stays the same when bytes follow.
 use Rattle.std.proofs.Common.{◌≡◌, ℕ, ◌+◌, cond, List, [], ◌∷◌, ◌++◌, Option, None, refl, ap, sym, ◌∙◌, append_assoc, inl, inr}
 use Rattle.std.proofs.lemmas.Bool.{cases_Bool}
 use Rattle.mlr_lines.specs.Prefixes.{ended_prefix}
@@ -62,7 +62,7 @@ module _ (opts : ReadOpts) (file : FileRef) where
   whole-items format.Pprint lines more = pprint-more lines more 1 None
   whole-items _ lines more = ([], refl)
 
-  -- the events of items that go on
+  -- the events of items that extend other items
   go-on : (start : Ctx) (prefix items all : List Item) → all ≡ prefix ++ items → (events : List Event) × (events_of start all ≡ events_of start prefix ++ events)
   go-on start prefix items all is = (events_after (has_fault prefix) (ctx_after start prefix) items, ap (events_of start) is ∙ events_of-append start prefix items)
 

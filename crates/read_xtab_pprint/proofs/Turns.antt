@@ -1,4 +1,4 @@
--- The cells of a line, with bars or without.
+-- The cells of a line, with or without bars.
 use Rattle.std.proofs.Common.{◌≡◌, ℕ, ◌<◌, Bool, true, false, cond, List, [], ◌∷◌, length, Option, Some, None, refl, ap, sym, ◌∙◌, arith, inl, inr}
 use Rattle.std.proofs.lemmas.Bool.{cases_Bool}
 use Rattle.read_xtab_pprint.specs.Cells.{IsCount, cells_in, cells_left, is_barred, second_words, takes_turns}
@@ -11,7 +11,7 @@ put-first : (cell : List ℕ) (cells : List (List ℕ)) (turns : Bool) → put_f
 put-first cell cells true = refl
 put-first cell cells false = refl
 
--- the cells between bars, where the line has that form
+-- the words between bars, if bars and words alternate
 between-is : (words : List (List ℕ)) → between_bars words ≡ cond (takes_turns words) (Some (second_words words)) None
 between-is [] = refl
 between-is (bar ∷ []) = refl

@@ -1,4 +1,4 @@
--- What lines come to one by one is what the file stands for.
+-- Reading line by line gives the events of the file.
 use Rattle.std.proofs.Common.{◌≡◌, ℕ, List, [], ◌∷◌, ◌++◌, map, refl, ap, ap₂, sym, ◌∙◌, append_assoc}
 use Rattle.std.proofs.lemmas.List.Sums.{fold-append}
 use Rattle.mlr_lines.specs.Lines.{ended_lines, begun_line, fixed_lines, whole_lines, last_line, without_return}
@@ -20,7 +20,7 @@ use Rattle.read_xtab_pprint.specs.XtabRules.{after_gap, gap_events, xtab_after, 
 use Rattle.read_xtab_pprint.proofs.Pprinting.{pprint-after-last, pprint-give, pprint-gives-last, pprint-represent}
 use Rattle.read_xtab_pprint.proofs.Xtabbing.{xtab-after-last, xtab-give, xtab-gives-last, xtab-last, xtab-last-at, xtab-represent}
 
--- lines with their ends
+-- lines with their CR
 given-pprint : (lines : List (List ℕ)) (rules : PprintRules) → given after_line gives_line (by.Pprint rules) lines ≡ given pprint_after pprint_events rules (map without_return lines)
 given-pprint [] rules = refl
 given-pprint (line ∷ lines) rules = ap (λ events. pprint_events rules (without_return line) ++ events) (given-pprint lines (pprint_after rules (without_return line)))

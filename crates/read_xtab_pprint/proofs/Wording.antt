@@ -1,4 +1,4 @@
--- The words of a text, one by one.
+-- The words of a text, found one by one, are those of the definition.
 use Rattle.std.proofs.Common.{◌≡◌, ℕ, suc, ◌+◌, ◌<◌, Bool, true, false, cond, not, eqb, List, [], ◌∷◌, length, take, drop, refl, ap, ap₂, sym, subst, ◌∙◌, arith, inl, inr, length-drop}
 use Rattle.std.specs.List.{before_first, filter, onto_first, position_or_len, prefix_len, slice_split}
 use Rattle.std.proofs.lemmas.Bool.{cases_Bool}
@@ -31,7 +31,7 @@ place-no b text it_isnt = ap (λ t. cond (not t) (1 + position_or_len is_space t
 pub length-word : (text : List ℕ) → length (before_first is_space text) ≡ position_or_len is_space text
 length-word text = length-take-le (position_or_len is_space text) text (prefix_len-le-length (λ b. not (is_space b)) text)
 
--- a text cut at its first space
+-- a text that is cut at its first space
 record Split (text : List ℕ) : Type 0 where
   tail : List (List ℕ)
   parts : slice_split is_space text ≡ before_first is_space text ∷ tail
@@ -60,7 +60,7 @@ never-empty b word = grind (arith, nat_tests)
 word-kept : (b : ℕ) (word : List ℕ) (more : List (List ℕ)) → cond (is_word (b ∷ word)) ((b ∷ word) ∷ more) more ≡ (b ∷ word) ∷ more
 word-kept b word more = ap (λ t. cond (not t) ((b ∷ word) ∷ more) more) (never-empty b word)
 
--- at a text that begins with no space
+-- a text that doesn't begin with a space
 cut-here : (b : ℕ) (text : List ℕ) → is_space b ≡ false → IsWordCut (b ∷ text) (before_first is_space (b ∷ text)) (drop (length (before_first is_space (b ∷ text))) (b ∷ text))
 cut-here b text it_isnt =
     let all = split-of (b ∷ text) in

@@ -1,4 +1,4 @@
--- XTAB: what lines come to one by one is what the definition says.
+-- XTAB: reading line by line gives the events of the definition.
 use Rattle.std.proofs.Common.{◌≡◌, ℕ, false, List, [], ◌∷◌, ◌++◌, map, Option, Some, None, refl, ap, ap₂, sym, ◌∙◌, inl, inr}
 use Rattle.std.proofs.lemmas.Bool.{cases_Bool}
 use Rattle.std.proofs.lemmas.List.{append-nil}
@@ -19,7 +19,7 @@ use Rattle.read_xtab_pprint.specs.Rules.{XtabBegins}
 use Rattle.read_xtab_pprint.specs.Xtab.{is_gap, key_in, record_items, value_in, without_spaces, xtab_from, xtab_rest}
 use Rattle.read_xtab_pprint.specs.XtabRules.{after_gap, begun_items, gap_events, with_text, xtab_after, xtab_events}
 
--- the record of the lines so far
+-- the record of the lines so far is built field by field
 abbrev value_by : ReadOpts → List ℕ → Tree
 value_by opts line = tree_of_data opts.infer (value_in line)
 
@@ -57,14 +57,14 @@ begun-more opts (line ∷ lines) last =
     ∙ sym (record_of-is opts.dedupe (map key_in (line ∷ lines ++ last ∷ [])) (map (value_by opts) (line ∷ lines ++ last ∷ [])))
     )
 
--- the rules stand behind these comments and lines
+-- the state holds these comments and these lines of the current record
 record Holds (rules : XtabRules) (passed : List Item) (lines : List (List ℕ)) : Type 0 where
   passed_are : rules.passed ≡ events_of rules.at passed
   begun_is : rules.begun ≡ begun_by rules.opts lines
   at_stays : ctx_after rules.at passed ≡ rules.at
   goes_on : has_fault passed ≡ false
 
--- behind items without a fault
+-- the events of items that follow items without a fault
 events-on : (at : Ctx) (items more : List Item) → has_fault items ≡ false → events_of at (items ++ more) ≡ events_of at items ++ events_of (ctx_after at items) more
 events-on at items more none = events_of-append at items more ∙ ap (λ t. events_of at items ++ events_after t (ctx_after at items) more) none
 
@@ -89,7 +89,7 @@ gap-gives rules passed lines holds =
           ∙ sym (ctx-on rules.at passed (record_items rules.opts lines) holds.goes_on),
     )
 
--- what lines come to
+-- the events of lines, and the state after them
 record Comes (rules : XtabRules) (passed : List Item) (lines texts : List (List ℕ)) : Type 0 where
   events : given xtab_after xtab_events rules texts ≡ events_of rules.at (xtab_from rules.opts passed lines texts)
   at_is : (format_after xtab_after rules texts).at ≡ ctx_after rules.at (xtab_from rules.opts passed lines texts)
@@ -97,7 +97,7 @@ record Comes (rules : XtabRules) (passed : List Item) (lines texts : List (List 
   rest_gives : gap_events (format_after xtab_after rules texts) ≡ events_of (ctx_after rules.at (xtab_from rules.opts passed lines texts)) (xtab_rest rules.opts passed lines texts)
   rest_at : (after_gap (format_after xtab_after rules texts)).at ≡ ctx_after (ctx_after rules.at (xtab_from rules.opts passed lines texts)) (xtab_rest rules.opts passed lines texts)
 
--- a line that gives nothing yet
+-- a line that gives no event yet
 comes-quiet : (rules next : XtabRules) (passed passed_next : List Item) (lines lines_next texts : List (List ℕ)) (text : List ℕ)
     → xtab_after rules text ≡ next → xtab_events rules text ≡ [] → next.at ≡ rules.at
     → xtab_from rules.opts passed lines (text ∷ texts) ≡ xtab_from next.opts passed_next lines_next texts
@@ -202,7 +202,7 @@ module _ (opts : ReadOpts) (start : Ctx) (rules : XtabRules) (begins : XtabBegin
   sound : (texts : List (List ℕ)) → has_fault (xtab_from opts [] [] texts) ≡ false
   sound texts = let come_to = come texts in ap (λ o. has_fault (xtab_from o [] [] texts)) (sym begins.opts_are) ∙ come_to.goes_on
 
-  -- the end gives what stands behind the last empty line
+  -- the end of the file gives the items after the last empty line
   pub xtab-last : (texts : List (List ℕ)) → events_of start (xtab_from opts [] [] texts) ++ gap_events (format_after xtab_after rules texts) ≡ events_of start (xtab_from opts [] [] texts ++ xtab_rest opts [] [] texts)
   xtab-last texts =
       let come_to = come texts in

@@ -1,4 +1,4 @@
--- What a file gives in XTAB and PPRINT: as a whole, and as far as a front of it fixes it.
+-- The events of a whole file of XTAB or PPRINT, and those that its first bytes fix.
 use Rattle.std.specs.Prelude.{ℕ, List, [], ◌++◌, None}
 use Rattle.mlr_lines.specs.Lines.{fixed_lines, whole_lines}
 use Rattle.mlr_event.specs.declared.event.Ctx.{Ctx}
@@ -11,7 +11,7 @@ use Rattle.mlr_event.specs.Reading.{Item, events_of}
 use Rattle.read_xtab_pprint.specs.Xtab.{xtab_from, xtab_rest}
 use Rattle.read_xtab_pprint.specs.Pprint.{pprint_lines}
 
--- the items that lines fix, whatever follows them: in XTAB those up to the last empty line
+-- the items that lines fix, whatever follows; in XTAB these end at the last empty line
 abbrev pub items_fixed : ReadOpts → FileRef → Format → List (List ℕ) → List Item
 items_fixed opts file format.Xtab lines = xtab_from opts [] [] lines
 items_fixed opts file format.Pprint lines = pprint_lines opts file 1 None lines
@@ -23,6 +23,7 @@ items_whole opts file format.Xtab lines = xtab_from opts [] [] lines ++ xtab_res
 items_whole opts file format.Pprint lines = pprint_lines opts file 1 None lines
 items_whole opts file _ lines = []
 
+-- the events of a whole file, and those that the first bytes of a file fix
 abbrev pub block_read : ReadOpts → FileRef → Ctx → List ℕ → List Event
 block_read opts file start bytes = events_of start (items_whole opts file opts.format (whole_lines bytes))
 

@@ -1,4 +1,4 @@
--- A line counts one at most: it gives one record at most, and adds one field at most.
+-- A line raises the counters by at most one: it gives at most one record, or adds at most one field.
 use Rattle.std.specs.Prelude.{◌≡◌, ℕ, ◌+◌, ◌≤◌, ◌==◌, ◌||◌, Bool, true, false, if◌then◌else◌, List, [], ◌∷◌, length, Option, Some, None}
 use Rattle.std.specs.Str.{bytes_eq}
 use Rattle.std.proofs.Common.{arith, refl, inl, inr}
@@ -93,7 +93,7 @@ pub count-line : (rules : BlockRules) (line : List ℕ) → count_of (after_line
 count-line (by.Pprint rules) line = count-pprint rules.stopped rules (without_return line) refl
 count-line (by.Xtab rules) line = count-xtab rules (without_return line)
 
--- the end gives a record at most
+-- the end of the file gives at most one record
 gap-by : (passes gap : Bool) (rules : XtabRules) (line : List ℕ) → is_comment rules.opts.comments line ≡ passes → is_gap line ≡ gap
     → xtab_count (after_gap (xtab_after rules line)) ≤ xtab_count rules + 1
 gap-by true gap rules line is gap_is =
@@ -121,7 +121,7 @@ pub count-last : (rules : BlockRules) (line : List ℕ) → count_of (after_last
 count-last (by.Pprint rules) line = pprint-last rules line
 count-last (by.Xtab rules) line = xtab-last rules line
 
--- the numbers of the last record are among what is counted
+-- the numbers of the last record are among the counters
 pub numbers-counted : (rules : BlockRules) → ((at_of rules).nr ≤ count_of rules) × ((at_of rules).fnr ≤ count_of rules)
 numbers-counted (by.Pprint rules) = (omega arith, omega arith)
 numbers-counted (by.Xtab rules) = (omega arith, omega arith)

@@ -1,4 +1,4 @@
--- What is left at the end of a file: a last line that no LF ends, or nothing.
+-- The rest of the file at its end: a last line without LF, or nothing.
 use Rattle.std.specs.Prelude.{ℕ, List, [], ◌∷◌, ◌++◌}
 use Rattle.mlr_event.specs.declared.event.Event.{Event}
 use Rattle.read_xtab_pprint.specs.declared.rules.PprintRules.{PprintRules}
@@ -14,7 +14,7 @@ abbrev pub pprint_gives_last : PprintRules → List ℕ → List Event
 pprint_gives_last rules [] = []
 pprint_gives_last rules (b ∷ line) = pprint_events rules (b ∷ line)
 
--- the end gives the record that has begun
+-- the end of the file gives the current record
 abbrev pub xtab_after_last : XtabRules → List ℕ → XtabRules
 xtab_after_last rules [] = after_gap rules
 xtab_after_last rules (b ∷ line) = after_gap (xtab_after rules (b ∷ line))

@@ -1,4 +1,4 @@
--- PPRINT line by line: what a line gives, and what is known behind it.
+-- PPRINT, line by line: the events of a line, and the state after it.
 use Rattle.std.specs.Prelude.{ℕ, ◌+◌, ◌==◌, ◌||◌, if◌then◌else◌, List, [], ◌∷◌, length, max, Option, None}
 use Rattle.mlr_event.specs.declared.event.Event.{Event}
 use Rattle.mlr_event.specs.declared.names.FileRef.{FileRef}
@@ -15,20 +15,20 @@ row_items row.Nothing = []
 row_items (row.Fields pairs) = fields pairs ∷ []
 row_items (row.Fault f) = fault f ∷ []
 
--- a line without its end that is no comment
+-- the items of a line without its line ending that isn't a comment, and the header of the next line
 abbrev pub plain_items : ReadOpts → FileRef → ℕ → Option (List (List ℕ)) → List ℕ → List Item
 plain_items opts file n header line = if is_rule line || length line == 0 then [] else cells_items opts file n header (cells_of line)
 
 abbrev pub plain_header : Option (List (List ℕ)) → List ℕ → Option (List (List ℕ))
 plain_header header line = if is_rule line then header else (if length line == 0 then None else header_after header (cells_of line))
 
--- the rules behind it, but for the number
+-- the state after a line that isn't a comment, except for the line number
 abbrev pub after_row : PprintRules → List ℕ → PprintRules
 after_row rules line =
     let items = plain_items rules.opts rules.file rules.number rules.header line in
     record rules { header = plain_header rules.header line; at = ctx_after rules.at items; stopped = has_fault items }
 
--- a line without its end
+-- the items of a line without its line ending, and the state after it; after a fault there are none
 abbrev pub pprint_items : PprintRules → List ℕ → List Item
 pprint_items rules line = pprint_line rules.opts rules.file rules.number rules.header line
 

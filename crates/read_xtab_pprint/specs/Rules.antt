@@ -1,4 +1,4 @@
--- Line by line in either format: what a line gives, and what is known behind it.
+-- Either format, line by line: the events of a line, and the state after it.
 use Rattle.std.specs.Prelude.{◌≡◌, ℕ, List, [], None, false}
 use Rattle.mlr_lines.specs.Lines.{without_return}
 use Rattle.mlr_event.specs.declared.event.Ctx.{Ctx}
@@ -14,7 +14,7 @@ use Rattle.read_xtab_pprint.specs.Last.{pprint_after_last, pprint_gives_last, xt
 use Rattle.read_xtab_pprint.specs.PprintRules.{pprint_after, pprint_count, pprint_events}
 use Rattle.read_xtab_pprint.specs.XtabRules.{xtab_after, xtab_count, xtab_events}
 
--- an ended line
+-- the state after an ended line, and its events
 abbrev pub after_line : BlockRules → List ℕ → BlockRules
 after_line (by.Pprint rules) line = by.Pprint (pprint_after rules (without_return line))
 after_line (by.Xtab rules) line = by.Xtab (xtab_after rules (without_return line))
@@ -23,7 +23,7 @@ abbrev pub gives_line : BlockRules → List ℕ → List Event
 gives_line (by.Pprint rules) line = pprint_events rules (without_return line)
 gives_line (by.Xtab rules) line = xtab_events rules (without_return line)
 
--- what is left at the end
+-- the state after the rest of the file, and its events
 abbrev pub after_last : BlockRules → List ℕ → BlockRules
 after_last (by.Pprint rules) line = by.Pprint (pprint_after_last rules line)
 after_last (by.Xtab rules) line = by.Xtab (xtab_after_last rules line)
@@ -41,7 +41,7 @@ abbrev pub at_of : BlockRules → Ctx
 at_of (by.Pprint rules) = rules.at
 at_of (by.Xtab rules) = rules.at
 
--- how a file begins
+-- the state at the start of a file
 pub record PprintBegins (rules : PprintRules) (opts : ReadOpts) (file : FileRef) (start : Ctx) : Type 0 where
   pub format_is : opts.format ≡ format.Pprint
   pub opts_are : rules.opts ≡ opts

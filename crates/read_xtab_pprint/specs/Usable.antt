@@ -1,4 +1,4 @@
--- Options by which a file can be read in blocks of lines.
+-- The options with which the reader can read.
 use Rattle.std.specs.Prelude.{Bool, true, false}
 use Rattle.mlr_event.specs.declared.options.Format.{Format}
 use Rattle.mlr_event.specs.declared.options.Format.TheVariants as format

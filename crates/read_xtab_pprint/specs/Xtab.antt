@@ -1,4 +1,4 @@
--- XTAB: a record is a run of lines, each a key and a value; empty lines stand between records.
+-- XTAB: a record is a sequence of lines, each a key and a value; records are separated by empty lines.
 use Rattle.std.specs.Prelude.{ℕ, if◌then◌else◌, Bool, ◌==◌, List, [], ◌∷◌, ◌++◌, map, length, drop}
 use Rattle.std.specs.List.{prefix_len, before_first}
 use Rattle.mlr_spec.specs.Ascii.{space}
@@ -12,26 +12,27 @@ is_space b = b == space
 abbrev pub without_spaces : List ℕ → List ℕ
 without_spaces text = drop (prefix_len is_space text) text
 
--- a line with its comment taken out of the way: leading spaces are dropped, the key runs to the first space, and behind
--- the run of spaces stands the value
+-- the key and the value of a line: leading spaces are dropped, the key ends at the first space, and the value
+-- follows the spaces after the key
 abbrev pub key_in : List ℕ → List ℕ
 key_in line = before_first is_space (without_spaces line)
 
 abbrev pub value_in : List ℕ → List ℕ
 value_in line = without_spaces (drop (length (key_in line)) (without_spaces line))
 
--- a line without bytes, or of spaces alone
+-- an empty line, or a line of spaces
 abbrev pub is_gap : List ℕ → Bool
 is_gap line = length (without_spaces line) == 0
 
--- the record of the lines so far, if there are any
+-- the record of these lines, if there are any
 abbrev pub record_items : ReadOpts → List (List ℕ) → List Item
 record_items opts [] = []
 record_items opts (line ∷ lines) =
     fields (record_of opts.dedupe (map key_in (line ∷ lines)) (map (λ l. tree_of_data opts.infer (value_in l)) (line ∷ lines))) ∷ []
 
--- Lines from an empty line, or the start, on. A comment within a record stands before it: `passed` holds what the
--- comments since the last empty line give, and `lines` those of the record. An empty line gives both.
+-- The items of lines up to the last empty line. `lines` are the lines of the current record so far, and
+-- `passed` are the items of the comments since the last empty line. An empty line ends the record, and the
+-- comments within it precede it.
 abbrev pub xtab_from : ReadOpts → List Item → List (List ℕ) → List (List ℕ) → List Item
 xtab_from opts passed lines [] = []
 xtab_from opts passed lines (line ∷ more) =
@@ -39,7 +40,7 @@ xtab_from opts passed lines (line ∷ more) =
     if is_gap line then passed ++ record_items opts lines ++ xtab_from opts [] [] more
     else xtab_from opts passed (lines ++ line ∷ []) more)
 
--- what stands behind the last empty line
+-- the items after the last empty line: the comments and the record
 abbrev pub xtab_rest : ReadOpts → List Item → List (List ℕ) → List (List ℕ) → List Item
 xtab_rest opts passed lines [] = passed ++ record_items opts lines
 xtab_rest opts passed lines (line ∷ more) =

@@ -1,4 +1,4 @@
--- XTAB line by line: what a line gives, and what is known behind it.
+-- XTAB, line by line: the events of a line, and the state after it.
 use Rattle.std.specs.Prelude.{ℕ, if◌then◌else◌, List, [], ◌∷◌, ◌++◌, length, drop, max, Option, Some, None}
 use Rattle.std.specs.List.{before_first}
 use Rattle.mlr_spec.specs.Infer.{tree_of_data}
@@ -10,7 +10,7 @@ use Rattle.mlr_event.specs.Rows.{with_field}
 use Rattle.read_xtab_pprint.specs.declared.rules.XtabRules.{XtabRules}
 use Rattle.read_xtab_pprint.specs.Xtab.{is_gap, is_space, without_spaces}
 
--- the fields of the record so far, and what it gives
+-- the fields of the current record, and its item
 abbrev pub begun_pairs : Option (List (List ℕ × Tree)) → List (List ℕ × Tree)
 begun_pairs None = []
 begun_pairs (Some pairs) = pairs
@@ -25,14 +25,14 @@ with_text opts text begun =
     let key = before_first is_space text in
     Some (with_field opts.dedupe key (tree_of_data opts.infer (without_spaces (drop (length key) text))) (begun_pairs begun))
 
--- what an empty line gives, or the end, and the rules behind it
+-- the events of an empty line, or of the end of the file, and the state after it
 abbrev pub gap_events : XtabRules → List Event
 gap_events rules = rules.passed ++ events_of rules.at (begun_items rules.begun)
 
 abbrev pub after_gap : XtabRules → XtabRules
 after_gap rules = record rules { passed = []; begun = None; at = ctx_after rules.at (begun_items rules.begun) }
 
--- a line without its end
+-- the state after a line without its line ending, and its events
 abbrev pub xtab_after : XtabRules → List ℕ → XtabRules
 xtab_after rules line =
     if is_comment rules.opts.comments line then record rules { passed = rules.passed ++ events_of rules.at (comment_items rules.opts.comments line) } else (
@@ -41,6 +41,6 @@ xtab_after rules line =
 abbrev pub xtab_events : XtabRules → List ℕ → List Event
 xtab_events rules line = if is_comment rules.opts.comments line then [] else (if is_gap line then gap_events rules else [])
 
--- the records so far, or the fields of the record that has begun, if those are more
+-- the number of records so far, or of fields of the current record, whichever is larger
 abbrev pub xtab_count : XtabRules → ℕ
 xtab_count rules = max (length (begun_pairs rules.begun)) (max rules.at.nr rules.at.fnr)

@@ -1,3 +1,4 @@
+//! Splits a line of PPRINT into cells.
 ghost use Rattle.std.specs.Prelude.{◌≡◌, [], length, Some, None, IfOk, MatchOption};
 ghost use Rattle.read_xtab_pprint.specs.Cells.{IsCellCut, IsCount, cells_in, cells_left, is_barred, takes_turns};
 ghost use Rattle.read_xtab_pprint.specs.Pprint.{cells_of, is_bar, words_of};
@@ -17,7 +18,7 @@ pub(crate) fn is_barred(line: &[u8]) -> bool
     }
 }
 
-/// How many cells the line has; None of a line that begins with a bar and has another form.
+/// The number of cells of the line; `None` if the line begins with a bar but isn't cells between bars.
 pub(crate) fn count_cells(line: &[u8]) -> Option<usize>
     ensures { MatchOption result (cells_of line.now ≡ None) (λ count. IsCount line.now count) }
 {
@@ -31,7 +32,7 @@ pub(crate) fn count_cells(line: &[u8]) -> Option<usize>
     if count == 0 { None } else { Some(count) }
 }
 
-/// Whether the words and bars of the line take turns, from bar to bar.
+/// Whether bars and words alternate, from the first bar to the last.
 fn takes_turns(line: &[u8]) -> bool
     ensures { result ≡ takes_turns (words_of line.now) }
 {
@@ -66,7 +67,7 @@ fn count_left(barred: bool, line: &[u8]) -> usize
     count
 }
 
-/// The next cell, behind a bar where the cells stand between bars, and the text behind it.
+/// The next cell and the text after it. In a line with bars, the bar before the cell is skipped.
 pub(crate) fn next_cell(barred: bool, text: &[u8]) -> Option<(&[u8], &[u8])>
     ensures { MatchOption result (cells_left barred (words_of text.now) ≡ [])
         (λ cut. IsCellCut barred text.now cut.0.now cut.1.now) }
@@ -78,7 +79,7 @@ pub(crate) fn next_cell(barred: bool, text: &[u8]) -> Option<(&[u8], &[u8])>
     next_word(rest)
 }
 
-/// The cells of a header.
+/// Copies of the cells of a header line.
 pub(crate) fn copy_cells(alloc: Global, line: &[u8]) -> Result<Vec<Bytes>, NoMemory>
     ensures { IfOk result (λ cells. cells.items ≡ cells_in line.now) }
 {

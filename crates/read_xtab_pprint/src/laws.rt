@@ -1,3 +1,4 @@
+//! The laws of the events that the first bytes of a file fix.
 ghost use Rattle.std.specs.Prelude.{◌≡◌, ℕ, List, ◌++◌};
 ghost use Rattle.mlr_event.specs.declared.event.Ctx.{Ctx};
 ghost use Rattle.mlr_event.specs.declared.event.Event.{Event};
@@ -8,9 +9,9 @@ ghost use Rattle.mlr_lines.specs.Prefixes.{ended_prefix};
 ghost use Rattle.read_xtab_pprint.specs.Blocks.{block_fed, block_read};
 ghost use Rattle.read_xtab_pprint.specs.Prefixes.{gap_prefix};
 
-/// What a front of a file fixes: it stays whatever follows, and it is what a shorter front stands for as a whole file.
-/// In PPRINT that is the longest one that ends with a line end, in XTAB the longest one that ends with the line end of
-/// an empty line. It does nothing.
+/// The events that the first bytes of a file fix stay the same whatever bytes follow. They are the events of
+/// a shorter file: in PPRINT of the longest prefix that ends with a line ending, in XTAB of the longest that
+/// ends with an empty line. It does nothing.
 pub fn prefix_laws()
     ensures fed { (opts : ReadOpts) (file : FileRef) (start : Ctx) (bytes rest : List ℕ)
         → (more : List Event)

@@ -1,4 +1,5 @@
-//! Readers of XTAB and PPRINT: formats in which an empty line ends a block of lines.
+//! Readers of XTAB and PPRINT: formats in which an empty line ends a group of lines, an XTAB record or a
+//! PPRINT table.
 #![tactic(auto)]
 
 mod cells;

@@ -1,3 +1,4 @@
+//! Passes each line of a file to the format's reader.
 ghost use Rattle.std.specs.Prelude.{◌≡◌};
 ghost use Rattle.read_xtab_pprint.specs.Rules.{at_of};
 

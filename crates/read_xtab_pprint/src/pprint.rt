@@ -1,3 +1,4 @@
+//! Reads PPRINT line by line.
 ghost use Rattle.std.specs.Prelude.{◌≡◌, ◌^◌, ◌<◌, ◌++◌, OnOk, false};
 ghost use Rattle.mlr_event.specs.Reading.{events_of};
 ghost use Rattle.read_xtab_pprint.specs.Last.{pprint_after_last, pprint_gives_last};
@@ -11,7 +12,7 @@ use mlr_event::{Event, Events};
 use mlr_spec::NoMemory;
 
 impl PprintRules {
-    /// Takes what is left at the end of the file.
+    /// Reads the rest of the file: a last line without LF, or nothing.
     pub(crate) fn take_last(&mut self, line: &[u8], out: &mut Events) -> Result<(), NoMemory>
         requires { pprint_count self.old < 2 ^ 63 }
         ensures state { OnOk result (self.new ≡ pprint_after_last self.old line.now) }
@@ -23,7 +24,7 @@ impl PprintRules {
         self.take(line, out)
     }
 
-    /// Takes a line without its end.
+    /// Reads a line without its line ending, and appends its events to `out`.
     pub(crate) fn take(&mut self, line: &[u8], out: &mut Events) -> Result<(), NoMemory>
         requires { pprint_count self.old < 2 ^ 63 }
         ensures state { OnOk result (self.new ≡ pprint_after self.old line.now) }
@@ -41,7 +42,7 @@ impl PprintRules {
         Ok(())
     }
 
-    /// Takes a line without its end that is no comment, but for its number.
+    /// Reads a line that isn't a comment, and appends its events to `out`. It doesn't count the line.
     fn take_row(&mut self, line: &[u8], out: &mut Events) -> Result<(), NoMemory>
         requires count { pprint_count self.old < 2 ^ 63 }
         requires goes_on { self.old.stopped ≡ false }

@@ -1,3 +1,4 @@
+//! The reader of XTAB and PPRINT.
 ghost use Rattle.std.specs.Prelude.{◌≡◌, ◌↔◌, ◌+◌, ◌^◌, ◌<◌, ◌≤◌, ℕ, List, [], ◌++◌, true, length, max, IsTrue, IfOk, OnOk, OnErr};
 ghost use Rattle.mlr_event.specs.declared.event.Ctx.{Ctx};
 ghost use Rattle.mlr_event.specs.declared.names.FileRef.{FileRef};
@@ -14,13 +15,13 @@ use mlr_lines::Lines;
 use mlr_spec::NoMemory;
 use std::alloc::Global;
 
-/// Reads one file in XTAB or PPRINT, whose bytes come in pieces that are cut anywhere. In XTAB it keeps the record
-/// that has begun and the comments in it until an empty line or the end comes.
+/// Reads one file of XTAB or PPRINT, whose bytes come in pieces that may be cut anywhere. In XTAB it holds
+/// the current record, and the comments within it, until an empty line or the end of the file.
 pub struct BlockReader {
     lines: Lines<BlockRules>,
 }
 
-// Written out, so that the crates above call it and don't go into the fields.
+// Written out, so that crates above call it and don't depend on the fields.
 impl Drop for BlockReader {
     fn drop(self) {
         let BlockReader { lines } = self;
@@ -28,7 +29,7 @@ impl Drop for BlockReader {
     }
 }
 
-/// Whether a reader can read by these options: XTAB or PPRINT.
+/// Whether a reader can read with these options: the format is XTAB or PPRINT.
 pub fn can_read(opts: &ReadOpts) -> bool
     ensures { result ≡ is_usable opts.now }
 {
@@ -38,7 +39,7 @@ pub fn can_read(opts: &ReadOpts) -> bool
     }
 }
 
-/// The rules before the first line.
+/// The state before the first line.
 fn first_rules(alloc: Global, opts: ReadOpts, file: FileRef, start: Ctx) -> BlockRules
     requires usable { is_usable opts ≡ true }
     requires nr { start.nr ≤ 2 ^ 62 }
@@ -67,8 +68,8 @@ fn first_rules(alloc: Global, opts: ReadOpts, file: FileRef, start: Ctx) -> Bloc
 }
 
 impl BlockReader {
-    /// No bytes yet. `start` is the context of the last record before this file, with the number of this file and
-    /// no record of it. It takes memory for prefixes of more than 16 bytes.
+    /// A reader at the start of a file. `start` is the context of the last record before this file, with the
+    /// number of this file and no record of it. It allocates only for prefixes of more than 16 bytes.
     pub fn new(
         alloc: Global,
         opts: &ReadOpts,
@@ -88,8 +89,8 @@ impl BlockReader {
         })
     }
 
-    /// Takes the next piece of the file, and puts the events that it fixes behind `out`. Behind a fault it puts
-    /// nothing.
+    /// Reads the next piece of the file, and appends the events that it fixes to `out`. After a fault it
+    /// appends nothing.
     pub fn feed(&mut self, piece: &[u8], out: &mut Events) -> Result<(), NoMemory>
         requires { CanTake self.old (length piece.now) }
         ensures represents { OnOk result ((opts : ReadOpts) (file : FileRef) (start : Ctx)
@@ -108,8 +109,8 @@ impl BlockReader {
         self.lines.feed(piece, out)
     }
 
-    /// Takes the end of the file, and puts the events of a last line without LF, and of a record that has begun,
-    /// behind `out`.
+    /// Reads the end of the file, and appends the events of a last line without LF, and of the current
+    /// record, to `out`.
     pub fn end(&mut self, out: &mut Events) -> Result<(), NoMemory>
         requires { CanTake self.old 0 }
         ensures represents { OnOk result ((opts : ReadOpts) (file : FileRef) (start : Ctx)
@@ -128,7 +129,7 @@ impl BlockReader {
         self.lines.end(out)
     }
 
-    /// The context of the last record so far, or the start.
+    /// The context of the last record so far, or else the start.
     pub fn ctx(&self) -> Ctx
         ensures fed { (opts : ReadOpts) (file : FileRef) (start : Ctx) (bytes : List ℕ)
             → Represents opts file start self.now bytes → result ≡ ctx_fed opts file start bytes }
@@ -141,7 +142,7 @@ impl BlockReader {
         self.lines.format().at()
     }
 
-    /// Whether a call found no memory. Then nothing more may be asked of it.
+    /// Whether a call ran out of memory. Then no further call is allowed.
     pub fn is_broken(&self) -> bool
         ensures { IsTrue result ↔ IsBroken self.now }
     {

@@ -1,8 +1,9 @@
+//! The state of reading a file, between lines.
 use mlr_event::{Ctx, Events, FileRef, Header, ReadOpts};
 use mlr_record::Record;
 use std::alloc::Global;
 
-/// How the lines of a file in PPRINT are read, and what came before the next one.
+/// How the lines of a PPRINT file are read, and the state after the lines so far.
 #[derive(Drop)]
 pub(crate) struct PprintRules {
     pub(crate) alloc: Global,
@@ -10,28 +11,28 @@ pub(crate) struct PprintRules {
     pub(crate) file: FileRef,
     /// The number of the next line.
     pub(crate) number: u64,
-    /// The header of the block, if that has come.
+    /// The header of the current table, if it has been read.
     pub(crate) header: Option<Header>,
     /// The context of the last record.
     pub(crate) at: Ctx,
-    /// A fault came, and nothing comes behind it.
+    /// A fault occurred, and no event follows it.
     pub(crate) stopped: bool,
 }
 
-/// The same in XTAB.
+/// How the lines of an XTAB file are read, and the state after the lines so far.
 #[derive(Drop)]
 pub(crate) struct XtabRules {
     pub(crate) alloc: Global,
     pub(crate) opts: ReadOpts,
-    /// What the comments since the last empty line give.
+    /// The events of the comments since the last empty line.
     pub(crate) passed: Events,
-    /// The record that has begun, if a line of it has come.
+    /// The current record, if a line of it has been read.
     pub(crate) begun: Option<Record>,
     /// The context of the last record.
     pub(crate) at: Ctx,
 }
 
-/// The same in either format.
+/// The state for either format.
 #[derive(Drop)]
 pub(crate) enum BlockRules {
     Pprint(PprintRules),

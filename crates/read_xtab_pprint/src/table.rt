@@ -1,3 +1,4 @@
+//! Reads the header and the rows of a PPRINT table.
 ghost use Rattle.std.specs.Prelude.{◌≡◌, ◌^◌, ◌<◌, [], Some, length, map, true, IfOk, OnOk};
 ghost use Rattle.std.specs.List.{zip};
 ghost use Rattle.mlr_spec.specs.Infer.{tree_of_data};
@@ -17,14 +18,14 @@ use mlr_value::Bytes;
 use std::alloc::Global;
 use std::mem;
 
-/// Where a row stands in its file.
+/// The file of a row, and the number of its line.
 #[derive(Clone, Copy)]
 pub(crate) struct Place {
     pub(crate) file: FileRef,
     pub(crate) line: u64,
 }
 
-/// What a line gives that is no comment, and the header behind it.
+/// The outcome of a line that isn't a comment; sets `header` to the header of the next line.
 pub(crate) fn table_row(
     alloc: Global,
     opts: &ReadOpts,
@@ -52,7 +53,7 @@ pub(crate) fn table_row(
     }
 }
 
-/// Whether the line is a rule of a table with bars.
+/// Whether the line is a rule of a table with bars: it begins with `+`.
 fn is_rule(line: &[u8]) -> bool
     ensures { result ≡ is_rule line.now }
 {
@@ -62,7 +63,8 @@ fn is_rule(line: &[u8]) -> bool
     }
 }
 
-/// What a line of so many cells gives, and the header behind it.
+/// The outcome of a line of `count` cells, which is the header or a row under it; sets `header` to the header
+/// of the next line.
 fn cells_row(
     alloc: Global,
     opts: &ReadOpts,
@@ -84,7 +86,7 @@ fn cells_row(
     Ok(row)
 }
 
-/// What a row of so many cells gives under a header: a record, or a fault.
+/// The outcome of a row of `count` cells under a header: a record, or a fault.
 fn row_under(
     alloc: Global,
     opts: &ReadOpts,
@@ -110,7 +112,7 @@ fn row_under(
     Ok(Row::Fields(record))
 }
 
-/// Puts the cells of a line, as many as those of the header, into an empty record.
+/// Adds the cells of a line to an empty record. There is one for each name of the header.
 fn fill(
     alloc: Global,
     opts: &ReadOpts,
@@ -130,7 +132,7 @@ fn fill(
     }
 }
 
-/// Puts them under names that are distinct.
+/// Adds the cells under names that are distinct.
 fn push_cells(
     alloc: Global,
     opts: &ReadOpts,
@@ -155,7 +157,7 @@ fn push_cells(
     Ok(())
 }
 
-/// Puts them under names that may repeat.
+/// Adds the cells under names that may repeat; the last cell of a name remains.
 fn put_cells(
     alloc: Global,
     opts: &ReadOpts,

@@ -8,7 +8,7 @@ use mlr_value::{Bytes, append_text};
 use std::alloc::Global;
 use std::process::Abort;
 
-/// An option that differs from those of plain XTAB.
+/// An option that differs from the options of plain XTAB.
 enum Opt {
     Format(Format),
     Repeats,
@@ -79,7 +79,7 @@ fn shown(alloc: Global, events: &Events) -> Result<Bytes, NoMemory> {
     Ok(all)
 }
 
-/// The events of a file that comes in two pieces, or of a prefix of a file where it does not end.
+/// The events of a file that is read in two pieces, or of a prefix of a file that doesn't end there.
 fn read(
     alloc: Global,
     opts: &ReadOpts,
@@ -108,7 +108,7 @@ fn read(
 /// A file, and its events.
 type File = (&'static [u8], &'static [u8]);
 
-/// Tables with and without bars, line ends, and faults in them.
+/// Tables with and without bars, line endings, and tables with faults.
 const TABLES: [File; 14] = [
     (b"", b""),
     (b"a   b\n1   xyz\n22  3\n", b"1:a=1;b=xyz; 2:a=22;b=3; "),
@@ -129,7 +129,7 @@ const TABLES: [File; 14] = [
     (b"a a\n1 2\n", b"1:a=1;a_2=2; "),
 ];
 
-/// Records that end with empty lines, line ends, gaps, and names that repeat.
+/// Records that end with empty lines, line endings, gaps, and keys that repeat.
 const RECORDS: [File; 13] = [
     (b"", b""),
     (b"\n\n", b""),
@@ -146,7 +146,7 @@ const RECORDS: [File; 13] = [
     (b"\xef\xbb\xbfa 1\n\n#b 2\n", b"1:a=1; 2:#b=2; "),
 ];
 
-/// A comment in a record comes before that record.
+/// A comment within a record is written before that record.
 const XTAB_PASSED: [File; 4] = [
     (b"a 1\n%%x\nb 2\n", b"%%x\n 1:a=1;b=2; "),
     (b"a 1\n\n%%x\r\n%%y\n\nb 2", b"1:a=1; %%x\n %%y\n 2:b=2; "),
@@ -154,7 +154,7 @@ const XTAB_PASSED: [File; 4] = [
     (b" %%a 1\n", b"1:%%a=1; "),
 ];
 
-/// A comment in a table comes in its place.
+/// A comment within a table is written at its place.
 const PPRINT_PASSED: [File; 2] = [
     (b"#x\na\n#y\n1\n#", b"#x\n #y\n 1:a=1; #\n "),
     (b"a b\n1\n#\n", b"!2!1 "),
@@ -194,7 +194,7 @@ const GROUPS: [(&str, &[Opt], &[File]); 10] = [
     ("csv", &[Opt::Format(Format::Csv)], &[]),
 ];
 
-/// Prefixes of files with comments, and their events while more may come.
+/// Prefixes of files with comments, and their events while more bytes may follow.
 const PREFIXES: [File; 6] = [
     (b"%%x\na 1\n", b""),
     (b"a 1\n%%x\n\r", b""),

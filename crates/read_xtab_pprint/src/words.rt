@@ -1,3 +1,4 @@
+//! Splits a text at spaces.
 ghost use Rattle.std.specs.Prelude.{◌≡◌, ◌≤◌, [], drop, length, MatchOption};
 ghost use Rattle.std.specs.List.{before_first, position_or_len, prefix_len};
 ghost use Rattle.read_xtab_pprint.specs.Pprint.{words_of};
@@ -23,7 +24,7 @@ fn spaces_before(text: &[u8]) -> usize
     text.len()
 }
 
-/// What stands before the first space, and the text from there on.
+/// The text before the first space, and the text from that space on.
 pub(crate) fn cut_word(text: &[u8]) -> (&[u8], &[u8])
     ensures word { result.0.now ≡ before_first is_space text.now }
     ensures rest { result.1.now ≡ drop (length result.0.now) text.now }
@@ -44,7 +45,7 @@ fn space_place(text: &[u8]) -> usize
     text.len()
 }
 
-/// The first word of the text, and the text behind it.
+/// The first word of the text, and the text after it.
 pub(crate) fn next_word(text: &[u8]) -> Option<(&[u8], &[u8])>
     ensures { MatchOption result (words_of text.now ≡ [])
         (λ cut. IsWordCut text.now cut.0.now cut.1.now) }

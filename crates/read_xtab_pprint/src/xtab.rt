@@ -1,3 +1,4 @@
+//! Reads XTAB line by line.
 ghost use Rattle.std.specs.Prelude.{◌≡◌, ◌^◌, ◌<◌, ◌-◌, ◌++◌, length, OnOk};
 ghost use Rattle.read_xtab_pprint.specs.Last.{xtab_after_last, xtab_gives_last};
 ghost use Rattle.read_xtab_pprint.specs.Xtab.{without_spaces};
@@ -13,7 +14,8 @@ use std::alloc::Global;
 use std::mem;
 
 impl XtabRules {
-    /// Takes what is left at the end of the file.
+    /// Reads the rest of the file, a last line without LF or nothing, and appends the current record to
+    /// `out`.
     pub(crate) fn take_last(&mut self, line: &[u8], out: &mut Events) -> Result<(), NoMemory>
         requires { xtab_count self.old < 2 ^ 63 }
         ensures state { OnOk result (self.new ≡ xtab_after_last self.old line.now) }
@@ -26,7 +28,7 @@ impl XtabRules {
         self.give(out)
     }
 
-    /// Takes a line without its end.
+    /// Reads a line without its line ending, and appends its events to `out`.
     pub(crate) fn take(&mut self, line: &[u8], out: &mut Events) -> Result<(), NoMemory>
         requires { xtab_count self.old < 2 ^ 63 }
         ensures state { OnOk result (self.new ≡ xtab_after self.old line.now) }
@@ -42,7 +44,7 @@ impl XtabRules {
         put_line(self.alloc, &self.opts, text, &mut self.begun)
     }
 
-    /// Gives the comments that were passed and the record that has begun.
+    /// Appends the comments within the current record, and that record, to `out`.
     fn give(&mut self, out: &mut Events) -> Result<(), NoMemory>
         requires { xtab_count self.old < 2 ^ 64 - 1 }
         ensures state { OnOk result (self.new ≡ after_gap self.old) }
@@ -66,7 +68,7 @@ fn push_all(events: Events, out: &mut Events) -> Result<(), NoMemory>
     Ok(())
 }
 
-/// Puts the field of a line, whose leading spaces are dropped, into the record, which it begins if need be.
+/// Sets the field of a line, without its leading spaces, in the record, which is created if there is none.
 fn put_line(
     alloc: Global,
     opts: &ReadOpts,

@@ -2,7 +2,7 @@ use Rattle.std.proofs.Common.{◌≡◌, ◌++◌, length}
 use Rattle.read_csv.specs.Fields.{unescaped}
 use Rattle.read_csv.proofs.escapes.unescape.RowOutcome as goal
 
--- what is left comes to what the whole text comes to
+-- the bytes so far, followed by those of the remaining text, are those of the whole text
 abbrev pub invariant-loop-byte : goal.invariant-loop-byte
 invariant-loop-byte l = l.made.items ++ unescaped l.left ≡ unescaped l.initial.left
 

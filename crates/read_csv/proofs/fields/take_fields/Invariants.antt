@@ -2,7 +2,7 @@ use Rattle.std.proofs.Common.{◌≡◌, None, length}
 use Rattle.read_csv.specs.OpenRow.{csv_reading, row_with}
 use Rattle.read_csv.proofs.fields.take_fields.RowOutcome as goal
 
--- what is left comes to what the whole text comes to
+-- reading the remaining text gives the same row as reading the whole text
 abbrev pub invariant-loop-rest : goal.invariant-loop-rest
 invariant-loop-rest l = record {
   row : row_with l.opts.infer l.row (csv_reading l.opts.ifs l.left) ≡ row_with l.opts.infer l.initial.row (csv_reading l.opts.ifs l.initial.left);

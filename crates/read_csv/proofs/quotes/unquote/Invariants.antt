@@ -2,7 +2,7 @@ use Rattle.std.proofs.Common.{◌≡◌, ◌≤◌, length}
 use Rattle.read_csv.specs.OpenRow.{after_quotes, inside, with_text}
 use Rattle.read_csv.proofs.quotes.unquote.RowOutcome as goal
 
--- what is left comes to what the whole text comes to
+-- the remaining text continues the open quote as the whole text does
 abbrev pub invariant-loop-prefix : goal.invariant-loop-prefix
 invariant-loop-prefix l = record {
   row : with_text l.row (inside l.left) ≡ with_text l.initial.row (inside l.initial.left);

@@ -5,7 +5,7 @@ use Rattle.std.specs.Vec.{vec_len}
 use Rattle.read_csv.specs.Rows.{positions_from}
 use Rattle.read_csv.proofs.records.put_surplus.RowOutcome as goal
 
--- what is left comes to what the whole row comes to
+-- adding the remaining values gives the same record as adding all
 abbrev pub invariant-loop-place : goal.invariant-loop-place
 invariant-loop-place l = record {
   fields : with_fields l.dedupe l.into (positions_from (l.place + 1) (vec_len l.values - l.place)) (map tree_of (drop l.place l.values.items))

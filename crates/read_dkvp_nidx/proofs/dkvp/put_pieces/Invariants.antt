@@ -4,7 +4,7 @@ use Rattle.mlr_event.specs.Rows.{with_fields}
 use Rattle.read_dkvp_nidx.specs.Dkvp.{keys_from, values_from}
 use Rattle.read_dkvp_nidx.proofs.dkvp.put_pieces.Given as goal
 
--- the pieces that are left come to what the whole line comes to
+-- adding the remaining pieces gives the same record as adding all
 abbrev pub invariant-loop-rest : goal.invariant-loop-rest
 invariant-loop-rest l = record {
   fields : with_fields l.opts.dedupe l.record (keys_from l.opts.ips l.position (split_by l.opts.ifs l.left)) (values_from l.opts (split_by l.opts.ifs l.left))

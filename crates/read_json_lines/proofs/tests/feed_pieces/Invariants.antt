@@ -2,7 +2,7 @@ use Rattle.std.proofs.Common.{◌+◌, ◌≤◌, length}
 use Rattle.read_json_lines.specs.Represents.{IsOpen, used}
 use Rattle.read_json_lines.proofs.tests.feed_pieces.Given as goal
 
--- the reader is open, and what is left has room
+-- the reader is open, and has room for the rest of the text
 abbrev pub invariant-loop-left : goal.invariant-loop-left
 invariant-loop-left l = record {
   is_open : IsOpen l.reader;

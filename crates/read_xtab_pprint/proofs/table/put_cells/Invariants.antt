@@ -5,7 +5,7 @@ use Rattle.read_xtab_pprint.specs.Cells.{cells_left}
 use Rattle.read_xtab_pprint.specs.Pprint.{words_of}
 use Rattle.read_xtab_pprint.proofs.table.put_cells.Given as goal
 
--- the cells that are left come to what all cells come to
+-- adding the remaining cells gives the same record as adding all
 abbrev pub invariant-loop-cell : goal.invariant-loop-cell
 invariant-loop-cell l = record {
   fields : with_fields l.opts.dedupe l.record (drop l.place l.header) (map (tree_of_data l.opts.infer) (cells_left l.barred (words_of l.left)))

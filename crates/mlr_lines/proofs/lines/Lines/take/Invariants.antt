@@ -4,7 +4,7 @@ use Rattle.mlr_lines.specs.Steps.{are_none, unmarked_lines}
 use Rattle.mlr_lines.specs.Represents.{format_after, given}
 use Rattle.mlr_lines.proofs.lines.Lines.take.Given as goal
 
--- what is left comes to what the whole piece comes to
+-- the rest of the piece has yet to add its lines to those of the piece so far
 abbrev pub invariant-loop-line : goal.invariant-loop-line
 invariant-loop-line g l = record {
   state : format_after g.F.LineFormat.after l.self.format (unmarked_lines l.self.first (ended_after l.self.begun.items l.rest))

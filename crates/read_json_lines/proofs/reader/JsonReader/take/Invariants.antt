@@ -6,7 +6,7 @@ use Rattle.mlr_event.specs.declared.options.ReadOpts.{ReadOpts}
 use Rattle.read_json_lines.specs.Represents.{Moves, RepresentsWith, is_waiting, used}
 use Rattle.read_json_lines.proofs.reader.JsonReader.take.Given as goal
 
--- what was taken so far, and what is left of the piece
+-- the part of the piece that has been read, and the rest of it
 abbrev pub invariant-loop-self : goal.invariant-loop-self
 invariant-loop-self l = record {
   moves : (opts : ReadOpts) (file : FileRef) (start : Ctx) (all : List ℕ) (put : List Event) → RepresentsWith l.initial.self.mark opts file start l.initial.self.stream all l.initial.left put
