@@ -24,8 +24,8 @@ is_begun (mark m) lexemes stop = false
 is_begun quote lexemes stop = false
 is_begun (piece p) lexemes stop = false
 
--- what follows the lexemes of a text that ends before the place `end`; a text that ends within a string stops at
--- `end`, and may continue unless it is the whole file
+-- what follows the lexemes of a text that ends before the place `end`; a text that ends within a string stops
+-- at `end`, and may continue unless it is the whole file
 abbrev pub ending : Bool → ℕ → Option ℕ → Ending
 ending true end (Some place) = stops place
 ending true end None = ends end
