@@ -1,4 +1,4 @@
--- The first byte of a text with escapes.
+-- The first byte of a text, with its escape resolved.
 use Rattle.std.specs.Prelude.{◌≡◌, ℕ, ◌<◌, List, ◌∷◌, length}
 use Rattle.read_csv.specs.Fields.{unescaped}
 

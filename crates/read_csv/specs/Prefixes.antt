@@ -16,18 +16,18 @@ abbrev pub open_row : ReadOpts → ℕ → Begun → List (List ℕ) → Begun
 open_row opts n row [] = row
 open_row opts n row (line ∷ lines) = open_row opts (n + 1) (open_after opts n row line) lines
 
--- whether the bytes end with LF, and whether that LF ends a row
+-- whether the bytes end with LF, and whether that LF is outside quotes
 abbrev pub ends_line : List ℕ → Bool
 ends_line bytes = slice_index bytes (length bytes - 1) == line_feed
 
 abbrev pub is_closed : ReadOpts → List ℕ → Bool
 is_closed opts bytes = ends_line bytes && not (is_some (open_row opts 1 None (ended_lines bytes)))
 
--- the longest prefix of at most n bytes that ends with the end of a row, or no bytes
+-- the longest prefix of at most n bytes that ends with a line ending outside quotes, or no bytes
 abbrev pub closed_within : ReadOpts → List ℕ → ℕ → List ℕ
 closed_within opts bytes zero = []
 closed_within opts bytes (suc n) = if is_closed opts (take (suc n) bytes) then take (suc n) bytes else closed_within opts bytes n
 
--- the longest prefix that ends with the end of a row, or no bytes
+-- the longest prefix that ends with a line ending outside quotes, or no bytes
 abbrev pub closed_prefix : ReadOpts → List ℕ → List ℕ
 closed_prefix opts bytes = closed_within opts bytes (length bytes)

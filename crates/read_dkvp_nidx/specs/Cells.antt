@@ -16,7 +16,7 @@ IsBarCut text part rest = (bar_parts vertical_bar text ≡ part ∷ bar_parts ve
 abbrev pub HasNoBar : List ℕ → Type 0
 HasNoBar text = bar_parts vertical_bar text ≡ text ∷ []
 
--- the cells after those of the prefix; None if there are none
+-- the cells of the prefix, then these cells; None if these are None
 abbrev pub with_prefix : List (List ℕ) → Option (List (List ℕ)) → Option (List (List ℕ))
 with_prefix prefix None = None
 with_prefix prefix (Some cells) = Some (prefix ++ cells)

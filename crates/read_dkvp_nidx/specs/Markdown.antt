@@ -95,7 +95,7 @@ abbrev pub block_after : Block → List ℕ → Block
 block_after block [] = outside
 block_after block (b ∷ line) = row_block block (cells_of (b ∷ line))
 
--- the items of line n, and the place of the next line; comments are not part of a table
+-- the items of line n, and the place of the next line; a comment keeps the place
 abbrev pub markdown_line : ReadOpts → FileRef → ℕ → Block → List ℕ → List Item
 markdown_line opts file n block line = if is_comment opts.comments line then comment_items opts.comments line else markdown_row opts file n block line
 

@@ -24,8 +24,8 @@ is_begun (mark m) lexemes stop = false
 is_begun quote lexemes stop = false
 is_begun (piece p) lexemes stop = false
 
--- the end of the lexemes, in a text that ends before the place `end`; if the bytes so far end within a
--- string, they stop at `end` and may continue
+-- what follows the lexemes of a text that ends before the place `end`; a text that ends within a string stops
+-- at `end`, and may continue unless it is the whole file
 abbrev pub ending : Bool → ℕ → Option ℕ → Ending
 ending true end (Some place) = stops place
 ending true end None = ends end
@@ -73,7 +73,7 @@ tokens_known_inside infer all = tokens_then (tokens_inside infer all.lexemes Non
 abbrev pub items_in : FileRef → State → Known → List Item
 items_in file s all = items_of file s all.tokens all.ending
 
--- the first byte or the first two bytes of a byte order mark
+-- the bytes are an incomplete byte order mark: its first byte, or its first two
 abbrev pub is_mark_begun : List ℕ → Bool
 is_mark_begun bytes = bytes_eq bytes (239 ∷ []) || bytes_eq bytes (239 ∷ 187 ∷ [])
 

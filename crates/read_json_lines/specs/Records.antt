@@ -99,7 +99,8 @@ fault_of file Syntax place = fault.JsonSyntax file place
 fault_of file Deep place = fault.JsonDeep file place
 fault_of file Kind place = fault.JsonKind file place
 
--- whether a word is allowed: within a record where a value is, and between records where a map is
+-- whether a word may begin: within a record where a value is allowed, and between records where a map is
+-- allowed (there the word, once complete, is a fault of kind)
 abbrev pub takes_word : State → Bool
 takes_word s = if is_within s.frames then takes_value s.phase else not (is_after s.list)
 
@@ -111,7 +112,7 @@ pub data Ending : Type 0 where
   stops : ℕ → Ending
   ends : ℕ → Ending
 
--- neither a record nor a list is open
+-- no list is open; and neither a record nor a list is open
 abbrev pub is_outside : Listing → Bool
 is_outside Outside = true
 is_outside First = false

@@ -34,7 +34,7 @@ HasEnded reader = reader.stage ≡ Ended
 abbrev pub IsBroken : JsonReader → Type 0
 IsBroken reader = reader.stage ≡ Broken
 
--- the largest of the reader's counters, which each byte raises by at most one
+-- an upper bound of the reader's counters, which each byte raises by at most one
 abbrev pub used : JsonReader → ℕ
 used reader = count_of reader.stream + unwrap_or reader.mark 0
 

@@ -35,7 +35,7 @@ inside whole infer end text = tokens_known_inside infer (left whole true end tex
 abbrev pub pieces : Bool → ℕ → List ℕ → List Piece
 pieces whole end text = pieces_in (left whole true end text).lexemes
 
--- the text of the current string, after the pieces that follow
+-- the text of the current string, with the pieces that follow
 abbrev pub text_after : StringBuilder → List Piece → List ℕ
 text_after builder more = builder.text ++ decoded (pending builder.high ++ more)
 
@@ -72,7 +72,7 @@ FitsText (Some open_text) s bytes = (lexeme_inside bytes ≡ begun) × ((text : 
 abbrev pub IsFit : Stream → Type 0
 IsFit s = s.stopped ≡ false → FitsText s.text (state_of s.record_state) s.begun.items
 
--- the largest of the counters and the number of bytes that have begun
+-- the largest of the counters, plus the number of bytes that have begun
 abbrev pub count_of : Stream → ℕ
 count_of s = max s.place (max s.at.nr s.at.fnr) + length s.begun.items
 
@@ -116,7 +116,7 @@ pub record Takes (old new : Stream) (before after : List Event) (tokens : Known 
 abbrev pub token_of_value : Option Value → Option Token
 token_of_value value = option_map (λ v. word_token (tree_of v)) value
 
--- the token of the current string, after the pieces that follow, and the tokens after it
+-- the token of the current string, with the pieces that follow, and the tokens after it
 abbrev pub text_tokens : Option OpenText → List Piece → Known → Known
 text_tokens None more rest = rest
 text_tokens (Some open_text) more rest = and_token open_text.place (text_token (text_after open_text.builder more)) rest
