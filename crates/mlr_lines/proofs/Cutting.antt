@@ -174,11 +174,11 @@ unmarked-append false (line ∷ lines) more = ap (λ m. line ∷ (lines ++ m)) (
 pub ended_lines-append : (bytes more : List ℕ) → ended_lines (bytes ++ more) ≡ ended_lines bytes ++ unmarked_lines (are_none (ended_lines bytes)) (ended_after (begun_after [] bytes) more)
 ended_lines-append bytes more =
     let raw = ended_after [] bytes in
-    let format_after = ended_after (begun_after [] bytes) more in
+    let later_lines = ended_after (begun_after [] bytes) more in
     let lines : ended_lines bytes ≡ unmarked_lines true raw = ended_lines-is bytes in
     let none : are_none (ended_lines bytes) ≡ are_none raw = ap are_none lines ∙ none-unmarked true raw in
-    ended_lines-is (bytes ++ more) ∙ ap (unmarked_lines true) (ended-append [] bytes more) ∙ unmarked-append true raw format_after
-    ∙ ap₂ (λ prefix none. prefix ++ unmarked_lines none format_after) (sym lines) (sym none)
+    ended_lines-is (bytes ++ more) ∙ ap (unmarked_lines true) (ended-append [] bytes more) ∙ unmarked-append true raw later_lines
+    ∙ ap₂ (λ prefix none. prefix ++ unmarked_lines none later_lines) (sym lines) (sym none)
 
 none_of : (lines more : List (List ℕ)) → (are_none lines && are_none more) ≡ are_none (lines ++ more)
 none_of [] more = refl
@@ -186,7 +186,7 @@ none_of (line ∷ lines) more = refl
 
 pub first-append : (bytes more : List ℕ) → (are_none (ended_lines bytes) && are_none (ended_after (begun_after [] bytes) more)) ≡ are_none (ended_lines (bytes ++ more))
 first-append bytes more =
-    let format_after = ended_after (begun_after [] bytes) more in
-    ap (λ none. are_none (ended_lines bytes) && none) (sym (none-unmarked (are_none (ended_lines bytes)) format_after))
-    ∙ none_of (ended_lines bytes) (unmarked_lines (are_none (ended_lines bytes)) format_after)
+    let later_lines = ended_after (begun_after [] bytes) more in
+    ap (λ none. are_none (ended_lines bytes) && none) (sym (none-unmarked (are_none (ended_lines bytes)) later_lines))
+    ∙ none_of (ended_lines bytes) (unmarked_lines (are_none (ended_lines bytes)) later_lines)
     ∙ ap are_none (sym (ended_lines-append bytes more))

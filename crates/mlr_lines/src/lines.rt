@@ -110,9 +110,9 @@ impl<F: LineFormat> Lines<F> {
         ensures stage { self.new.stage ≡ self.old.stage }
     {
         let mut rest = piece;
-        while let Some((line, format_after)) = first_line(rest) {
+        while let Some((line, following)) = first_line(rest) {
             self.end_line(line, out)?;
-            rest = format_after;
+            rest = following;
         }
         self.begun.extend_from_slice(rest)?;
         Ok(())

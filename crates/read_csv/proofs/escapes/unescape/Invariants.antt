@@ -1,6 +1,6 @@
 use Rattle.std.proofs.Common.{◌≡◌, ◌++◌, length}
 use Rattle.read_csv.specs.Fields.{unescaped}
-use Rattle.read_csv.proofs.escapes.unescape.RowOutcome as goal
+use Rattle.read_csv.proofs.escapes.unescape.Given as goal
 
 -- the bytes so far, followed by those of the remaining text, are those of the whole text
 abbrev pub invariant-loop-byte : goal.invariant-loop-byte

@@ -1,6 +1,6 @@
 use Rattle.std.proofs.Common.{◌≡◌, None, length}
 use Rattle.read_csv.specs.OpenRow.{tsv_reading, row_with}
-use Rattle.read_csv.proofs.fields.take_escaped.RowOutcome as goal
+use Rattle.read_csv.proofs.fields.take_escaped.Given as goal
 
 -- reading the remaining text gives the same row as reading the whole text
 abbrev pub invariant-loop-rest : goal.invariant-loop-rest

@@ -1,6 +1,6 @@
 use Rattle.std.proofs.Common.{◌≡◌, None, length}
 use Rattle.read_csv.specs.OpenRow.{csv_reading, row_with}
-use Rattle.read_csv.proofs.fields.take_fields.RowOutcome as goal
+use Rattle.read_csv.proofs.fields.take_fields.Given as goal
 
 -- reading the remaining text gives the same row as reading the whole text
 abbrev pub invariant-loop-rest : goal.invariant-loop-rest

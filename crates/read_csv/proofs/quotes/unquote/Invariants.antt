@@ -1,6 +1,6 @@
 use Rattle.std.proofs.Common.{◌≡◌, ◌≤◌, length}
 use Rattle.read_csv.specs.OpenRow.{after_quotes, inside, with_text}
-use Rattle.read_csv.proofs.quotes.unquote.RowOutcome as goal
+use Rattle.read_csv.proofs.quotes.unquote.Given as goal
 
 -- the remaining text continues the open quote as the whole text does
 abbrev pub invariant-loop-prefix : goal.invariant-loop-prefix

@@ -2,7 +2,7 @@ use Rattle.std.proofs.Common.{◌≡◌, [], map, take, drop}
 use Rattle.mlr_event.specs.Rows.{with_fields}
 use Rattle.mlr_value.specs.Value.{tree_of}
 use Rattle.std.specs.Vec.{vec_len}
-use Rattle.read_csv.proofs.records.put_named.RowOutcome as goal
+use Rattle.read_csv.proofs.records.put_named.Given as goal
 
 abbrev pub invariant-loop-place : goal.invariant-loop-place
 invariant-loop-place l = record {

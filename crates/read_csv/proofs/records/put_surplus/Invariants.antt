@@ -3,7 +3,7 @@ use Rattle.mlr_event.specs.Rows.{with_fields}
 use Rattle.mlr_value.specs.Value.{tree_of}
 use Rattle.std.specs.Vec.{vec_len}
 use Rattle.read_csv.specs.Rows.{positions_from}
-use Rattle.read_csv.proofs.records.put_surplus.RowOutcome as goal
+use Rattle.read_csv.proofs.records.put_surplus.Given as goal
 
 -- adding the remaining values gives the same record as adding all
 abbrev pub invariant-loop-place : goal.invariant-loop-place
