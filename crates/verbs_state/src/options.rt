@@ -35,7 +35,7 @@ pub struct FillDown {
 /// Where `gap` inserts a record without fields.
 #[derive(Drop)]
 pub enum Gap {
-    /// After each so many records, at least 1.
+    /// After every this many records; at least 1.
     Count(u64),
     /// Where the texts of these fields change.
     Groups(Names),
