@@ -18,11 +18,13 @@ abbrev pub after_verb : Formats → Option Asked → Next
 after_verb formats (Some asked) = Word formats (Options asked)
 after_verb formats None = Refuse
 
+-- what a word after a verb is if it isn't one of the verb's options
 abbrev pub after_options : Formats → Asked → List ℕ → Next
 after_options formats asked word =
     if not (may_end asked) || is_dashed word then Refuse else (
     if bytes_eq word (codes "then") then Word formats Verb else Names)
 
+-- what the next word is, which is word number `n`, at a place of the line
 abbrev pub after : ℕ → Formats → Place → List ℕ → Next
 after n formats Flags word = elim (flagged word formats) [ Some next ↦ Word next Flags | None ↦ after_verb formats (first_verb word) ]
 after n formats Verb word = after_verb formats (verb_named word)
