@@ -1,4 +1,4 @@
-//! A chain of verbs: what it makes of events, and what a run over it does.
+//! A chain of verbs: the events that it makes of events, and the code that runs it.
 #![tactic(auto)]
 
 mod chain;
