@@ -26,7 +26,7 @@ quiet-last verbs verb = list_all-append (λ verb. not verb.effects) verbs (verb 
     and-true false = refl
 
 module _ {S : Type 0} (verb : S → Verb) (represents : S → List Event → Type 0) where
-  -- verbs that are given a list of events that ends with its first end or fault make such a list
+  -- from a list that ends with its first end or fault, verbs make such a list
   pub chain-list : ((s : S) → KeepsOrder (verb s)) → (quiet : Bool) (stages : List (Stage S)) (events : List Event) → is_list events ≡ true → is_list (chain_from quiet (verbs_of verb stages) events) ≡ true
   chain-list order quiet [] events list = list
   chain-list order quiet (stage ∷ stages) events list =

@@ -1,4 +1,4 @@
--- What a chain makes of a list grows with the list, and no longer once the chain is stopped.
+-- The output of a chain grows with its list of events, and no longer once the chain is stopped.
 use Rattle.std.proofs.Common.{◌≡◌, Bool, true, false, not, cond, ◌&&◌, ◌||◌, List, [], ◌∷◌, ◌++◌, map, Option, Some, None, refl, ap, sym, ◌∙◌, append_assoc, ◌⊎◌, inl, inr}
 use Rattle.std.specs.Prelude.{is_some}
 use Rattle.std.specs.List.{find}

@@ -1,4 +1,4 @@
--- What a chain of verbs makes of a list of events.
+-- The output of a chain of verbs for a list of events.
 use Rattle.std.specs.Prelude.{◌≡◌, ℕ, Bool, true, false, not, ◌&&◌, ◌||◌, if◌then◌else◌, List, [], ◌∷◌, ◌++◌, map, Option, Some, None, is_some}
 use Rattle.std.specs.List.{find}
 use Rattle.mlr_event.specs.declared.event.Ctx.{Ctx}
@@ -40,8 +40,8 @@ cut true verb events = elim (closing verb events) [
   | None ↦ events
 ]
 
--- What verbs make of a list, where each verb is given what the verb before it makes. A place is quiet if no
--- verb before it has effects.
+-- The output of the last verb for a list of events, where each verb takes the output of the verb before it. A
+-- place is quiet if no verb before it has effects.
 abbrev pub chain_from : Bool → List Verb → List Event → List Event
 chain_from quiet [] events = events
 chain_from quiet (verb ∷ verbs) events = chain_from (quiet && not verb.effects) verbs (made verb (cut quiet verb events))

@@ -12,7 +12,7 @@ use Rattle.chain_core.specs.declared.stage.Stage.{Stage}
 abbrev pub is_cut : Bool → Verb → List Event → Bool
 is_cut quiet verb events = quiet && is_some (closing verb events)
 
--- the events that a verb makes at its place
+-- the output of a verb at its place
 abbrev pub made_at : Bool → Verb → List Event → List Event
 made_at quiet verb events = made verb (cut quiet verb events)
 
@@ -22,7 +22,7 @@ pub record GateRepresents {S : Type 0} (verb : S → Verb) (represents : S → L
   pub inner : represents gate.verb (cut gate.quiet (verb gate.verb) given)
   pub at : gate.shut ≡ false → gate.at ≡ last_context zero_context given
 
--- the verbs in turn were given these events, and their lists of made events are empty
+-- the verbs in turn were given these events, and their lists of output are empty
 abbrev pub StagesRepresent : {S : Type 0} → (S → Verb) → (S → List Event → Type 0) → Bool → List Event → List (Stage S) → Type 0
 StagesRepresent verb represents quiet given [] = Unit {0}
 StagesRepresent verb represents quiet given (stage ∷ stages) =

@@ -51,8 +51,8 @@ impl<S: Step + Drop> Chain<S> {
         }
     }
 
-    /// Adds a verb at the end, before the first event. `first` is what the verb gave when it began, and
-    /// `made` is what the verbs before it have given so far; `made` becomes what all the verbs give.
+    /// Adds a verb at the end, before the first event. `first` is what the verb gave when it began. `made` is
+    /// the output of the verbs before it so far, and becomes the output of all the verbs.
     pub fn push(&mut self, verb: S, first: Events, made: &mut Events) -> Result<(), NoMemory>
         requires chain { Represents S.verb S.represents [] self.old }
         requires verb { S.represents verb [] }
@@ -70,8 +70,8 @@ impl<S: Step + Drop> Chain<S> {
         Ok(())
     }
 
-    /// Takes an event, and appends the events that the verbs make of it to `out`. No end and no fault may
-    /// have been taken before.
+    /// Takes an event, and appends the output of the last verb to `out`. No end and no fault may have been
+    /// taken before.
     pub fn step(&mut self, event: Event, out: &mut Events) -> Result<(), NoMemory>
         requires { (given : List SpecEvent) × Represents S.verb S.represents given self.old
             × (is_open given ≡ true) }
@@ -90,7 +90,7 @@ impl<S: Step + Drop> Chain<S> {
         Ok(())
     }
 
-    /// Takes all events of a list, and replaces them by the events that the verbs make of them.
+    /// Takes all events of a list, and replaces them by the output of the last verb.
     pub fn take_all(&mut self, events: &mut Events) -> Result<(), NoMemory>
         requires { (given : List SpecEvent) × Represents S.verb S.represents given self.old
             × (is_list (given ++ events.old) ≡ true) }

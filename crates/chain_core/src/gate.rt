@@ -58,7 +58,7 @@ impl<S: Step + Drop> Gate<S> {
         self.shut
     }
 
-    /// Takes an event, and appends the events that the verb makes of it to `out`.
+    /// Takes an event, and appends the verb's output to `out`.
     pub fn take(&mut self, event: Event, out: &mut Events) -> Result<(), NoMemory>
         requires { (given : List SpecEvent) × GateRepresents S.verb S.represents given self.old
             × (is_open given ≡ true) }

@@ -1,4 +1,4 @@
-//! A chain of verbs: the events that it makes of events, and the code that runs it.
+//! A chain of verbs: its output for a list of events, and the code that runs it.
 #![tactic(auto)]
 
 mod chain;

@@ -1,4 +1,4 @@
-//! A verb of a chain, with a list for the events that it makes.
+//! A verb of a chain, with a list for its output.
 ghost use Rattle.std.specs.Prelude.{◌≡◌, ◌++◌, [], Bool, List, true, IfOk, OnOk};
 ghost use Rattle.mlr_event.specs.Adding.{Adds};
 ghost use Rattle.mlr_event.specs.declared.event.Event.{Event as SpecEvent};
@@ -12,7 +12,7 @@ use mlr_spec::NoMemory;
 use std::alloc::Global;
 use std::mem::swap;
 
-/// A verb of a chain, with a list for the events that it makes of the current ones.
+/// A verb of a chain, with a list for its output.
 #[derive(Drop)]
 pub struct Stage<S> {
     gate: Gate<S>,
@@ -20,8 +20,8 @@ pub struct Stage<S> {
 }
 
 impl<S: Step + Drop> Stage<S> {
-    /// Takes all events of a list, and replaces them by the events that the verb makes of them. The two lists
-    /// swap their memory, so that later events need no new memory.
+    /// Takes all events of a list, and replaces them by the verb's output. The two lists swap their memory,
+    /// so that later events need no new memory.
     fn take(&mut self, events: &mut Events) -> Result<(), NoMemory>
         requires represents { (given : List SpecEvent)
             × GateRepresents S.verb S.represents given self.old.gate
@@ -53,7 +53,7 @@ impl<S: Step + Drop> Stage<S> {
 }
 
 /// A verb that has begun, at its place. `first` is what it gave when it began. It takes all events of `made`,
-/// and replaces them by `first` and the events that it makes of them.
+/// and replaces them by `first` and its output for them.
 pub fn begun<S: Step + Drop>(
     alloc: Global,
     verb: S,
@@ -81,8 +81,7 @@ pub fn begun<S: Step + Drop>(
     })
 }
 
-/// Passes all events of a list through the verbs in turn, and replaces them by the events that the last verb
-/// makes.
+/// Passes all events of a list through the verbs in turn, and replaces them by the output of the last verb.
 pub fn pass<S: Step + Drop>(stages: &mut [Stage<S>], events: &mut Events) -> Result<(), NoMemory>
     requires { (quiet : Bool) × (given : List SpecEvent)
         × StagesRepresent S.verb S.represents quiet given stages.old

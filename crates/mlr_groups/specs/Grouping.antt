@@ -32,7 +32,7 @@ texts_eq texts other = pointwise bytes_eq texts other
 abbrev pub is_in : List (List ℕ) → List (List ℕ) → Fields → Bool
 is_in names texts fields = elim (group_of names fields) [ Some own ↦ texts_eq texts own | None ↦ false ]
 
--- the records of a group
+-- the records in a group
 abbrev pub members : List (List ℕ) → List (List ℕ) → List Fields → List Fields
 members names texts records = filter (is_in names texts) records
 

@@ -1,4 +1,4 @@
--- What groups and tallies represent after some records.
+-- The records that groups and tallies represent.
 use Rattle.std.specs.Prelude.{◌≡◌, ℕ, List, map}
 use Rattle.mlr_groups.specs.declared.groups.Groups.{Groups}
 use Rattle.mlr_groups.specs.declared.tallies.Tallies.{Tallies}

@@ -1,4 +1,4 @@
-//! Which words and texts are patterns, and what their matches are replaced by, by tables.
+//! Tables of words and texts that are patterns, and of texts before and after matches are replaced.
 
 use crate::{
     Pattern, PatternFault, Patterns, Which, append_replaced, is_heavy, matches, pattern_word,

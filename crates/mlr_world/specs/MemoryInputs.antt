@@ -55,14 +55,14 @@ TakesFrom max text place got.End into into' = (length text ≤ place) × (into' 
 TakesFrom max text place got.Failed into into' = ⊥
 TakesFrom max text place got.NoMemory into into' = into' ≡ into
 
--- a read that gives bytes gives as many as it may, or all the remaining ones
+-- a read that gives bytes gives `max` of them, or all the remaining ones
 abbrev pub TakesMostFrom : ℕ → List ℕ → ℕ → Got → Type 0
 TakesMostFrom max text place (got.Some n) = (n ≡ max) ⊎ (length text ≡ place + n)
 TakesMostFrom max text place got.End = Unit {0}
 TakesMostFrom max text place got.Failed = Unit {0}
 TakesMostFrom max text place got.NoMemory = Unit {0}
 
--- the same, by the bytes taken after the read
+-- the same, by the bytes that are taken after the read
 abbrev pub TakesMost : ℕ → Got → Option Contents → Option (List Take) → Type 0
 TakesMost max (got.Some n) contents now = (n ≡ max) ⊎ IsAllTaken contents now
 TakesMost max got.End contents now = Unit {0}

@@ -1,4 +1,4 @@
--- Which fields of a record stay, and in which order.
+-- The fields of a record that are kept, and their order.
 use Rattle.std.specs.Prelude.{ℕ, Bool, true, false, not, ◌&&◌, if◌then◌else◌, List, [], ◌∷◌, ◌++◌, map, Option}
 use Rattle.std.specs.List.{filter, filter_map}
 use Rattle.std.specs.Option.{option_map, unwrap_or}
@@ -43,10 +43,10 @@ abbrev pub is_empty : Tree → Bool
 is_empty empty = true
 is_empty _ = false
 
--- whether a field is empty and is one of the named fields, or there are no names
+-- whether a field is dropped: it is empty, and it is one of the named fields or there are no names
 abbrev pub is_sparse : Option (List (List ℕ)) → List ℕ × Tree → Bool
 is_sparse names pair = is_empty pair.1 && is_taken names pair.0
 
--- the fields except the empty ones, or except the empty ones among the named
+-- the fields that aren't dropped
 abbrev pub sparse : Option (List (List ℕ)) → List (List ℕ × Tree) → List (List ℕ × Tree)
 sparse names pairs = filter (λ pair. not (is_sparse names pair)) pairs

@@ -11,7 +11,8 @@ use Rattle.verbs_fields.specs.Choosing.{dropped}
 abbrev pub values_of : List (List ℕ × Tree) → List Tree
 values_of pairs = map (λ pair. pair.1) pairs
 
--- The first fields with the given names, one each. Of the other fields, those that have none of these names.
+-- The first fields get the given names, one each. Of the other fields those are kept that have none of these
+-- names.
 abbrev pub labelled : List (List ℕ) → List (List ℕ × Tree) → List (List ℕ × Tree)
 labelled names pairs = zip names (values_of pairs) ++ dropped names (drop (length names) pairs)
 

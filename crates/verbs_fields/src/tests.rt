@@ -1,4 +1,4 @@
-//! What the functions on fields make of records, by tables.
+//! Tables of records before and after the functions on fields.
 
 use crate::{
     Renaming, Unspace, UnspacePart, all_defined, altkv, any_defined, are_distinct, drop_named,
@@ -313,7 +313,7 @@ const DISTINCT: [(&str, bool); 13] = [
     ("a b", true),
 ];
 
-/// Texts of options: two lie inline, and one doesn't.
+/// Texts of options: two are stored inline, and one is allocated.
 const TEXTS: [&str; 3] = ["", "_", "a text of more bytes than lie inline"];
 
 #[test]

@@ -1,4 +1,4 @@
--- A record with the names rewritten that match patterns.
+-- A record whose names are rewritten by patterns.
 use Rattle.std.specs.Prelude.{ℕ, List, [], ◌∷◌, ◌++◌, if◌then◌else◌}
 use Rattle.std.specs.Str.{bytes_eq}
 use Rattle.regex.specs.Patterns.{Re}

@@ -11,7 +11,8 @@ use Rattle.verbs_pattern.specs.Renaming.{renamed_from}
 abbrev pub new_name : Which → Re → List ℕ → List ℕ → List ℕ
 new_name which re by name = replaced name by (matches_of which re name)
 
--- renaming after a step gives what it gave before the step, and fewer fields remain
+-- A step of renaming: renaming the remaining fields after it gives the same record as before it, and fewer
+-- fields remain.
 abbrev pub GoesOn : (List ℕ → List ℕ) → ℕ → List (List ℕ × Tree) → ℕ → List (List ℕ × Tree) → Type 0
 GoesOn rename place before next after =
     (renamed_from rename (take next after) [] (drop next after) ≡ renamed_from rename (take place before) [] (drop place before))

@@ -1,4 +1,5 @@
--- What the verbs that count represent after some records, and that a closed `head` gives nothing more.
+-- The records that the counting verbs were given, by their state; and that a closed `head` gives nothing
+-- more.
 use Rattle.std.proofs.Common.{◌≡◌, ℕ, ◌+◌, ◌^◌, ◌<◌, ◌≤◌, min, nat_le, nat_lt, Bool, true, false, ◌&&◌, if◌then◌else◌, List, [], ◌∷◌, ◌++◌, length, Option, Some, None, cond, refl, ap, sym, ◌∙◌, subst, arith}
 use Rattle.std.specs.Prelude.{is_none}
 use Rattle.std.specs.Option.{unwrap_or}

@@ -10,8 +10,8 @@ use Rattle.verbs_fields.specs.Choosing.{is_empty}
 use Rattle.verbs_state.specs.declared.options.FillDown.{FillDown}
 use Rattle.verbs_state.specs.Streaming.{Fields, Streaming, last}
 
--- The value of a field that later records may get. With `-a` an empty value is none: the empty field is
--- filled itself, with a value from an earlier record.
+-- The value of a field in a record, which later records may get. With `-a` an empty value doesn't count: the
+-- empty field itself is filled with a value from an earlier record.
 abbrev pub carried : Bool → List ℕ → Fields → Option Tree
 carried blank name fields = elim (value_at name fields) [
   | Some value ↦ (if blank && is_empty value then None else Some value)

@@ -62,7 +62,7 @@ abbrev pub renamed_as : Rename → Fields → Fields
 renamed_as (rename.Names renamings) fields = renamed renamings.items fields
 renamed_as (rename.Patterns rules) fields = renamed_by_each rules.which (map (λ rule. (regex_pattern (arc_value rule.0), rule.1)) rules.pairs.items) fields
 
--- the number of times that a value says: an int that isn't negative itself, and any other value 0
+-- the number of times that a value gives: an int of 0 or more gives itself, and any other value gives 0
 abbrev pub count_in : Tree → ℕ
 count_in (int (pos n) spelling) = n
 count_in _ = 0
@@ -117,7 +117,7 @@ IsSound (verb.Decimate options) = IsSoundDecimate options
 IsSound (verb.Gap options) = IsSoundGap options
 IsSound _ = Unit {0}
 
--- the verb, by the records before
+-- the verb as a function of the records so far
 abbrev pub streaming_of : Spec → Streaming
 streaming_of (verb.Cat options) = cat options
 streaming_of (verb.Decimate options) = decimate options

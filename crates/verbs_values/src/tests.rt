@@ -1,4 +1,4 @@
-//! What the verbs make of records that are JSON texts, and values as JSON texts and back.
+//! The output of the verbs for records that are JSON texts, and values as JSON texts and back.
 use crate::{
     FillEmpty, Flatten, JsonParse, JsonStringify, Sec2Gmt, Sec2GmtDate, Unflatten, decoded_law,
     json_decode, json_encode,
