@@ -17,7 +17,7 @@ use mlr_value::{Bytes, Value};
 use std::alloc::Global;
 use verbs_base::{is_taken, string_of};
 
-/// The named fields, in the record's order, as of `cut -f`. It doesn't allocate.
+/// The named fields, in the record's order, for `cut -f`. It doesn't allocate.
 pub fn keep_named(names: &Names, from: Record) -> Record
     ensures { result ≡ kept names.now from }
 {
@@ -27,7 +27,7 @@ pub fn keep_named(names: &Names, from: Record) -> Record
     Record::of_fields(alloc, fields)
 }
 
-/// The fields that aren't named, as of `cut -x -f`. It doesn't allocate.
+/// The fields that aren't named, for `cut -x -f`. It doesn't allocate.
 pub fn drop_named(names: &Names, from: Record) -> Record
     ensures { result ≡ dropped names.now from }
 {
@@ -37,7 +37,7 @@ pub fn drop_named(names: &Names, from: Record) -> Record
     Record::of_fields(alloc, fields)
 }
 
-/// The named fields, in the order of the names, as of `cut -o -f`. A name that repeats counts once. It
+/// The named fields, in the order of the names, for `cut -o -f`. A name that repeats counts once. It
 /// allocates a list of fields.
 pub fn pick_named(names: &Names, from: Record) -> Result<Record, NoMemory>
     ensures { IfOk result (λ made. made ≡ picked names.now from) }
@@ -49,7 +49,7 @@ pub fn pick_named(names: &Names, from: Record) -> Result<Record, NoMemory>
     Ok(Record::of_fields(alloc, taken))
 }
 
-/// A field for each name, in the order of the names, as of `template`; a field that is missing in the record
+/// A field for each name, in the order of the names, for `template`; a field that is missing in the record
 /// has `text` as its value. A name that repeats counts once. It allocates a record.
 pub fn template(alloc: Global, names: &Names, text: &[u8], from: Record) -> Result<Record, NoMemory>
     ensures { IfOk result (λ made. made ≡ templated names.now text.now from) }
@@ -101,7 +101,7 @@ fn put_named(
     into.push(name, value)
 }
 
-/// The fields except the empty ones, or except the empty ones among the named, as of `sparsify`. It doesn't
+/// The fields except the empty ones, or except the empty ones among the named, for `sparsify`. It doesn't
 /// allocate.
 pub fn sparsify(names: Option<&Names>, from: Record) -> Record
     ensures { result ≡ sparse (option_map (λ names. names.now) names.entry) from }

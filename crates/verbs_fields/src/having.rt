@@ -6,7 +6,7 @@ use crate::choosing::is_empty;
 use mlr_event::Names;
 use mlr_record::Record;
 
-/// Whether the record has a field of each name, as of `having-fields --at-least`. It doesn't allocate.
+/// Whether the record has a field of each name, for `having-fields --at-least`. It doesn't allocate.
 pub fn has_all(names: &Names, from: &Record) -> bool
     ensures { result ≡ has_all names.now from.now }
 {
@@ -16,7 +16,7 @@ pub fn has_all(names: &Names, from: &Record) -> bool
         .all(|name| from.get(name.as_slice()).is_some())
 }
 
-/// Whether each field of the record has one of the names, as of `having-fields --at-most`. It doesn't
+/// Whether each field of the record has one of the names, for `having-fields --at-most`. It doesn't
 /// allocate.
 pub fn has_no_others(names: &Names, from: &Record) -> bool
     ensures { result ≡ has_no_others names.now from.now }
@@ -29,7 +29,7 @@ pub fn has_no_others(names: &Names, from: &Record) -> bool
     true
 }
 
-/// Whether the record has a field of each name, and none of these is empty, as of `having-fields
+/// Whether the record has a field of each name, and none of these is empty, for `having-fields
 /// --all-defined`. It doesn't allocate.
 pub fn all_defined(names: &Names, from: &Record) -> bool
     ensures { result ≡ all_defined names.now from.now }
@@ -40,7 +40,7 @@ pub fn all_defined(names: &Names, from: &Record) -> bool
         .all(|name| is_defined(from, name.as_slice()))
 }
 
-/// Whether the record has a field of one of the names that isn't empty, as of `having-fields --any-defined`.
+/// Whether the record has a field of one of the names that isn't empty, for `having-fields --any-defined`.
 /// It doesn't allocate.
 pub fn any_defined(names: &Names, from: &Record) -> bool
     ensures { result ≡ any_defined names.now from.now }

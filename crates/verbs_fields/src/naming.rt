@@ -50,7 +50,7 @@ pub fn are_distinct(names: &Names) -> bool
     true
 }
 
-/// The first fields with the given names in order, as of `label`. Names after the last field have no effect,
+/// The first fields with the given names in order, for `label`. Names after the last field have no effect,
 /// and a field after the last name is dropped if it has one of the names. It allocates a list of fields, and
 /// longer names.
 pub fn label(names: &Names, from: Record) -> Result<Record, NoMemory>
@@ -109,7 +109,7 @@ fn is_among(names: &[Bytes], name: &[u8]) -> bool
     names.iter().any(|other| name == other.as_slice())
 }
 
-/// The fields renamed, one renaming after another, as of `rename`: each field keeps its place, and another
+/// The fields renamed, one renaming after another, for `rename`: each field keeps its place, and another
 /// field with the new name is removed. It allocates for longer names.
 pub fn rename_each(renamings: &[Renaming], from: Record) -> Result<Record, NoMemory>
     ensures { IfOk result (λ made. made ≡ renamed renamings.now from) }
@@ -129,7 +129,7 @@ fn rename_in(renamings: &[Renaming], fields: &mut Record) -> Result<(), NoMemory
     Ok(())
 }
 
-/// The values, in turn a key and a value, as of `altkv`. An odd last value gets the number of its pair as its
+/// The values, in turn a key and a value, for `altkv`. An odd last value gets the number of its pair as its
 /// key, and a key that repeats keeps its place and takes the later value. It allocates a record.
 pub fn altkv(alloc: Global, from: Record) -> Result<Record, NoMemory>
     ensures { IfOk result (λ made. made ≡ alternated from) }

@@ -7,7 +7,7 @@ use mlr_event::Names;
 use mlr_record::Record;
 use mlr_spec::NoMemory;
 
-/// The named fields in the order of the names, then the others, as of `reorder -f`. A name that repeats
+/// The named fields in the order of the names, then the others, for `reorder -f`. A name that repeats
 /// counts once. It allocates a list of fields.
 pub fn reorder_first(names: &Names, from: Record) -> Result<Record, NoMemory>
     ensures { IfOk result (λ made. made ≡ named_first names.now from) }
@@ -20,7 +20,7 @@ pub fn reorder_first(names: &Names, from: Record) -> Result<Record, NoMemory>
     Ok(Record::of_fields(alloc, fields))
 }
 
-/// The fields that aren't named, then the named ones in the order of the names, as of `reorder -e -f`. A name
+/// The fields that aren't named, then the named ones in the order of the names, for `reorder -e -f`. A name
 /// that repeats counts once. It allocates a list of fields.
 pub fn reorder_last(names: &Names, from: Record) -> Result<Record, NoMemory>
     ensures { IfOk result (λ made. made ≡ named_last names.now from) }

@@ -11,7 +11,7 @@ use mlr_spec::NoMemory;
 use mlr_value::{ArrayValue, Bytes, MapValue, Value};
 use std::alloc::Global;
 
-/// The fields in byte order of their names, as of `sort-within-records`; with `deep`, which is `-r`, also the
+/// The fields in byte order of their names, for `sort-within-records`; with `deep`, which is `-r`, also the
 /// maps in them, at any depth in maps and arrays. It allocates only with `deep`.
 pub fn sort_within(alloc: Global, deep: bool, from: Record) -> Result<Record, NoMemory>
     ensures { IfOk result (λ made. made ≡ sorted_within deep from) }
