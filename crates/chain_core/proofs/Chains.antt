@@ -1,4 +1,4 @@
--- A chain of verbs, and one verb more.
+-- A chain of verbs, and one more verb.
 use Rattle.std.proofs.Common.{◌≡◌, ℕ, Bool, true, false, not, ◌&&◌, ◌||◌, List, [], ◌∷◌, ◌++◌, map, refl, ap, ap₂, sym, ◌∙◌, subst}
 use Rattle.std.specs.List.{list_all, list_any}
 use Rattle.std.specs.Prelude.{is_some}
@@ -26,13 +26,13 @@ quiet-last verbs verb = list_all-append (λ verb. not verb.effects) verbs (verb 
     and-true false = refl
 
 module _ {S : Type 0} (verb : S → Verb) (represents : S → List Event → Type 0) where
-  -- what verbs make of a list is a list
+  -- from a list that ends with its first end or fault, verbs make such a list
   pub chain-list : ((s : S) → KeepsOrder (verb s)) → (quiet : Bool) (stages : List (Stage S)) (events : List Event) → is_list events ≡ true → is_list (chain_from quiet (verbs_of verb stages) events) ≡ true
   chain-list order quiet [] events list = list
   chain-list order quiet (stage ∷ stages) events list =
       chain-list order (quiet && not (verb stage.gate.verb).effects) stages (made_at quiet (verb stage.gate.verb) events) (made-at-list quiet (verb stage.gate.verb) events (order stage.gate.verb) list)
 
-  -- a verb is closed exactly where its place says so
+  -- a verb was closed exactly if the definition says so
   pub shut-stopped : (quiet : Bool) (stages : List (Stage S)) (given : List Event) → StagesRepresent verb represents quiet given stages → list_any (λ stage. stage.gate.shut) stages ≡ stopped_from quiet (verbs_of verb stages) given
   shut-stopped quiet [] given at = refl
   shut-stopped quiet (stage ∷ stages) given at =

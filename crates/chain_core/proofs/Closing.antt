@@ -1,4 +1,4 @@
--- Of a list with an end or a fault a chain makes one with an end or a fault.
+-- A chain that is given an end or a fault makes an end or a fault.
 use Rattle.std.proofs.Common.{◌≡◌, Bool, true, false, not, cond, ◌&&◌, ◌||◌, List, [], ◌∷◌, ◌++◌, Option, Some, None, refl, ap, sym, ◌∙◌, inl, inr}
 use Rattle.std.specs.List.{list_any}
 use Rattle.std.proofs.lemmas.Bool.{cases_Bool}

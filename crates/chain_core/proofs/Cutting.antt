@@ -1,4 +1,4 @@
--- What a verb is given at its place, and one event more.
+-- The events that a verb is given at its place, with one more event.
 use Rattle.std.proofs.Common.{◌≡◌, Bool, true, false, not, cond, ◌&&◌, ◌||◌, List, [], ◌∷◌, ◌++◌, Option, Some, None, refl, ap, ap₂, sym, ◌∙◌, append_assoc, inl, inr}
 use Rattle.std.specs.Prelude.{is_some}
 use Rattle.std.specs.List.{find, list_any}
@@ -19,7 +19,7 @@ pub context-next : (ctx : Ctx) (events : List Event) (e : Event) → last_contex
 context-next ctx [] e = refl
 context-next ctx (x ∷ events) e = context-next (context_or ctx x) events e
 
--- an event that is no last one leaves a list open
+-- an event that is neither an end nor a fault leaves a list open
 pub open-next : (events : List Event) (e : Event) → is_open events ≡ true → is_open (events ++ e ∷ []) ≡ not (is_last e)
 open-next events e open_is =
     ap not (list_any-append is_last events (e ∷ []) ∙ ap (λ b. b || (is_last e || false)) (not-true (list_any is_last events) open_is) ∙ or-false (is_last e))
@@ -28,7 +28,7 @@ open-next events e open_is =
     or-false true = refl
     or-false false = refl
 
--- it was not closed
+-- a verb that was not closed is given all events
 pub cut-whole : (quiet : Bool) (verb : Verb) (events : List Event) → is_cut quiet verb events ≡ false → cut quiet verb events ≡ events
 cut-whole false verb events is = refl
 cut-whole true verb events is = go (closing verb events) is
@@ -37,7 +37,7 @@ cut-whole true verb events is = go (closing verb events) is
     go None is = refl
     go (Some prefix) is = absurd (let e : true ≡ false = is in cc)
 
--- it was closed, and no event changes that
+-- a verb that was closed stays so, and is given no more events
 pub cut-again : (quiet : Bool) (verb : Verb) (events : List Event) (e : Event) → is_cut quiet verb events ≡ true
     → (is_cut quiet verb (events ++ e ∷ []) ≡ true) × (cut quiet verb (events ++ e ∷ []) ≡ cut quiet verb events)
 cut-again false verb events e is = absurd (let e : false ≡ true = is in cc)
@@ -49,7 +49,7 @@ cut-again true verb events e is = (closed, cut-closed verb events (e ∷ []) is)
       | inr late ↦ absurd (let e : false ≡ true = sym (ap is_some (closing-least verb events ∙ late.0)) ∙ is in cc)
     ]
 
--- what closes a verb that was not closed is the whole list
+-- if one more event closes a verb that was not closed, the whole list closes it
 closing-next : (verb : Verb) (events : List Event) (e : Event) → is_some (closing verb events) ≡ false
     → closing verb (events ++ e ∷ []) ≡ cond (closes verb (events ++ e ∷ [])) (Some (events ++ e ∷ [])) None
 closing-next verb events e is = elim (least-split (closes verb) [] events (e ∷ [])) [
@@ -80,7 +80,7 @@ closing-next verb events e is = elim (least-split (closes verb) [] events (e ∷
     last true = refl
     last false = refl
 
--- it is not closed by one event more
+-- one more event doesn't close the verb
 pub cut-open : (quiet : Bool) (verb : Verb) (events : List Event) (e : Event) → is_cut quiet verb events ≡ false → is_open events ≡ true → (quiet && (not (is_last e) && verb.closed (events ++ e ∷ []))) ≡ false
     → (is_cut quiet verb (events ++ e ∷ []) ≡ false) × (cut quiet verb (events ++ e ∷ []) ≡ events ++ e ∷ [])
 cut-open quiet verb events e is open_is open_still = let still = kept quiet is open_still in (still, cut-whole quiet verb (events ++ e ∷ []) still)
@@ -91,7 +91,7 @@ cut-open quiet verb events e is open_is open_still = let still = kept quiet is o
         ap is_some (closing-next verb events e is)
         ∙ ap (λ b. is_some (cond b (Some (events ++ e ∷ [])) None)) (ap (λ b. b && verb.closed (events ++ e ∷ [])) (open-next events e open_is) ∙ open_still)
 
--- it is closed by one event more
+-- one more event closes the verb
 pub cut-now : (verb : Verb) (events : List Event) (e : Event) → is_cut true verb events ≡ false → is_open events ≡ true → is_last e ≡ false → verb.closed (events ++ e ∷ []) ≡ true
     → (is_cut true verb (events ++ e ∷ []) ≡ true) × (cut true verb (events ++ e ∷ []) ≡ (events ++ e ∷ []) ++ event.End (last_context zero_context (events ++ e ∷ [])) ∷ [])
 cut-now verb events e is open_is inner closed =
@@ -99,7 +99,7 @@ cut-now verb events e is open_is inner closed =
     let some : closing verb (events ++ e ∷ []) ≡ Some (events ++ e ∷ []) = closing-next verb events e is ∙ ap (λ b. cond b (Some (events ++ e ∷ [])) None) now in
     (ap is_some some, ap (λ o. ended o (events ++ e ∷ [])) some)
 
--- what is added twice is added together
+-- two additions make one
 pub adds-both : {A : Type 0} (old middle new before between after : List A) → Adds old middle before between → Adds middle new between after → Adds old new before after
 adds-both old middle new before between after first second = (
   first.0 ++ second.0,
@@ -113,7 +113,7 @@ adds-none old before after same = ([], same ∙ sym (append-nil before), sym (ap
 some-injective : (x y : List Event) → Some x ≡ Some y → x ≡ y
 some-injective x y is = cc
 
--- what closes a verb is open
+-- the prefix that closes a verb has no end and no fault
 pub closing-open : (verb : Verb) (events prefix : List Event) → closing verb events ≡ Some prefix → is_open prefix ≡ true
 closing-open verb events prefix is = (and_parts (is_open prefix) (verb.closed prefix) (found-passes (prefixes events) is)).0
   where

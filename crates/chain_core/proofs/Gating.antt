@@ -1,4 +1,4 @@
--- A verb at its place takes one event more.
+-- A verb at its place takes one more event.
 use Rattle.std.proofs.Common.{◌≡◌, Bool, true, false, not, ◌&&◌, List, [], ◌∷◌, ◌++◌, refl, ap, sym, ◌∙◌, subst}
 use Rattle.std.proofs.lemmas.Bool.{and_parts, not-true}
 use Rattle.mlr_event.specs.Adding.{Adds}
@@ -12,7 +12,7 @@ use Rattle.chain_core.specs.Represents.{GateRepresents, is_cut, made_at}
 use Rattle.chain_core.proofs.Cutting.{adds-both, adds-none, context-next, cut-again, cut-now, cut-open, cut-whole, open-next}
 
 module _ {S : Type 0} (verb : S → Verb) (represents : S → List Event → Type 0) where
-  -- closed, it takes nothing
+  -- a closed verb takes nothing
   pub shut-represents : (gate : Gate S) (given : List Event) (e : Event) → gate.shut ≡ true → GateRepresents verb represents given gate → GateRepresents verb represents (given ++ e ∷ []) gate
   shut-represents gate given e is at =
       let again = cut-again gate.quiet (verb gate.verb) given e (sym at.shut ∙ is) in
@@ -27,14 +27,14 @@ module _ {S : Type 0} (verb : S → Verb) (represents : S → List Event → Typ
   shut-adds gate given e out is at =
       adds-none out (made_at gate.quiet (verb gate.verb) given) (made_at gate.quiet (verb gate.verb) (given ++ e ∷ [])) (ap (made (verb gate.verb)) (cut-again gate.quiet (verb gate.verb) given e (sym at.shut ∙ is)).1)
 
-  -- not closed, it was given the whole list
+  -- a verb that isn't closed was given the whole list
   pub open-inner : (gate : Gate S) (given : List Event) → gate.shut ≡ false → GateRepresents verb represents given gate → represents gate.verb given
   open-inner gate given is at = subst (represents gate.verb) (cut-whole gate.quiet (verb gate.verb) given (sym at.shut ∙ is)) at.inner
 
   pub context-is : (gate : Gate S) (given : List Event) (e : Event) → gate.shut ≡ false → GateRepresents verb represents given gate → context_or gate.at e ≡ last_context zero_context (given ++ e ∷ [])
   context-is gate given e is at = ap (λ ctx. context_or ctx e) (at.at is) ∙ sym (context-next zero_context given e)
 
-  -- it takes an event, and stays open
+  -- it takes an event, and isn't closed by it
   pub open-represents : (gate : Gate S) (given : List Event) (e : Event) (after : S) (ctx : Ctx) → gate.shut ≡ false → GateRepresents verb represents given gate → is_open given ≡ true
       → verb after ≡ verb gate.verb → represents after (given ++ e ∷ []) → ctx ≡ context_or gate.at e → (gate.quiet && (not (is_last e) && (verb after).closed (given ++ e ∷ []))) ≡ false
       → GateRepresents verb represents (given ++ e ∷ []) (record { verb = after; quiet = gate.quiet; at = ctx; shut = gate.shut })
@@ -54,7 +54,7 @@ module _ {S : Type 0} (verb : S → Verb) (represents : S → List Event → Typ
       let next = cut-open gate.quiet (verb gate.verb) given e (sym at.shut ∙ is) open_is (ap (λ v. gate.quiet && (not (is_last e) && v.closed (given ++ e ∷ []))) (sym same) ∙ still) in
       (adds.0, ap (made (verb gate.verb)) next.1 ∙ adds.1 ∙ ap (λ t. made (verb gate.verb) t ++ adds.0) (sym before), adds.2)
 
-  -- it takes an event, is closed by it, and gets its end
+  -- it takes an event, is closed by it, and is given its end
   parts-of : (quiet : Bool) (last closed : Bool) → (quiet && (not last && closed)) ≡ true → (quiet ≡ true) × (last ≡ false) × (closed ≡ true)
   parts-of quiet last closed is = let a = and_parts quiet (not last && closed) is in let b = and_parts (not last) closed a.1 in (a.0, not-true last b.0, b.1)
 

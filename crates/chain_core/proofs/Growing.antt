@@ -1,4 +1,4 @@
--- A chain makes more of a longer list, and nothing more once it is stopped.
+-- The output of a chain grows with its list of events, and no longer once the chain is stopped.
 use Rattle.std.proofs.Common.{◌≡◌, Bool, true, false, not, cond, ◌&&◌, ◌||◌, List, [], ◌∷◌, ◌++◌, map, Option, Some, None, refl, ap, sym, ◌∙◌, append_assoc, ◌⊎◌, inl, inr}
 use Rattle.std.specs.Prelude.{is_some}
 use Rattle.std.specs.List.{find}
@@ -12,7 +12,7 @@ use Rattle.mlr_event.specs.Verb.{Verb, is_open, made}
 use Rattle.mlr_event.proofs.Making.{made-grows}
 use Rattle.chain_core.specs.Chain.{chain_from, closing, cut, prefixes, last_context, stopped_from, zero_context}
 
--- a list begins another
+-- a list is a prefix of another
 abbrev pub Begins : List Event → List Event → Type 0
 Begins prefix events = (more : List Event) × (events ≡ prefix ++ more)
 
@@ -20,7 +20,7 @@ some-map : {X B C : Type 0} (f : B → C) (g : X → B) (o : Option X) → optio
 some-map f g None = refl
 some-map f g (Some x) = refl
 
--- the least front that passes a test
+-- the shortest prefix that passes a test
 module _ {A : Type 0} where
   abbrev pub least : (List A → Bool) → List A → List A → Option (List A)
   least test before [] = cond (test before) (Some []) None
@@ -33,7 +33,7 @@ module _ {A : Type 0} where
     | inr not_is ↦ ap (λ b. cond b (Some (f x)) (find test (map f xs))) not_is ∙ find-map test f xs ∙ sym (ap (λ b. option_map f (cond b (Some x) (find (λ x. test (f x)) xs))) not_is)
   ]
 
-  -- the first front that passes is the least
+  -- the first prefix that passes is the shortest
   found : (test : List A → Bool) (before xs : List A) → find (λ prefix. test (before ++ prefix)) (prefixes xs) ≡ least test before xs
   found test before [] = ap (λ b. cond (test b) (Some []) None) (append-nil before)
   found test before (x ∷ xs) =
@@ -54,7 +54,8 @@ module _ {A : Type 0} where
   least-later : (test : List A → Bool) (before : List A) (x : A) (xs : List A) → test before ≡ false → least test before (x ∷ xs) ≡ option_map (λ prefix. x ∷ prefix) (least test (before ++ x ∷ []) xs)
   least-later test before x xs not_is = ap (λ b. cond b (Some []) (option_map (λ prefix. x ∷ prefix) (least test (before ++ x ∷ []) xs))) not_is
 
-  -- a longer list: what passes in the shorter one passes there, and else the shorter one begins what passes
+  -- In a longer list either the same prefix passes as in the shorter one, or, if none passes there, the
+  -- prefix that passes begins with the whole shorter list.
   abbrev IsEarly : (test : List A → Bool) (before xs ys : List A) → Type 0
   IsEarly test before xs ys = (prefix : List A) × (least test before xs ≡ Some prefix) × (least test before (xs ++ ys) ≡ Some prefix)
 
@@ -96,7 +97,7 @@ closing-least verb events = found (closes verb) [] events
 abbrev pub ended : Option (List Event) → List Event → List Event
 ended o events = elim o [ Some prefix ↦ prefix ++ event.End (last_context zero_context prefix) ∷ [] | None ↦ events ]
 
--- the end goes behind what closes the verb, or else more comes
+-- more events are given to a verb, unless it was closed and given its end
 cut-more : (verb : Verb) (events following : List Event) → Begins (cut true verb events) (cut true verb (events ++ following))
 cut-more verb events following = elim (least-split (closes verb) [] events following) [
   | inl early ↦ ([], ap (λ o. ended o (events ++ following)) (closing-least verb (events ++ following) ∙ early.2) ∙ sym (append-nil (ended (Some early.0) events)) ∙ ap (λ o. ended o events ++ []) (sym (closing-least verb events ∙ early.1)))

@@ -1,4 +1,4 @@
--- Events pass through verbs one behind the other.
+-- Events pass through verbs, one verb after another.
 use Rattle.std.proofs.Common.{◌≡◌, ℕ, zero, suc, ◌+◌, ◌<◌, Bool, true, false, not, ◌&&◌, ◌||◌, List, [], ◌∷◌, ◌++◌, map, length, Option, Some, None, refl, ap, sym, ◌∙◌, subst, append_assoc, arith, slice_index_or, slice_set, inl, inr}
 use Rattle.std.proofs.lemmas.List.{append-nil, length-append, map-append}
 use Rattle.std.proofs.Math.Seq.{get_or-append_seam, set-append_seam}
@@ -12,7 +12,7 @@ use Rattle.chain_core.specs.declared.stage.Stage.{Stage}
 use Rattle.chain_core.specs.Represents.{GateRepresents, IsSameGate, StagesRepresent, made_at, verbs_of}
 use Rattle.chain_core.proofs.Cutting.{closing-open}
 
--- whether the place behind verbs is quiet
+-- whether the place after some verbs is quiet
 abbrev pub quiet_after : Bool → List Verb → Bool
 quiet_after quiet [] = quiet
 quiet_after quiet (verb ∷ verbs) = quiet_after (quiet && not verb.effects) verbs
@@ -25,7 +25,7 @@ following-append : (quiet : Bool) (verbs more : List Verb) → quiet_after quiet
 following-append quiet [] more = refl
 following-append quiet (verb ∷ verbs) more = following-append (quiet && not verb.effects) verbs more
 
--- what a verb is given is a list
+-- a verb is given a list that ends with its first end or fault
 cut-list : (quiet : Bool) (verb : Verb) (events : List Event) → is_list events ≡ true → is_list (cut quiet verb events) ≡ true
 cut-list false verb events list = list
 cut-list true verb events list = go (closing verb events) refl
@@ -45,7 +45,7 @@ module _ {S : Type 0} (verb : S → Verb) (represents : S → List Event → Typ
   represent-append quiet given (s ∷ done) stage all is at empty =
       (all.0, all.1, all.2, represent-append (quiet && not (verb s.gate.verb).effects) (made_at quiet (verb s.gate.verb) given) done stage all.3 is at empty)
 
-  -- the first of the verbs have taken the events, and those behind them are to take what came out
+  -- The first verbs have taken the events, and the remaining ones are still to take the events that came out.
   pub record Through (first done rest : List (Stage S)) (events out : List Event) (quiet : Bool) (given : List Event) : Type 0 where
     pub at : StagesRepresent verb represents quiet (given ++ events) done
     pub made : chain_from quiet (verbs_of verb first) (given ++ events) ≡ chain_from quiet (verbs_of verb first) given ++ out
@@ -74,7 +74,7 @@ module _ {S : Type 0} (verb : S → Verb) (represents : S → List Event → Typ
     through = λ quiet given at list. record { at = tt; made = refl; list = list; later = at };
   }
 
-  -- a stage is to come
+  -- the next stage, which is still to take the events
   pub record Coming (initial : List (Stage S)) (events : List Event) (stages : List (Stage S)) (out : List Event) (place : ℕ) : Type 0 where
     pub first : List (Stage S)
     pub done : List (Stage S)
@@ -113,7 +113,7 @@ module _ {S : Type 0} (verb : S → Verb) (represents : S → List Event → Typ
       ∙ ap (λ n. slice_index_or (next.done ++ next.stage ∷ next.rest) n d) (sym next.count)
       ∙ get_or-append_seam next.done next.stage next.rest d
 
-  -- what it asks of the stage that is to come
+  -- the requirements of the next stage
   pub next-represents : (initial : List (Stage S)) (events : List Event) (stages : List (Stage S)) (out : List Event) (place : ℕ) (next : Coming initial events stages out place) (quiet : Bool) (given : List Event)
       → StagesRepresent verb represents quiet given initial → is_list (given ++ events) ≡ true
       → GateRepresents verb represents (chain_from quiet (verbs_of verb next.first) given) next.stage.gate × (is_list (chain_from quiet (verbs_of verb next.first) given ++ out) ≡ true) × (next.stage.made ≡ [])
@@ -122,7 +122,7 @@ module _ {S : Type 0} (verb : S → Verb) (represents : S → List Event → Typ
   pub verbs-last : (xs : List (Stage S)) (x : Stage S) → verbs_of verb (xs ++ x ∷ []) ≡ verbs_of verb xs ++ verb x.gate.verb ∷ []
   verbs-last xs x = map-append (λ stage. verb stage.gate.verb) xs (x ∷ [])
 
-  -- it has taken them
+  -- the next stage has taken the events
   pub pass-next : ((s : S) → KeepsOrder (verb s)) → (initial : List (Stage S)) (events : List Event) (stages : List (Stage S)) (out : List Event) (place : ℕ) (next : Coming initial events stages out place) (then_ : Stage S) (out_then : List Event)
       → IsSameGate verb then_.gate next.stage.gate → then_.made ≡ []
       → ((given : List Event) → GateRepresents verb represents given next.stage.gate → is_list (given ++ out) ≡ true → GateRepresents verb represents (given ++ out) then_.gate)
@@ -165,7 +165,7 @@ module _ {S : Type 0} (verb : S → Verb) (represents : S → List Event → Typ
                 (subst (λ t. StagesRepresent verb represents (q && not v.effects) t next.rest) (sym (whole given)) through.later.3);
           }
 
-  -- all have taken them
+  -- all stages have taken the events
   pub rest-none : (initial : List (Stage S)) (events : List Event) (stages : List (Stage S)) (out : List Event) (place : ℕ) (now : InPass initial events stages out place) → length stages ≡ length initial → place ≡ length initial → now.rest ≡ []
   rest-none initial events stages out place now = go now.rest refl
     where

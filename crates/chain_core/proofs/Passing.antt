@@ -1,4 +1,4 @@
--- A verb at its place takes all events of a list, of which those that are left stand in the turned order.
+-- A verb at its place takes all events of a list. The remaining events are in reverse order.
 use Rattle.std.proofs.Common.{◌≡◌, true, List, [], ◌∷◌, ◌++◌, reverse, refl, ap, sym, ◌∙◌, subst, append_assoc}
 use Rattle.std.proofs.lemmas.List.{append-nil, reverse-append}
 use Rattle.mlr_event.specs.Adding.{Adds}
@@ -56,7 +56,7 @@ module _ {S : Type 0} (verb : S → Verb) (represents : S → List Event → Typ
           (subst (λ t. Adds out_now out_then (MadeBy gate (given ++ before.passed)) (MadeBy gate t)) (append_assoc given before.passed (e ∷ [])) of_gate);
     }
 
-  -- nothing is left
+  -- no events remain
   pub all-at : (gate : Gate S) (events out : List Event) (now : Gate S) (out_now : List Event) → Passed gate events out now [] out_now → (given : List Event) → GateRepresents verb represents given gate → is_list (given ++ events) ≡ true → GateRepresents verb represents (given ++ events) now
   all-at gate events out now out_now done given stood list = subst (λ t. GateRepresents verb represents (given ++ t) now) (sym (done.all ∙ append-nil done.passed)) (done.at given stood list)
 

@@ -1,4 +1,4 @@
--- What a chain of verbs makes of a list of events.
+-- The output of a chain of verbs for a list of events.
 use Rattle.std.specs.Prelude.{◌≡◌, ℕ, Bool, true, false, not, ◌&&◌, ◌||◌, if◌then◌else◌, List, [], ◌∷◌, ◌++◌, map, Option, Some, None, is_some}
 use Rattle.std.specs.List.{find}
 use Rattle.mlr_event.specs.declared.event.Ctx.{Ctx}
@@ -6,7 +6,7 @@ use Rattle.mlr_event.specs.declared.event.Event.{Event}
 use Rattle.mlr_event.specs.declared.event.Event.TheVariants as event
 use Rattle.mlr_event.specs.Verb.{Verb, is_open, made}
 
--- all fronts of a list, the empty one first and the whole list last
+-- all prefixes of a list, from the empty one to the whole list
 abbrev pub prefixes : {A : Type 0} → List A → List (List A)
 prefixes [] = [] ∷ []
 prefixes (x ∷ xs) = [] ∷ map (λ prefix. x ∷ prefix) (prefixes xs)
@@ -14,7 +14,7 @@ prefixes (x ∷ xs) = [] ∷ map (λ prefix. x ∷ prefix) (prefixes xs)
 abbrev pub zero_context : Ctx
 zero_context = record { nr = 0; fnr = 0; filenum = 0 }
 
--- the context of an event, or another where it has none
+-- the context of an event, or `other` for an event without one
 abbrev pub context_or : Ctx → Event → Ctx
 context_or other (event.Rec fields ctx) = ctx
 context_or other (event.Text text) = other
@@ -22,16 +22,17 @@ context_or other (event.Out target piece) = other
 context_or other (event.End ctx) = ctx
 context_or other (event.Fault fault) = other
 
--- the context of the last event that has one, or the zero context
+-- the context of the last event that has one, or `ctx`
 abbrev pub last_context : Ctx → List Event → Ctx
 last_context ctx [] = ctx
 last_context ctx (e ∷ events) = last_context (context_or ctx e) events
 
--- the least front of a list that closes a verb, if one does before the list ends
+-- the shortest prefix of a list that closes a verb before an end or a fault, if there is one
 abbrev pub closing : Verb → List Event → Option (List Event)
 closing verb events = find (λ prefix. is_open prefix && verb.closed prefix) (prefixes events)
 
--- what a verb is given: at a quiet place, no more than closes it, and then the end
+-- The events that a verb is given. At a quiet place these are only the events that close the verb, and then
+-- an end.
 abbrev pub cut : Bool → Verb → List Event → List Event
 cut false verb events = events
 cut true verb events = elim (closing verb events) [
@@ -39,7 +40,8 @@ cut true verb events = elim (closing verb events) [
   | None ↦ events
 ]
 
--- what verbs make of a list one behind the other; a place is quiet if no verb before it has effects
+-- The output of the last verb for a list of events, where each verb takes the output of the verb before it. A
+-- place is quiet if no verb before it has effects.
 abbrev pub chain_from : Bool → List Verb → List Event → List Event
 chain_from quiet [] events = events
 chain_from quiet (verb ∷ verbs) events = chain_from (quiet && not verb.effects) verbs (made verb (cut quiet verb events))

@@ -1,3 +1,4 @@
+//! A chain of verbs, which takes events and gives events.
 ghost use Rattle.std.specs.Prelude.{◌≡◌, ◌++◌, ◌∷◌, [], List, true, IfOk, OnOk};
 ghost use Rattle.std.specs.List.{list_any};
 ghost use Rattle.mlr_event.specs.Adding.{Adds};
@@ -11,17 +12,18 @@ use mlr_event::{Event, Events, Step};
 use mlr_spec::NoMemory;
 use std::alloc::Global;
 
-/// Verbs one behind the other, of any kind. It stands for the list of events that it was given.
+/// Verbs of any kind, each of which takes the events that the verb before it gives. A chain represents the
+/// list of events that it was given.
 pub struct Chain<S> {
     alloc: Global,
     stages: Vec<Stage<S>>,
-    /// No verb of it has effects.
+    /// Whether no verb of the chain has effects.
     quiet: bool,
-    /// The events at hand.
+    /// The events that are passing through the verbs.
     room: Events,
 }
 
-// Written out, so that the crates above call it and don't go into the fields.
+// Written by hand, so that the crates above call it instead of dropping the fields themselves.
 impl<S: Drop> Drop for Chain<S> {
     fn drop(self) {
         let Chain {
@@ -36,7 +38,7 @@ impl<S: Drop> Drop for Chain<S> {
 }
 
 impl<S: Step + Drop> Chain<S> {
-    /// No verbs: each event comes out as it is. It takes no memory.
+    /// A chain without verbs, from which each event comes out unchanged. It doesn't allocate.
     pub fn new(alloc: Global) -> Self
         ensures verbs { verbs_in S.verb result ≡ [] }
         ensures represents { Represents S.verb S.represents [] result }
@@ -49,8 +51,8 @@ impl<S: Step + Drop> Chain<S> {
         }
     }
 
-    /// Puts a verb last that has begun, before the first event. In `made` stands what the verbs before it have made so
-    /// far, and it becomes what all of them make: what the verb gave when it began is `first`.
+    /// Adds a verb at the end, before the first event. `first` is what the verb gave when it began. `made` is
+    /// the output of the verbs before it so far, and becomes the output of all the verbs.
     pub fn push(&mut self, verb: S, first: Events, made: &mut Events) -> Result<(), NoMemory>
         requires chain { Represents S.verb S.represents [] self.old }
         requires verb { S.represents verb [] }
@@ -68,7 +70,8 @@ impl<S: Step + Drop> Chain<S> {
         Ok(())
     }
 
-    /// Takes an event, and puts behind `out` what the verbs make of it. No end and no fault may have come before.
+    /// Takes an event, and appends the output of the last verb to `out`. No end and no fault may have been
+    /// taken before.
     pub fn step(&mut self, event: Event, out: &mut Events) -> Result<(), NoMemory>
         requires { (given : List SpecEvent) × Represents S.verb S.represents given self.old
             × (is_open given ≡ true) }
@@ -87,7 +90,7 @@ impl<S: Step + Drop> Chain<S> {
         Ok(())
     }
 
-    /// Takes all events of a list, and leaves in it what the verbs make of them.
+    /// Takes all events of a list, and replaces them by the output of the last verb.
     pub fn take_all(&mut self, events: &mut Events) -> Result<(), NoMemory>
         requires { (given : List SpecEvent) × Represents S.verb S.represents given self.old
             × (is_list (given ++ events.old) ≡ true) }
@@ -104,8 +107,8 @@ impl<S: Step + Drop> Chain<S> {
         Ok(())
     }
 
-    /// Whether a verb is closed to which none before it with effects hands on. Then more events give nothing. It takes no
-    /// memory.
+    /// Whether a verb is closed, and no verb before it has effects. Then more events give nothing. It doesn't
+    /// allocate.
     pub fn stopped(&self) -> bool
         ensures { (given : List SpecEvent) → Represents S.verb S.represents given self.now
             → result ≡ stopped (verbs_in S.verb self.now) given }
@@ -114,7 +117,7 @@ impl<S: Step + Drop> Chain<S> {
     }
 }
 
-/// Whether a verb was closed.
+/// Whether a verb is closed at a quiet place.
 fn any_shut<S: Step + Drop>(stages: &[Stage<S>]) -> bool
     ensures { result ≡ list_any (λ stage. stage.gate.shut) stages.now }
 {

@@ -1,4 +1,5 @@
-//! Chains of the model verbs, of which one passes each event at once and one turns the records round at the end.
+//! Chains of the model verbs, one of which passes each event at once, and one of which reverses the records
+//! at the end.
 ghost use Rattle.std.specs.Prelude.{◌≡◌, [], true, IfOk};
 ghost use Rattle.mlr_event.specs.Verb.{is_list};
 
@@ -19,7 +20,7 @@ fn at(nr: u64) -> Ctx {
     }
 }
 
-/// The numbers of the records that came out, 0 for a text and 9 for an end.
+/// The numbers of the records that came out, with 0 for a text and 9 for an end.
 fn numbers(out: &Events) -> [u64; 4] {
     let mut shown = [7, 7, 7, 7];
     for place in 0..4 {

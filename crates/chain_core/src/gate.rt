@@ -1,3 +1,4 @@
+//! A verb at its place in a chain, which gets its end early if it is closed.
 ghost use Rattle.std.specs.Prelude.{◌≡◌, ◌++◌, ◌∷◌, ◌&&◌, [], List, true, not, IfOk, OnOk};
 ghost use Rattle.mlr_event.specs.Adding.{Adds};
 ghost use Rattle.mlr_event.specs.declared.event.Event.{Event as SpecEvent};
@@ -8,21 +9,22 @@ ghost use Rattle.chain_core.specs.Represents.{GateRepresents, IsSameGate, made_a
 use mlr_event::{Ctx, Event, Events, Step};
 use mlr_spec::NoMemory;
 
-/// A verb at its place in a chain. At a quiet place it is given no more than closes it, and then the end.
+/// A verb at its place in a chain. At a quiet place it is given only the events until it is closed, and then
+/// the end.
 #[derive(Drop)]
 pub struct Gate<S> {
     verb: S,
-    /// No verb before it has effects.
+    /// Whether no verb before it has effects.
     quiet: bool,
     /// The context of the last event that has one.
     at: Ctx,
-    /// It was closed, and has got its end.
+    /// Whether it was closed, and has been given its end.
     shut: bool,
 }
 
 impl<S: Step + Drop> Gate<S> {
-    /// A verb that has begun, at its place. What it gave when it began is `made`, and what the end gives comes behind
-    /// that where the verb is closed from the first.
+    /// A verb that has begun, at its place. `made` is what it gave when it began; if the verb is closed
+    /// already, what it gives for the end is appended.
     pub fn begun(verb: S, quiet: bool, made: &mut Events) -> Result<Self, NoMemory>
         requires verb { S.represents verb [] }
         requires first { made.old ≡ (S.verb verb).first }
@@ -49,14 +51,14 @@ impl<S: Step + Drop> Gate<S> {
         })
     }
 
-    /// Whether it was closed. It takes no memory.
+    /// Whether it was closed. It doesn't allocate.
     pub fn is_shut(&self) -> bool
         ensures { result ≡ self.now.shut }
     {
         self.shut
     }
 
-    /// Takes an event, and puts what the verb makes of it behind `out`.
+    /// Takes an event, and appends the verb's output to `out`.
     pub fn take(&mut self, event: Event, out: &mut Events) -> Result<(), NoMemory>
         requires { (given : List SpecEvent) × GateRepresents S.verb S.represents given self.old
             × (is_open given ≡ true) }
@@ -82,7 +84,7 @@ impl<S: Step + Drop> Gate<S> {
         Ok(())
     }
 
-    /// Takes all events of a list in turn, and leaves none in it.
+    /// Takes all events of a list in turn, and leaves the list empty.
     pub fn take_all(&mut self, events: &mut Events, out: &mut Events) -> Result<(), NoMemory>
         requires { (given : List SpecEvent) × GateRepresents S.verb S.represents given self.old
             × (is_list (given ++ events.old) ≡ true) }
@@ -105,7 +107,7 @@ impl<S: Step + Drop> Gate<S> {
         Ok(())
     }
 
-    /// Whether the verb was closed just now, at a quiet place and before the list ends.
+    /// Whether the last event closed the verb, at a quiet place and before the list ends.
     fn is_closed(&self, ends: bool) -> bool
         ensures { (given : List SpecEvent) → S.represents self.now.verb given
             → result ≡ (self.now.quiet && (not ends && (S.verb self.now.verb).closed given)) }
@@ -121,7 +123,7 @@ fn is_last(event: &Event) -> bool
     matches!(event, Event::End(_) | Event::Fault(_))
 }
 
-/// The context of an event, or another where it has none.
+/// The context of an event, or `other` for an event without one.
 fn context_or(other: Ctx, event: &Event) -> Ctx
     ensures { result ≡ context_or other event.now }
 {

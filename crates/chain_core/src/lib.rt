@@ -1,4 +1,4 @@
-//! A chain of verbs: what it makes of events, and what a run over it does.
+//! A chain of verbs: its output for a list of events, and the code that runs it.
 #![tactic(auto)]
 
 mod chain;

@@ -1,3 +1,4 @@
+//! A verb of a chain, with a list for its output.
 ghost use Rattle.std.specs.Prelude.{◌≡◌, ◌++◌, [], Bool, List, true, IfOk, OnOk};
 ghost use Rattle.mlr_event.specs.Adding.{Adds};
 ghost use Rattle.mlr_event.specs.declared.event.Event.{Event as SpecEvent};
@@ -11,7 +12,7 @@ use mlr_spec::NoMemory;
 use std::alloc::Global;
 use std::mem::swap;
 
-/// A verb of a chain, with room for what it makes of the events at hand.
+/// A verb of a chain, with a list for its output.
 #[derive(Drop)]
 pub struct Stage<S> {
     gate: Gate<S>,
@@ -19,8 +20,8 @@ pub struct Stage<S> {
 }
 
 impl<S: Step + Drop> Stage<S> {
-    /// Takes all events of a list, and leaves in it what the verb makes of them. The rooms of the two change places, so
-    /// that none is needed for events that come later.
+    /// Takes all events of a list, and replaces them by the verb's output. The two lists swap their memory,
+    /// so that later events need no new memory.
     fn take(&mut self, events: &mut Events) -> Result<(), NoMemory>
         requires represents { (given : List SpecEvent)
             × GateRepresents S.verb S.represents given self.old.gate
@@ -43,7 +44,7 @@ impl<S: Step + Drop> Stage<S> {
         Ok(())
     }
 
-    /// Whether the verb was closed. It takes no memory.
+    /// Whether the verb was closed. It doesn't allocate.
     pub fn is_shut(&self) -> bool
         ensures { result ≡ self.now.gate.shut }
     {
@@ -51,8 +52,8 @@ impl<S: Step + Drop> Stage<S> {
     }
 }
 
-/// A verb that has begun, at its place. It takes all events of `made`, in which it leaves what it has made from its
-/// beginning on: what it gave when it began is `first`.
+/// A verb that has begun, at its place. `first` is what it gave when it began. It takes all events of `made`,
+/// and replaces them by `first` and its output for them.
 pub fn begun<S: Step + Drop>(
     alloc: Global,
     verb: S,
@@ -80,7 +81,7 @@ pub fn begun<S: Step + Drop>(
     })
 }
 
-/// Takes all events of a list through verbs, one behind the other, and leaves in it what comes out behind the last.
+/// Passes all events of a list through the verbs in turn, and replaces them by the output of the last verb.
 pub fn pass<S: Step + Drop>(stages: &mut [Stage<S>], events: &mut Events) -> Result<(), NoMemory>
     requires { (quiet : Bool) × (given : List SpecEvent)
         × StagesRepresent S.verb S.represents quiet given stages.old

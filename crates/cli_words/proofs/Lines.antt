@@ -1,4 +1,4 @@
--- A line that the walk accepts is one of the grammar.
+-- A line that the parser accepts is one of the grammar.
 use Rattle.std.proofs.Common.{◌≡◌, ℕ, ◌+◌, true, List, [], ◌∷◌, ◌++◌, Option, Some, None, refl, ap, sym, ◌∙◌, arith}
 use Rattle.std.specs.Prelude.{drop, length}
 use Rattle.std.proofs.Math.Seq.{drop-append_seam}
@@ -15,7 +15,7 @@ use Rattle.cli_words.specs.Verbs.{first_verb}
 use Rattle.cli_words.specs.Walk.{asked, asked_from, after_verb, line_from, walked}
 use Rattle.cli_words.proofs.Rests.{found, line_by, refused-not, verbs_by}
 
--- a command line that begins behind so many words, with these formats so far
+-- a command line whose remaining words follow `n` words, with these formats so far
 record Begun (n : ℕ) (formats : Formats) (words : List (List ℕ)) (verbs : List Asked) (command : Command) : Type 0 where
   flags : List (List ℕ)
   first : List (List ℕ)
@@ -32,7 +32,7 @@ record Begun (n : ℕ) (formats : Formats) (words : List (List ℕ)) (verbs : Li
   are : are_names names ≡ true
 
 module _ (n : ℕ) (formats : Formats) (word : List ℕ) (words : List (List ℕ)) (command : Command) where
-  -- behind a flag
+  -- after a flag
   begun-flag : (next : Formats) (verbs : List Asked) → flagged word formats ≡ Some next → Begun (n + 1) next words verbs command → Begun n formats (word ∷ words) verbs command
   begun-flag next verbs is b = record {
     flags = word ∷ b.flags;
@@ -50,7 +50,7 @@ module _ (n : ℕ) (formats : Formats) (word : List ℕ) (words : List (List ℕ
     are = b.are;
   }
 
-  -- behind the name of the first verb
+  -- after the name of the first verb
   begun-verb : (o : Option Asked) → first_verb word ≡ o → line_by n formats (λ f p. line_from (n + 1) f p words) (after_verb formats o) ≡ Accepted command
       → Begun n formats (word ∷ words) (verbs_by Flags (λ f p. asked_from (n + 1) f p words) (after_verb formats o)) command
   begun-verb None named is = refused-not (n + 1) command is
@@ -87,7 +87,7 @@ begun : (words : List (List ℕ)) (n : ℕ) (formats : Formats) (command : Comma
 begun [] n formats command is = refused-not (n + 1) command is
 begun (word ∷ words) n formats command is = begun-word n formats word words command (flagged word formats) refl (λ next. begun words (n + 1) next command) is
 
--- behind its first words a list goes on as it does
+-- a list without its first words is the rest of it
 names-following : (count : ℕ) (prefix names words : List (List ℕ)) → words ≡ prefix ++ names → count ≡ length prefix → names ≡ drop count words
 names-following count prefix names words words_are count_is =
     sym (drop-append_seam prefix names) ∙ ap (λ m. drop m (prefix ++ names)) (sym count_is) ∙ ap (drop count) (sym words_are)
@@ -111,7 +111,7 @@ accepted-line words command is =
       are_names = ap are_names (sym names) ∙ b.are;
     }
 
--- the names of a line are what its words end in
+-- the file names of a line are the words at its end
 pub line-names : (words : List (List ℕ)) (formats : Formats) (verbs : List Asked) (names : List (List ℕ)) (line : IsLine words formats verbs names)
     → names ≡ drop (length (line.flags ++ line.first ++ after_then line.others)) words
 line-names words formats verbs names line =

@@ -1,4 +1,4 @@
--- What the walk reads of words is what the grammar says, and that is one thing.
+-- The parser accepts and refuses words as the grammar says, and the grammar allows only one reading.
 use Rattle.std.proofs.Common.{◌≡◌, ℕ, zero, suc, ◌+◌, ◌<◌, ◌≤◌, List, [], ◌∷◌, ◌++◌, refl, ap, sym, subst, ◌∙◌, append_assoc, inl, inr, arith}
 use Rattle.std.specs.Prelude.{◌⊎◌, drop, length, take, Result, Ok, Err, IfOk}
 use Rattle.std.proofs.lemmas.Bool.{cases_order}
@@ -15,14 +15,14 @@ use Rattle.cli_words.proofs.Refusals.{refusal}
 use Rattle.cli_words.proofs.Rests.{refused-not}
 use Rattle.cli_words.proofs.Walks.{line-walk}
 
--- no walk through a command line is refused
+-- the parser doesn't refuse a command line
 line-not : {A : Type 0} (words : List (List ℕ)) (formats : Formats) (verbs : List Asked) (names : List (List ℕ)) (number : ℕ)
     → IsLine words formats verbs names → walked words ≡ Refused number → A
 line-not words formats verbs names number line is =
     refused-not number (record { formats = formats; names = length (line.flags ++ line.first ++ after_then line.others) })
     (sym is ∙ ap (λ e. e.0) (line-walk words formats verbs names line))
 
--- a front of a list begins with its shorter fronts
+-- a prefix of a list begins with its shorter prefixes
 take-prefix : (k m : ℕ) (words : List (List ℕ)) → k ≤ m → (rest : List (List ℕ)) × (take m words ≡ take k words ++ rest)
 take-prefix zero m words within = (take m words, refl)
 take-prefix (suc k) zero words within = absurd (let f : ⊥ = omega (arith, within) in f)
@@ -31,7 +31,7 @@ take-prefix (suc k) (suc m) (word ∷ words) within =
     let prefix = take-prefix k m words (let e : k ≤ m = omega (arith, within) in e) in
     (prefix.0, ap (λ ws. word ∷ ws) prefix.1)
 
--- a line begins with each front of its own
+-- if a command line begins with some words, one begins with fewer of them
 goes-earlier : (k m : ℕ) (words : List (List ℕ)) → k ≤ m → CanGoOn (take m words) → CanGoOn (take k words)
 goes-earlier k m words within goes =
     let prefix = take-prefix k m words within in
@@ -68,11 +68,11 @@ pub reads : (words : List (List ℕ)) (line : Line) → walked words ≡ line �
 reads words (Accepted command) is = (asked words, accepted-line words command is)
 reads words (Refused number) is = refused-at words number is
 
--- the verbs that were walked over are those of the line
+-- the parser's verbs are those of the line
 pub verbs-are : (words : List (List ℕ)) (formats : Formats) (verbs : List Asked) (names : List (List ℕ)) → IsLine words formats verbs names → asked words ≡ verbs
 verbs-are words formats verbs names line = ap (λ e. e.1) (line-walk words formats verbs names line)
 
--- the parts of a walk that ends well
+-- the parts of the result for an accepted line
 abbrev formats_in : Line × List Asked → Formats
 formats_in (Accepted command, verbs) = command.formats
 formats_in (Refused number, verbs) = plain
@@ -90,7 +90,7 @@ one-reading words formats other verbs more names rest line line' =
       line-names words formats verbs names line ∙ ap (λ n. drop n words) (ap count_in same) ∙ sym (line-names words other more rest line'),
     )
 
--- of two places the later can't be right
+-- of two places where words are refused the later can't be right
 later-not : {A : Type 0} (words : List (List ℕ)) (number other : ℕ) (a : IsRefusedAt words number) (b : IsRefusedAt words other) → a.before < b.before → A
 later-not words number other a b less =
     absurd (a.ends (let e : a.before < length words = omega (arith, less, b.within) in e)

@@ -1,4 +1,4 @@
--- Where the walk refuses a line, no command line goes on, and before it one does.
+-- Where the parser refuses a line, no command line continues, and before that word one does.
 use Rattle.std.proofs.Common.{◌≡◌, ℕ, suc, ◌+◌, ◌<◌, ◌≤◌, pos, Bool, true, false, List, [], ◌∷◌, ◌++◌, Option, Some, None, refl, ap, sym, ◌∙◌, arith}
 use Rattle.std.specs.Prelude.{◌||◌, not, codes, length, take, if◌then◌else◌}
 use Rattle.std.specs.Str.{bytes_eq}
@@ -20,7 +20,7 @@ use Rattle.cli_words.specs.Verbs.{first_verb, is_dashed, may_end, option_named, 
 use Rattle.cli_words.specs.Walk.{after, after_options, after_verb, line_from, may_stop}
 use Rattle.cli_words.proofs.Rests.{line_by}
 
--- the options that a verb has
+-- the options of a verb
 abbrev Has : Asked → VerbOption → Type 0
 Has (Head count) Count = Unit {0}
 Has (Seq numbers) Field = Unit {0}
@@ -33,7 +33,7 @@ abbrev HasSome : Asked → Option VerbOption → Type 0
 HasSome asked None = Unit {0}
 HasSome asked (Some option) = Has asked option
 
--- an option whose word is awaited is one of its verb
+-- an option whose argument must follow is an option of its verb
 abbrev pub Fits : Place → Type 0
 Fits Flags = Unit {0}
 Fits Verb = Unit {0}
@@ -84,7 +84,7 @@ fits-after n formats Verb word fits = fits-verb formats (verb_named word)
 fits-after n formats (Options asked) word fits = fits-option formats asked word (option_named asked word) (has-named asked word)
 fits-after n formats (Argument asked option) word fits = fits-verb formats (with_option asked option n word)
 
--- words that end a line well behind a place
+-- words that complete a line from a place on
 record Ending (n : ℕ) (formats : Formats) (place : Place) : Type 0 where
   words : List (List ℕ)
   command : Command
@@ -126,7 +126,8 @@ ending Verb n formats fits = record { words = codes "cat" ∷ []; command = reco
 ending (Options asked) n formats fits = ending-options asked n formats
 ending (Argument asked option) n formats fits = ending-argument asked option n formats fits
 
--- The words behind a place are refused at this number: a line goes on behind those before it, and none behind it.
+-- The words from a place on are refused at this number: a line continues with the words before it, and none
+-- with this word too.
 pub record Refusal (n : ℕ) (formats : Formats) (place : Place) (words : List (List ℕ)) (number : ℕ) : Type 0 where
   pub before : ℕ
   pub number_is : number ≡ n + before + 1

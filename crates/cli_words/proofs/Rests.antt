@@ -1,4 +1,4 @@
--- What the words behind a place make of a command line: the walk finds what the grammar says.
+-- How the words from a place on complete a command line: the parser finds what the grammar says.
 use Rattle.std.proofs.Common.{◌≡◌, ℕ, ◌+◌, Bool, true, false, List, [], ◌∷◌, ◌++◌, Option, Some, None, refl, ap, sym, subst, ◌∙◌, arith}
 use Rattle.std.specs.Prelude.{◌&&◌, ◌||◌, not, codes, length, if◌then◌else◌}
 use Rattle.std.specs.Option.{option_map}
@@ -21,19 +21,20 @@ use Rattle.cli_words.specs.Grammar.{are_names, after_then, options_in, verb_in, 
 use Rattle.cli_words.specs.Verbs.{is_dashed, may_end, option_named, verb_named, with_option}
 use Rattle.cli_words.specs.Walk.{asked_from, after_options, after_verb, ended_by, line_from}
 
--- what an option lacks, and then more options
+-- the argument that an option needs, and then more options
 abbrev pub argument_in : ℕ → Asked → VerbOption → List (List ℕ) → Option Asked
 argument_in n asked option [] = None
 argument_in n asked option (word ∷ words) = elim (with_option asked option (n + 1) word) [ Some next ↦ options_in (n + 1) next words | None ↦ None ]
 
--- what the verb at a place lacks; none where flags may come
+-- the words that the verb at a place needs; none where flags may follow
 abbrev pub head_in : ℕ → Place → List (List ℕ) → Option Asked
 head_in n Flags words = None
 head_in n Verb words = verb_in n verb_named words
 head_in n (Options asked) words = options_in n asked words
 head_in n (Argument asked option) words = argument_in n asked option words
 
--- the words behind a place: what its verb lacks, more verbs, and file names, before which stand so many words
+-- the words from a place on: those of its verb, more verbs, and file names, which follow `count` words of the
+-- line
 pub record Rest (n : ℕ) (place : Place) (words : List (List ℕ)) (verbs : List Asked) (count : ℕ) : Type 0 where
   pub first : List (List ℕ)
   pub others : List (List (List ℕ))
@@ -47,7 +48,7 @@ pub record Rest (n : ℕ) (place : Place) (words : List (List ℕ)) (verbs : Lis
   pub verbs_are : verbs ≡ verb ∷ more
   pub are_names : are_names names ≡ true
 
--- the first word behind an option is what the option takes
+-- the first word after an option's name is its argument
 options-cons : (n : ℕ) (asked : Asked) (word : List ℕ) (option : VerbOption) (words : List (List ℕ)) → option_named asked word ≡ Some option
     → options_in n asked (word ∷ words) ≡ argument_in (n + 1) asked option words
 options-cons n asked word option [] is = refl
@@ -55,7 +56,7 @@ options-cons n asked word option (argument ∷ words) is =
     ap (λ o. elim o [ Some option ↦ elim (with_option asked option (n + 2) argument) [ Some next ↦ options_in (n + 2) next words | None ↦ None ] | None ↦ None ]) is
     ∙ ap (λ m. elim (with_option asked option m argument) [ Some next ↦ options_in m next words | None ↦ None ]) (let e : n + 2 ≡ n + 1 + 1 = omega arith in e)
 
--- a word of the verb at a place
+-- one more word of the verb at a place
 pub before : (n : ℕ) (place at : Place) (word : List ℕ) (words : List (List ℕ)) (verbs : List Asked) (count : ℕ) (r : Rest (n + 1) at words verbs count)
     → head_in n place (word ∷ r.first) ≡ head_in (n + 1) at r.first → Rest n place (word ∷ words) verbs count
 before n place at word words verbs count r same = record {
@@ -94,7 +95,7 @@ before-then n asked word words verbs count may is r = record {
   are_names = r.are_names;
 }
 
--- the verbs end before a file name, or where the words end
+-- the verbs end before a file name, or at the end of the words
 pub before-names : (n : ℕ) (asked : Asked) (names : List (List ℕ)) → may_end asked ≡ true → are_names names ≡ true → Rest n (Options asked) names (asked ∷ []) n
 before-names n asked names may are = record {
   first = [];
@@ -110,7 +111,7 @@ before-names n asked names may are = record {
   are_names = are;
 }
 
--- the formats and the count of an accepted line
+-- the formats and the number of words before the file names of an accepted line
 abbrev formats_in : Line → Formats
 formats_in (Accepted command) = command.formats
 formats_in (Refused number) = plain
@@ -119,19 +120,19 @@ abbrev count_in : Line → ℕ
 count_in (Accepted command) = command.names
 count_in (Refused number) = 0
 
--- a place behind the flags
+-- a place after the flags
 abbrev pub IsPast : Place → Type 0
 IsPast Flags = ⊥
 IsPast Verb = Unit {0}
 IsPast (Options asked) = Unit {0}
 IsPast (Argument asked option) = Unit {0}
 
--- a walk that ends well found a rest by the grammar
+-- if the parser accepts, it has found a rest that the grammar allows
 pub record Found (n : ℕ) (formats : Formats) (place : Place) (words : List (List ℕ)) (verbs : List Asked) (command : Command) : Type 0 where
   pub same : command.formats ≡ formats
   pub rest : Rest n place words verbs command.names
 
--- what comes behind a word, by what the word is
+-- the line after a word, by what the word is
 abbrev pub line_by : ℕ → Formats → (Formats → Place → Line) → Next → Line
 line_by n formats go (Word next at) = go next at
 line_by n formats go Names = Accepted (record { formats = formats; names = n })
@@ -167,7 +168,7 @@ module _ (n : ℕ) (formats : Formats) (word : List ℕ) (words : List (List ℕ
   abbrev Goes : Type 0
   Goes = (at : Place) → IsPast at → line_from (n + 1) formats at words ≡ Accepted command → Found (n + 1) formats at words (asked_from (n + 1) formats at words) command
 
-  -- what a word makes that is none of a verb's options
+  -- what a word is that isn't one of the verb's options
   following-tests : Goes → (asked : Asked) (t u : Bool) → (not (may_end asked) || is_dashed word) ≡ t → bytes_eq word (codes "then") ≡ u → (may : Bool) → may_end asked ≡ may
       → line_by n formats line_at (if t then Refuse else (if u then Word formats Verb else Names)) ≡ Accepted command
       → Found n formats (Options asked) (word ∷ words) (verbs_by (Options asked) verbs_at (if t then Refuse else (if u then Word formats Verb else Names))) command
@@ -190,7 +191,7 @@ module _ (n : ℕ) (formats : Formats) (word : List ℕ) (words : List (List ℕ
             (before-names n asked (word ∷ words) is_may (ap (λ d. not d && not (bytes_eq word (codes "then"))) dashed ∙ ap (λ u. true && not u) then_is)));
       }
 
-  -- at each place, by what the word is there
+  -- the same at each place, by what the word is there
   found-option : Goes → (asked : Asked) (o : Option VerbOption) → option_named asked word ≡ o
       → line_by n formats line_at (elim o [ Some option ↦ Word formats (Argument asked option) | None ↦ after_options formats asked word ]) ≡ Accepted command
       → Found n formats (Options asked) (word ∷ words) (verbs_by (Options asked) verbs_at (elim o [ Some option ↦ Word formats (Argument asked option) | None ↦ after_options formats asked word ])) command
@@ -223,7 +224,7 @@ module _ (n : ℕ) (formats : Formats) (word : List ℕ) (words : List (List ℕ
       }
   found-verb go None named is = refused-not (n + 1) command is
 
--- a walk from a place behind the flags
+-- parsing from a place after the flags
 pub found : (words : List (List ℕ)) (n : ℕ) (formats : Formats) (place : Place) (command : Command) → IsPast place → line_from n formats place words ≡ Accepted command
     → Found n formats place words (asked_from n formats place words) command
 found [] n formats Flags command past is = absurd past

@@ -1,4 +1,4 @@
--- Worked command lines: how the grammar reads them, and where it refuses them.
+-- Worked examples of command lines: how the grammar parses them, and where it refuses them.
 use Rattle.std.proofs.Common.{[], ◌∷◌, pos, negsuc, refl}
 use Rattle.std.specs.Prelude.{codes}
 use Rattle.mlr_event.specs.declared.options.Format.TheVariants.{Csv, Pprint}
@@ -60,7 +60,7 @@ numbers-and-a-verb = record {
   are_names = refl;
 }
 
--- refused, at the number of a word
+-- lines that are refused, with the number of the word
 no-words : IsRefusedAt [] 1
 no-words = refused-at [] 1 refl
 

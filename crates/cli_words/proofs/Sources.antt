@@ -1,4 +1,4 @@
--- The verbs of a command line may end, and only the first may be a source.
+-- The options of each verb of a command line may end, and only the first verb may be a source.
 use Rattle.std.proofs.Common.{◌≡◌, ℕ, ◌+◌, ℤ, Bool, true, false, List, [], ◌∷◌, Option, Some, None, refl, subst}
 use Rattle.std.specs.Prelude.{codes, length, if◌then◌else◌}
 use Rattle.std.specs.Option.{option_map}
@@ -57,7 +57,7 @@ with-option (Head count) Stop n word is_not = tt
 with-option (Head count) Step n word is_not = tt
 with-option (Seq numbers) option n word is_not = absurd is_not
 
--- options keep what a verb is
+-- options don't change whether a verb is a source
 abbrev OptionsKeep : List (List ℕ) → Type 0
 OptionsKeep words = (n : ℕ) (asked : Asked) → NotSeq asked → IfSomeNot (options_in n asked words)
 
@@ -94,11 +94,11 @@ later-by : (n : ℕ) (verb : List (List ℕ)) (verbs : List (List (List ℕ))) (
 later-by n verb verbs None more is_not go is = none-some more is
 later-by n verb verbs (Some asked) more is_not go is = later-more (verbs_in (n + 1 + length verb) verbs) asked more is_not (go (n + 1 + length verb)) is
 
--- behind `then` no verb is a source
+-- after `then` no verb is a source
 pub later-verbs : (verbs : List (List (List ℕ))) (n : ℕ) (more : List Asked) → verbs_in n verbs ≡ Some more → NoneSeq more
 later-verbs [] n more is = subst NoneSeq (let e : [] ≡ more = cc in e) tt
 later-verbs (verb ∷ verbs) n more is = later-by n verb verbs (verb_in (n + 1) verb_named verb) more (later-verb (n + 1) verb) (λ m rest. later-verbs verbs m rest) is
 
--- the first verb may end
+-- the options of the first verb may end
 pub first-may-end : (first : List (List ℕ)) (n : ℕ) (verb : Asked) → verb_in n first_verb first ≡ Some verb → may_end verb ≡ true
 first-may-end first n verb is = (verb-walk first n plain verb [] is).1

@@ -1,4 +1,4 @@
--- The walk goes through every command line of the grammar.
+-- The parser accepts every command line of the grammar.
 use Rattle.std.proofs.Common.{◌≡◌, ℕ, ◌+◌, pos, Bool, true, false, List, [], ◌∷◌, ◌++◌, Option, Some, None, refl, ap, sym, subst, ◌∙◌, append_assoc, arith}
 use Rattle.std.specs.Prelude.{◌&&◌, ◌||◌, not, codes, length, if◌then◌else◌}
 use Rattle.std.specs.Option.{option_map}
@@ -22,15 +22,15 @@ use Rattle.cli_words.specs.Verbs.{first_verb, is_dashed, may_end, option_named, 
 use Rattle.cli_words.specs.Walk.{after, asked_from, after_options, after_verb, line_from}
 use Rattle.cli_words.proofs.Rests.{line_by, verbs_by}
 
--- the line and the verbs of a walk
+-- the line and the verbs that the parser finds
 abbrev pub walk : ℕ → Formats → Place → List (List ℕ) → Line × List Asked
 walk n formats place words = (line_from n formats place words, asked_from n formats place words)
 
--- a walk that ends here
+-- the result where the line is accepted
 abbrev pub accepted : ℕ → Formats → List Asked → Line × List Asked
 accepted n formats verbs = (Accepted (record { formats = formats; names = n }), verbs)
 
--- the walk behind a word
+-- the result after one word
 pub step : (n : ℕ) (formats : Formats) (place : Place) (word : List ℕ) (words : List (List ℕ)) (next : Next) → after (n + 1) formats place word ≡ next
     → walk n formats place (word ∷ words) ≡ (line_by n formats (λ f p. line_from (n + 1) f p words) next, verbs_by place (λ f p. asked_from (n + 1) f p words) next)
 step n formats place word words next is = ap (λ x. (line_by n formats (λ f p. line_from (n + 1) f p words) x, verbs_by place (λ f p. asked_from (n + 1) f p words) x)) is
@@ -41,12 +41,12 @@ some-same x y is = cc
 pub none-some : {A B : Type 0} (x : A) → None ≡ Some x → B
 none-some x is = absurd (let e = is in cc)
 
--- a verb that may end is the same behind no options
+-- a verb whose options may end is unchanged without more options
 options-none : (asked verb : Asked) (t : Bool) → may_end asked ≡ t → (if t then Some asked else None) ≡ Some verb → (asked ≡ verb) × (may_end verb ≡ true)
 options-none asked verb true may is = (some-same asked verb is, subst (λ v. may_end v ≡ true) (some-same asked verb is) may)
 options-none asked verb false may is = none-some verb is
 
--- the walk over an option and what it takes
+-- parsing an option and its argument
 option-step : (n : ℕ) (formats : Formats) (asked next : Asked) (option : VerbOption) (word argument : List ℕ) (words : List (List ℕ))
     → option_named asked word ≡ Some option → with_option asked option (n + 2) argument ≡ Some next
     → walk n formats (Options asked) (word ∷ argument ∷ words) ≡ walk (n + 2) formats (Options next) words
@@ -87,7 +87,7 @@ options-walk (word ∷ []) n formats asked verb tail is = none-some verb is
 options-walk (word ∷ argument ∷ words) n formats asked verb tail is =
     options-named words (options-walk words) n formats asked verb word argument tail (option_named asked word) refl is
 
--- a word that isn't dashed names no option, nor does `then`
+-- a word that doesn't look like an option isn't an option's name, nor is `then`
 not-option-then : (asked : Asked) → option_named asked (codes "then") ≡ None
 not-option-then Cat = refl
 not-option-then Nothing = refl
@@ -108,7 +108,7 @@ not-option (Head count) word not_dashed = rw (not-named word not_dashed (codes "
 not-option (Seq numbers) word not_dashed =
     rw (not-named word not_dashed (codes "-f") refl, not-named word not_dashed (codes "--start") refl, not-named word not_dashed (codes "--stop") refl, not-named word not_dashed (codes "--step") refl) refl
 
--- the walk over `then`, and over a verb's name
+-- parsing `then` and a verb's name
 then-step : (n : ℕ) (formats : Formats) (asked : Asked) (words : List (List ℕ)) → may_end asked ≡ true
     → walk n formats (Options asked) (codes "then" ∷ words) ≡ (line_from (n + 1) formats Verb words, asked ∷ asked_from (n + 1) formats Verb words)
 then-step n formats asked words may =
@@ -121,7 +121,7 @@ name-step : (n : ℕ) (formats : Formats) (asked : Asked) (name : List ℕ) (wor
     → walk n formats Verb (name ∷ words) ≡ walk (n + 1) formats (Options asked) words
 name-step n formats asked name words named = step n formats Verb name words (Word formats (Options asked)) (ap (after_verb formats) named)
 
--- the walk up to a file name
+-- parsing up to a file name
 are-tests : (d t : Bool) → not d && not t ≡ true → (d ≡ false) × (t ≡ false)
 are-tests true t is = absurd (false≢true is)
 are-tests false true is = absurd (false≢true is)
@@ -139,7 +139,7 @@ names-walk (name ∷ names) n formats asked may are =
     ∙ ap (λ t. if t then Word formats Verb else Names) tests.1)
     ∙ ap (λ m. (Accepted (record { formats = formats; names = n }), (if m then asked ∷ [] else []) ++ [])) may
 
--- the walk over further verbs, and up to a file name
+-- parsing the later verbs up to a file name
 abbrev OthersWalk : List (List ℕ) → List (List (List ℕ)) → Type 0
 OthersWalk names others = (n : ℕ) (formats : Formats) (asked : Asked) (more : List Asked) → may_end asked ≡ true → verbs_in n others ≡ Some more
     → walk n formats (Options asked) (after_then others ++ names) ≡ accepted (n + length (after_then others)) formats (asked ∷ more)
@@ -152,7 +152,7 @@ abbrev put-first : Asked → Line × List Asked → Line × List Asked
 put-first asked end = (end.0, asked ∷ end.1)
 
 module _ (names : List (List ℕ)) (others : List (List (List ℕ))) (go : OthersWalk names others) (n : ℕ) (formats : Formats) (asked : Asked) (more : List Asked) (may : may_end asked ≡ true) where
-  -- by the verb that comes next
+  -- the same by the next verb
   others-more : (verb : List (List ℕ)) (a : Asked) (m : ℕ) (o : Option (List Asked)) → may_end a ≡ true → verbs_in m others ≡ o → option_map (λ more. a ∷ more) o ≡ Some more
       → walk m formats (Options a) (after_then others ++ names) ≡ accepted (m + length (after_then others)) formats more
   others-more verb a m None may_a others_are is = none-some more is
@@ -195,7 +195,7 @@ others-walk names are [] n formats asked more may is =
     ∙ ap (λ vs. accepted (n + 0) formats (asked ∷ vs)) (some-same [] more is)
 others-walk names are (verb ∷ others) n formats asked more may is = others-verb names others (others-walk names are others) n formats asked more may verb is
 
--- the walk over flags
+-- parsing the flags
 flags-step : (flags : List (List ℕ)) (n : ℕ) (formats last : Formats) (flag : List ℕ) (tail : List (List ℕ)) (o : Option Formats)
     → ((next : Formats) → formats_by next flags ≡ Some last → walk (n + 1) next Flags (flags ++ tail) ≡ walk (n + 1 + length flags) last Flags tail)
     → flagged flag formats ≡ o → elim o [ Some next ↦ formats_by next flags | None ↦ None ] ≡ Some last
@@ -213,7 +213,7 @@ flags-walk [] n formats last tail is =
 flags-walk (flag ∷ flags) n formats last tail is =
     flags-step flags n formats last flag tail (flagged flag formats) (λ next following. flags-walk flags (n + 1) next last tail following) refl is
 
--- the name of a verb is no flag
+-- the name of a verb isn't a flag
 verb-no-flag : (word : List ℕ) (formats : Formats) (name : List ℕ) → bytes_eq word name ≡ true → flagged name formats ≡ None → flagged word formats ≡ None
 verb-no-flag word formats name same none = ap (λ w. flagged w formats) ((bytes_eq-Decides word name).0 same) ∙ none
 
@@ -232,7 +232,7 @@ first-no-flag word formats asked is =
     named-no-flag word formats asked (bytes_eq word (codes "seqgen")) (bytes_eq word (codes "cat")) (bytes_eq word (codes "nothing")) (bytes_eq word (codes "head")) refl refl refl refl
     (Seq (record { field = 0; start = pos 1; stop = pos 100; step = pos 1 })) is
 
--- the walk over the first verb
+-- parsing the first verb
 first-name : (n : ℕ) (formats : Formats) (asked : Asked) (name : List ℕ) (words : List (List ℕ)) → first_verb name ≡ Some asked
     → walk n formats Flags (name ∷ words) ≡ walk (n + 1) formats (Options asked) words
 first-name n formats asked name words named =
@@ -255,7 +255,7 @@ pub verb-walk : (first : List (List ℕ)) (n : ℕ) (formats : Formats) (verb : 
 verb-walk [] n formats verb tail is = none-some verb is
 verb-walk (name ∷ options) n formats verb tail is = first-walk n formats name options verb tail (first_verb name) refl is
 
--- the walk through a command line
+-- parsing a command line
 pub line-walk : (words : List (List ℕ)) (formats : Formats) (verbs : List Asked) (names : List (List ℕ)) (line : IsLine words formats verbs names)
     → walk 0 plain Flags words ≡ accepted (length (line.flags ++ line.first ++ after_then line.others)) formats verbs
 line-walk words formats verbs names line =

@@ -1,11 +1,11 @@
--- The flags of a command line: the formats that are read and written.
+-- The flags of a command line: the formats of the input and of the output.
 use Rattle.std.specs.Prelude.{ℕ, if◌then◌else◌, List, codes, Option, Some, None}
 use Rattle.std.specs.Str.{bytes_eq}
 use Rattle.mlr_event.specs.declared.options.Format.{Format}
 use Rattle.mlr_event.specs.declared.options.Format.TheVariants.{Csv, Tsv, Json, Jsonl, Dkvp, Nidx, Xtab, Pprint, Markdown}
 use Rattle.cli_words.specs.declared.flags.Formats.{Formats}
 
--- the flags that name the format of the input, of the output, and of both
+-- the flags for the format of the input, of the output, and of both
 abbrev pub input_flag : List ℕ → Option Format
 input_flag word =
     if bytes_eq word (codes "--icsv") then Some Csv else (
@@ -41,11 +41,11 @@ both_flag word =
     if bytes_eq word (codes "--xtab") then Some Xtab else (
     if bytes_eq word (codes "--pprint") then Some Pprint else None)))))))
 
--- DKVP in and out, where no flag says otherwise
+-- DKVP for input and output, the formats without flags
 abbrev pub plain : Formats
 plain = record { input = Dkvp; output = Dkvp }
 
--- what a flag makes of the formats, if the word is one
+-- the formats changed by a flag, or None if the word isn't a flag
 abbrev pub flagged : List ℕ → Formats → Option Formats
 flagged word formats = elim (input_flag word) [
   | Some fmt ↦ Some (record formats { input = fmt })

@@ -1,4 +1,4 @@
--- How the words are read, one behind the other. What that comes to is the grammar, in Grammar.
+-- How the words are parsed, one after another. That this agrees with the grammar is proved.
 use Rattle.std.specs.Prelude.{ℕ, ◌+◌, Bool, false, not, ◌||◌, if◌then◌else◌, List, [], ◌∷◌, ◌++◌, codes, Option, Some, None}
 use Rattle.std.specs.Str.{bytes_eq}
 use Rattle.cli_words.specs.declared.flags.Formats.{Formats}
@@ -12,16 +12,19 @@ use Rattle.cli_words.specs.declared.verbs.Asked.{Asked}
 use Rattle.cli_words.specs.Flags.{flagged, plain}
 use Rattle.cli_words.specs.Verbs.{first_verb, is_dashed, may_end, option_named, verb_named, with_option}
 
--- what the next word, which has this number, makes of what was read
+-- what the next word is after a verb's name or an option's argument: the options of the verb may follow, or
+-- it is refused
 abbrev pub after_verb : Formats → Option Asked → Next
 after_verb formats (Some asked) = Word formats (Options asked)
 after_verb formats None = Refuse
 
+-- what a word after a verb is if it isn't one of the verb's options
 abbrev pub after_options : Formats → Asked → List ℕ → Next
 after_options formats asked word =
     if not (may_end asked) || is_dashed word then Refuse else (
     if bytes_eq word (codes "then") then Word formats Verb else Names)
 
+-- what the next word is, which is word number `n`, at a place of the line
 abbrev pub after : ℕ → Formats → Place → List ℕ → Next
 after n formats Flags word = elim (flagged word formats) [ Some next ↦ Word next Flags | None ↦ after_verb formats (first_verb word) ]
 after n formats Verb word = after_verb formats (verb_named word)
@@ -35,7 +38,7 @@ may_stop Verb = false
 may_stop (Options asked) = may_end asked
 may_stop (Argument asked option) = false
 
--- what the rest of a command line makes it behind so many words
+-- the line that the remaining words make, after the first `n` words
 abbrev pub line_from : ℕ → Formats → Place → List (List ℕ) → Line
 line_from n formats place [] = if may_stop place then Accepted (record { formats = formats; names = n }) else Refused (n + 1)
 line_from n formats place (word ∷ words) = elim (after (n + 1) formats place word) [
@@ -47,14 +50,14 @@ line_from n formats place (word ∷ words) = elim (after (n + 1) formats place w
 abbrev pub walked : List (List ℕ) → Line
 walked words = line_from 0 plain Flags words
 
--- the verb whose options were read, where it may end
+-- the verb whose options were read, if they may end here
 abbrev pub ended : Place → List Asked
 ended Flags = []
 ended Verb = []
 ended (Options asked) = if may_end asked then asked ∷ [] else []
 ended (Argument asked option) = []
 
--- the verb that a word ends: `then`, or the first file name
+-- the verb that a word ends: the word is `then`, or the first file name
 abbrev pub ended_by : Place → Next → List Asked
 ended_by place (Word formats Flags) = []
 ended_by place (Word formats Verb) = ended place
@@ -63,7 +66,7 @@ ended_by place (Word formats (Argument asked option)) = []
 ended_by place Names = ended place
 ended_by place Refuse = []
 
--- the verbs that the rest of a command line asks for
+-- the verbs of the remaining words
 abbrev pub asked_from : ℕ → Formats → Place → List (List ℕ) → List Asked
 asked_from n formats place [] = ended place
 asked_from n formats place (word ∷ words) = ended_by place (after (n + 1) formats place word) ++ elim (after (n + 1) formats place word) [

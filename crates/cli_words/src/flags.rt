@@ -1,4 +1,4 @@
-//! The flags of a command line: the formats that are read and written.
+//! The flags of a command line: the formats of the input and of the output.
 ghost use Rattle.std.specs.Prelude.{◌≡◌};
 ghost use Rattle.cli_words.specs.Flags.{both_flag, flagged, input_flag, output_flag, plain};
 
@@ -7,9 +7,9 @@ use mlr_event::Format;
 /// The formats of a command line.
 #[derive(Clone, Copy, Debug, PartialEq, Eq)]
 pub struct Formats {
-    /// What is read.
+    /// The format of the input.
     pub input: Format,
-    /// What is written.
+    /// The format of the output.
     pub output: Format,
 }
 
@@ -92,7 +92,7 @@ fn both_flag(word: &[u8]) -> Option<Format>
     }
 }
 
-/// What a flag makes of the formats, if the word is one.
+/// The formats changed by a flag, or None if the word isn't a flag.
 pub(crate) fn flagged(word: &[u8], formats: Formats) -> Option<Formats>
     ensures { result ≡ flagged word.now formats }
 {
@@ -111,7 +111,7 @@ pub(crate) fn flagged(word: &[u8], formats: Formats) -> Option<Formats>
     }
 }
 
-/// DKVP in and out, where no flag says otherwise.
+/// DKVP for input and output, the formats without flags.
 pub(crate) fn plain() -> Formats
     ensures { result ≡ plain }
 {

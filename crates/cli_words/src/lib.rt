@@ -1,5 +1,5 @@
-//! The words of a command line: flags of formats, verbs with their options, joined by `then`, and file names. It says
-//! what words ask for, or the first word with which no command line goes on.
+//! The words of a command line: flags of formats, verbs with their options, joined by `then`, and file names.
+//! They are parsed to a command, or refused at the first word that no command line has in this place.
 #![tactic(auto)]
 
 mod flags;

@@ -1,4 +1,4 @@
-//! The words of a command line, read one behind the other.
+//! Parses the words of a command line, one after another.
 ghost use Rattle.std.specs.Prelude.{◌≡◌, ◌++◌, ℕ, List, IfOk, OnOk, length};
 ghost use Rattle.cli_words.specs.declared.flags.Formats.{Formats as SpecFormats};
 ghost use Rattle.cli_words.specs.declared.line.Line.{Line as SpecLine};
@@ -14,48 +14,48 @@ use mlr_spec::NoMemory;
 use mlr_value::Bytes;
 use std::alloc::Global;
 
-/// What a command line says beside its verbs.
+/// The part of a command line that isn't its verbs.
 #[derive(Clone, Copy, Debug, PartialEq, Eq)]
 pub struct Command {
     pub formats: Formats,
-    /// How many words stand before the file names.
+    /// The number of words before the file names.
     pub names: usize,
 }
 
-/// What a command line is.
+/// The result of parsing a command line.
 #[derive(Clone, Copy, Debug, PartialEq, Eq)]
 pub enum Line {
-    /// A command.
+    /// The words are a command.
     Accepted(Command),
-    /// None from this word on, counted from 1.
+    /// The words are no command line; this one, counted from 1, is the first that can't be in its place.
     Refused(u64),
 }
 
-/// Where a command line has come to.
+/// The state of the parser between two words.
 #[derive(Clone, Copy, Debug, PartialEq, Eq)]
 enum Place {
-    /// A flag or the first verb must come.
+    /// A flag or the first verb must follow.
     Flags,
-    /// A verb must come.
+    /// A verb must follow.
     Verb,
-    /// An option of this verb may come.
+    /// An option of this verb may follow.
     Options(Asked),
-    /// What this option of this verb takes must come.
+    /// The argument of this option of this verb must follow.
     Argument(Asked, VerbOption),
 }
 
-/// What a word makes of a command line.
+/// What the next word of a command line is.
 #[derive(Clone, Copy, Debug, PartialEq, Eq)]
 enum Next {
     /// It belongs to the flags and verbs.
     Word(Formats, Place),
     /// It is the first file name.
     Names,
-    /// No command line goes on with it.
+    /// No command line continues with it.
     Refuse,
 }
 
-/// Behind a verb, if there is one, its options may come.
+/// After a verb, if the word is one, its options may follow.
 fn after_verb(formats: Formats, asked: Option<Asked>) -> Next
     ensures { result ≡ after_verb formats asked }
 {
@@ -65,7 +65,7 @@ fn after_verb(formats: Formats, asked: Option<Asked>) -> Next
     }
 }
 
-/// What a word makes of a verb where it is none of its options.
+/// What a word after a verb is if it isn't one of the verb's options.
 fn after_options(alloc: Global, formats: Formats, asked: Asked, word: &[u8]) -> Next
     ensures { result ≡ after_options formats asked word.now }
 {
@@ -78,7 +78,7 @@ fn after_options(alloc: Global, formats: Formats, asked: Asked, word: &[u8]) -> 
     }
 }
 
-/// What the next word, which has this number, makes of what was read.
+/// What the next word, which has this number, is.
 fn after(alloc: Global, number: usize, formats: Formats, place: Place, word: &[u8]) -> Next
     ensures { result ≡ after number formats place word.now }
 {
@@ -108,7 +108,7 @@ fn may_stop(alloc: Global, place: Place) -> bool
     }
 }
 
-/// Reads a command line: flags, verbs with their options, and file names. It takes no memory.
+/// Parses a command line: flags, verbs with their options, and file names. It doesn't allocate.
 pub fn line_of(alloc: Global, words: &[Bytes]) -> Line
     ensures { Reads words.now result }
 {
@@ -144,8 +144,8 @@ fn walk(alloc: Global, words: &[Bytes]) -> Line
     Line::Refused(words.len() as u64 + 1)
 }
 
-/// The verbs of a command line in their order. It takes memory for the list alone. What it gives of words that are refused
-/// is open.
+/// The verbs of a command line in their order. It allocates only for the list. For words that are refused it
+/// isn't specified what it returns.
 pub fn verbs_of(alloc: Global, words: &[Bytes]) -> Result<Vec<Asked>, NoMemory>
     ensures { IfOk result (λ verbs. (formats : SpecFormats) (all : List SpecAsked)
         (names : List (List ℕ))
@@ -181,7 +181,7 @@ fn asked(alloc: Global, words: &[Bytes]) -> Result<Vec<Asked>, NoMemory>
     Ok(verbs)
 }
 
-/// Puts the verb last whose options were read, where it may end.
+/// Appends the verb whose options were read, if they may end here.
 fn push_ended(alloc: Global, place: Place, verbs: &mut Vec<Asked>) -> Result<(), NoMemory>
     ensures { OnOk result (verbs.new.items ≡ verbs.old.items ++ ended place) }
 {
@@ -200,8 +200,8 @@ pub fn names_of(words: &[Bytes], command: Command) -> &[Bytes]
     words.get(command.names..).unwrap_or(&[])
 }
 
-/// Laws of the grammar: a command line has one reading, words are refused at one place, and all words are the one or the
-/// other.
+/// Laws of the grammar: a command line has only one reading, words are refused at only one place, and any
+/// words are either a command line or refused.
 pub fn grammar_laws()
     ensures one { (words : List (List ℕ)) (formats other : SpecFormats)
         (verbs more : List SpecAsked) (names rest : List (List ℕ))

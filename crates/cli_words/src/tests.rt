@@ -1,4 +1,4 @@
-//! Command lines, read.
+//! Command lines and how they are parsed.
 use crate::{Asked, Command, Line, Numbers, line_of, names_of, verbs_of};
 use mlr_event::Format;
 use mlr_spec::NoMemory;
@@ -6,7 +6,7 @@ use mlr_value::Bytes;
 use std::alloc::Global;
 use std::test::Fail;
 
-/// The words of a line, one behind each space.
+/// The words of a line, which are separated by one space each.
 fn words_of(alloc: Global, line: &str) -> Result<Vec<Bytes>, NoMemory> {
     let mut words = Vec::new(alloc);
     for word in line.split(' ') {
@@ -15,7 +15,7 @@ fn words_of(alloc: Global, line: &str) -> Result<Vec<Bytes>, NoMemory> {
     Ok(words)
 }
 
-/// What a line is: its formats and the number of its file names, or the word that is refused.
+/// A line, and its formats and the number of its file names, or the word at which it is refused.
 type Row = (&'static str, Result<(Format, Format, usize), u64>);
 
 const ROWS: [Row; 16] = [

@@ -1,4 +1,4 @@
-//! The verbs that words ask for, and their options.
+//! The verbs of a command line and their options.
 ghost use Rattle.std.specs.Prelude.{◌≡◌, nat_lt};
 ghost use Rattle.std.specs.List.{list_all};
 ghost use Rattle.mlr_spec.specs.Infer.{are_digits, digit, unsigned};
@@ -9,12 +9,12 @@ use mlr_value::{Bytes, infer};
 use std::alloc::Global;
 use verbs_seq::SeqSpec;
 
-/// A verb that words ask for, with its options.
+/// A verb with its options, as words of a command line give it.
 #[derive(Clone, Copy, Debug, PartialEq, Eq)]
 pub enum Asked {
     Cat,
     Nothing,
-    /// `head`, of so many records.
+    /// `head`, with the number of records.
     Head(u64),
     /// `seqgen`.
     Seq(Numbers),
@@ -23,14 +23,14 @@ pub enum Asked {
 /// The numbers of `seqgen`.
 #[derive(Clone, Copy, Debug, PartialEq, Eq)]
 pub struct Numbers {
-    /// The number of the word that names the field, from 1, or 0 where none does.
+    /// The number of the word that names the field, from 1, or 0 if no word names it.
     pub field: usize,
     pub start: i64,
     pub stop: i64,
     pub step: i64,
 }
 
-/// An option of a verb, which takes the next word.
+/// An option of a verb, whose argument is the next word.
 #[derive(Clone, Copy, Debug, PartialEq, Eq)]
 pub(crate) enum VerbOption {
     /// `-n` of `head`.
@@ -42,10 +42,10 @@ pub(crate) enum VerbOption {
     Step,
 }
 
-/// How many records `head` passes where no word says it.
+/// The number of records that `head` passes without an option.
 const HEAD_COUNT: u64 = 10;
 
-/// `seqgen` where no word says more.
+/// `seqgen` without options.
 const PLAIN_NUMBERS: Numbers = Numbers {
     field: 0,
     start: 1,
@@ -53,7 +53,7 @@ const PLAIN_NUMBERS: Numbers = Numbers {
     step: 1,
 };
 
-/// The verb that a word names.
+/// The verb with this name.
 pub(crate) fn verb_named(word: &[u8]) -> Option<Asked>
     ensures { result ≡ verb_named word.now }
 {
@@ -68,7 +68,7 @@ pub(crate) fn verb_named(word: &[u8]) -> Option<Asked>
     }
 }
 
-/// The verb that a word names where the first verb must come.
+/// The verb with this name, where the first verb is expected.
 pub(crate) fn first_verb(word: &[u8]) -> Option<Asked>
     ensures { result ≡ first_verb word.now }
 {
@@ -79,7 +79,7 @@ pub(crate) fn first_verb(word: &[u8]) -> Option<Asked>
     }
 }
 
-/// The option of a verb that a word names.
+/// The option of a verb with this name.
 pub(crate) fn option_named(asked: Asked, word: &[u8]) -> Option<VerbOption>
     ensures { result ≡ option_named asked word.now }
 {
@@ -121,7 +121,7 @@ fn int_in(word: &[u8]) -> Option<i64>
     }
 }
 
-/// Whether a word has decimal digits, and nothing else but a sign before them.
+/// Whether a word is decimal digits, with or without a sign before them.
 fn is_decimal(word: &[u8]) -> bool
     ensures { result ≡ are_digits 10 (unsigned word.now) }
 {
@@ -129,7 +129,7 @@ fn is_decimal(word: &[u8]) -> bool
     !digits.is_empty() && all_digits(digits)
 }
 
-/// A word without a sign before it.
+/// A word without the sign at its start.
 fn unsigned(word: &[u8]) -> &[u8]
     ensures { result.now ≡ unsigned word.now }
 {
@@ -151,7 +151,7 @@ fn is_digit(byte: u8) -> bool
     matches!(byte, b'0'..=b'9')
 }
 
-/// What an option makes of a verb with the word behind it, which has this number.
+/// The verb with an option, given the option's argument, which has this number.
 pub(crate) fn with_option(
     asked: Asked,
     option: VerbOption,
@@ -199,7 +199,7 @@ pub(crate) fn may_end(alloc: Global, asked: Asked) -> bool
     }
 }
 
-/// The options of `seqgen` with the name of their field. It takes no memory.
+/// The options of `seqgen`, with the name of their field. It doesn't allocate.
 pub fn numbers_of(field: Bytes, numbers: Numbers) -> SeqSpec
     ensures { result ≡ (record {
       field = field;
@@ -217,7 +217,7 @@ pub fn numbers_of(field: Bytes, numbers: Numbers) -> SeqSpec
     }
 }
 
-/// Whether a word would be an option.
+/// Whether a word looks like an option.
 pub(crate) fn is_dashed(word: &[u8]) -> bool
     ensures { result ≡ is_dashed word.now }
 {

@@ -10,7 +10,7 @@ use Rattle.mlr_groups.proofs.KeyTexts.{texts_eq-Decides}
 use Rattle.mlr_groups.proofs.Once.{any-once}
 use Rattle.mlr_groups.proofs.PerGroup.{members-none, place-known, place-new, states-known, states-new, states-none}
 
--- the state of a group
+-- what is kept for a group: the number of its records
 abbrev count_of : List Fields → ℕ
 count_of records = capped (length records)
 
@@ -26,7 +26,7 @@ module _ (names : List (List ℕ)) (before : List Fields) (fields : Fields) (cou
       there : slice_get (groups_in names before) p ≡ Some at.0
       there = place-known names before fields p at (omega (arith, below, as-many))
 
-      -- the count at the group's place is what came before
+      -- the count at the group's place is the number of its earlier records
       pub count-known : (default : ℕ) → get_or counts p default ≡ count_in names before at.0
       count-known default =
           ap (λ ns. get_or ns p default) are
@@ -44,7 +44,7 @@ module _ (names : List (List ℕ)) (before : List Fields) (fields : Fields) (cou
       counts-new =
           ap (λ ns. ns ++ 1 ∷ []) are ∙ sym (states-new count_of names before fields at.0 at.1 (place-new names before fields p at (omega (arith, following, as-many))))
 
-      -- no record of a new group came before
+      -- no earlier record is in a new group
       pub tally-new : tally names before fields ≡ Some 0
       tally-new =
           let free = place-new names before fields p at (omega (arith, following, as-many)) in

@@ -1,4 +1,4 @@
--- Groups and tallies may go into a thread, and so may what holds them.
+-- Groups, tallies and what contains them may be moved to another thread.
 use denote.Param.Send.{IsSend, sendable}
 use Rattle.std.proofs.Crossing.{crosses}
 use Rattle.mlr_value.proofs.bytes.Bytes.TheSendSync as bytes

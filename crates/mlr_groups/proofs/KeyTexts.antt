@@ -1,4 +1,4 @@
--- The key of a list of texts tells which texts they are.
+-- The key of a list of texts determines the texts.
 use Rattle.std.proofs.Common.{◌≡◌, ℕ, zero, suc, cond, ◌||◌, List, [], ◌∷◌, ◌++◌, map, refl, ap, ap₂, sym, ◌∙◌, None, arith}
 use Rattle.std.proofs.Math.Dec.{eqb-suc-zero}
 use Rattle.std.proofs.lemmas.Bool.{eq-eqb}
@@ -12,15 +12,15 @@ use Rattle.mlr_event.specs.Reading.{is_among}
 use Rattle.mlr_groups.specs.Grouping.{texts_eq}
 use Rattle.mlr_groups.specs.Keys.{escaped, key_of}
 
--- a byte that isn't 0 stands in the key as it is
+-- a byte that isn't 0 is unchanged in the key
 escaped-plain : (n : ℕ) (text : List ℕ) → escaped (suc n ∷ text) ≡ suc n ∷ escaped text
 escaped-plain n text = ap (λ t. cond t (0 ∷ 1 ∷ escaped text) (suc n ∷ escaped text)) (eqb-suc-zero n)
 
--- as texts with more behind them
+-- so it is when more texts follow
 plain-before : (n : ℕ) (text following : List ℕ) → escaped (suc n ∷ text) ++ 0 ∷ 0 ∷ following ≡ suc n ∷ escaped text ++ 0 ∷ 0 ∷ following
 plain-before n text following = ap (λ t. t ++ 0 ∷ 0 ∷ following) (escaped-plain n text)
 
--- the end of the first text is known, and so are the text and what is behind it
+-- the first text of a key ends at one place, so that equal keys have equal first texts and equal rests
 split : (text other following rest : List ℕ) → escaped text ++ 0 ∷ 0 ∷ following ≡ escaped other ++ 0 ∷ 0 ∷ rest → (text ≡ other) × (following ≡ rest)
 split [] [] following rest same = (refl, (let e : following ≡ rest = cc in e))
 split [] (zero ∷ other) following rest same = absurd (let e : zero ≡ suc zero = cc in cc)
@@ -52,7 +52,7 @@ not-empty [] following same = let e : 0 ∷ 0 ∷ following ≡ [] = same in cc
 not-empty (zero ∷ text) following same = let e : 0 ∷ 1 ∷ escaped text ++ 0 ∷ 0 ∷ following ≡ [] = same in cc
 not-empty (suc n ∷ text) following same = let e : suc n ∷ escaped text ++ 0 ∷ 0 ∷ following ≡ [] = sym (plain-before n text following) ∙ same in cc
 
--- Texts that have one key are the same.
+-- Lists of texts with equal keys are equal.
 pub key-injective : (texts other : List (List ℕ)) → key_of texts ≡ key_of other → texts ≡ other
 key-injective [] [] same = refl
 key-injective [] (text ∷ other) same = absurd (not-empty text (key_of other) (sym same))
@@ -64,7 +64,7 @@ key-injective (text ∷ texts) (first ∷ other) same =
 pub texts_eq-Decides : (texts other : List (List ℕ)) → Decides (texts_eq texts other) (texts ≡ other)
 texts_eq-Decides texts other = slice_eq-Decides bytes_eq-Decides texts other (texts_eq texts other) refl
 
--- so keys are equal where the texts are
+-- keys are equal exactly if the texts are
 pub key-eq : (texts other : List (List ℕ)) → bytes_eq (key_of texts) (key_of other) ≡ texts_eq texts other
 key-eq texts other =
     let keys = bytes_eq-Decides (key_of texts) (key_of other) in
@@ -75,7 +75,7 @@ pub among-keys : (texts : List (List ℕ)) (groups : List (List (List ℕ))) →
 among-keys texts [] = refl
 among-keys texts (group ∷ groups) = ap₂ (λ a b. a || b) (key-eq texts group) (among-keys texts groups)
 
--- a text without a byte 0 stands in a key as it is
+-- a text without a byte 0 is unchanged in a key
 pub escaped-none : (text : List ℕ) → IsFirstByte (is_byte 0) text None → escaped text ≡ text
 escaped-none [] nowhere = refl
 escaped-none (zero ∷ text) nowhere = absurd (nowhere 0 (omega arith) (omega arith) (eq-eqb 0 0 refl))

@@ -1,4 +1,4 @@
--- Each thing once, at its first place: what one more thing at the end comes to.
+-- Each element once, at its first place: how one more element at the end changes the list.
 use Rattle.std.proofs.Common.{◌≡◌, ℕ, zero, suc, Bool, true, false, not, cond, ◌||◌, List, [], ◌∷◌, ◌++◌, map, set, Some, None, slice_get, refl, ap, ap₂, sym, ◌∙◌, inl, inr}
 use Rattle.std.specs.Bool.{Decides}
 use Rattle.std.specs.List.{list_any, filter}
@@ -14,7 +14,7 @@ module _ {A : Type 0} (eq : A → A → Bool) (decides : (x y : A) → Decides (
       let other = decides y x in
       same_from_decides (eq x y) (eq y x) (decides x y) (λ same. sym (other.0 same), λ same. other.1 (sym same))
 
-  -- what isn't equal to another thing stays where all that is equal to that one is left out
+  -- removing the elements equal to `y` doesn't remove those that differ from `y`
   any-left : (x y : A) (xs : List A) → eq y x ≡ false → list_any (eq x) (filter (λ z. not (eq y z)) xs) ≡ list_any (eq x) xs
   any-left x y [] apart = refl
   any-left x y (z ∷ xs) apart =
@@ -25,7 +25,7 @@ module _ {A : Type 0} (eq : A → A → Bool) (decides : (x y : A) → Decides (
         | inr differs ↦ rw differs (ap (λ t. eq x z || t) (any-left x y xs apart))
       ]
 
-  -- the things once have what the things have
+  -- each element once: the list has the same elements
   pub any-once : (x : A) (xs : List A) → list_any (eq x) (each_once eq xs) ≡ list_any (eq x) xs
   any-once x [] = refl
   any-once x (y ∷ xs) =
@@ -34,7 +34,7 @@ module _ {A : Type 0} (eq : A → A → Bool) (decides : (x y : A) → Decides (
         | inr apart ↦ ap (λ t. eq x y || t) (any-left x y (each_once eq xs) apart ∙ any-once x xs)
       ]
 
-  -- what one more thing adds
+  -- what one more element adds
   abbrev pub added : A → List A → List A
   added x xs = cond (list_any (eq x) (each_once eq xs)) [] (x ∷ [])
 
@@ -66,16 +66,16 @@ module _ {A : Type 0} (eq : A → A → Bool) (decides : (x y : A) → Decides (
       ∙ ap (λ left. y ∷ left) (filter-append (λ z. not (eq y z)) (each_once eq xs) (added x xs))
       ∙ ap (λ more. y ∷ filter (λ z. not (eq y z)) (each_once eq xs) ++ more) (added-left x y xs)
 
-  -- One more thing that is there changes nothing.
+  -- An element that is there changes nothing.
   pub each_once-known : (xs : List A) (x : A) → list_any (eq x) (each_once eq xs) ≡ true → each_once eq (xs ++ x ∷ []) ≡ each_once eq xs
   each_once-known xs x known =
       each_once-last xs x ∙ ap (λ t. each_once eq xs ++ cond t [] (x ∷ [])) known ∙ append-nil (each_once eq xs)
 
-  -- One more thing that isn't there goes last.
+  -- A new element is added at the end.
   pub each_once-new : (xs : List A) (x : A) → list_any (eq x) (each_once eq xs) ≡ false → each_once eq (xs ++ x ∷ []) ≡ each_once eq xs ++ x ∷ []
   each_once-new xs x new = each_once-last xs x ∙ ap (λ t. each_once eq xs ++ cond t [] (x ∷ [])) new
 
-  -- no two of the things are equal
+  -- no two elements are equal
   abbrev pub AreApart : List A → Type 0
   AreApart [] = Unit {0}
   AreApart (x ∷ xs) = (list_any (eq x) xs ≡ false) × AreApart xs
@@ -105,12 +105,12 @@ module _ {A : Type 0} (eq : A → A → Bool) (decides : (x y : A) → Decides (
         | inr apart ↦ rw apart (or_from _ _ apart (any-without x xs))
       ]
 
-  -- The things once are apart.
+  -- Each element once: no two of them are equal.
   pub each_once-apart : (xs : List A) → AreApart (each_once eq xs)
   each_once-apart [] = tt
   each_once-apart (x ∷ xs) = (any-without x (each_once eq xs), apart-filter (λ z. not (eq x z)) (each_once eq xs) (each_once-apart xs))
 
-  -- what stands at a place is there
+  -- the element at a place is in the list
   pub any-at : (xs : List A) (p : ℕ) (x : A) → slice_get xs p ≡ Some x → list_any (eq x) xs ≡ true
   any-at [] p x at = absurd (let e : None ≡ Some x = at in cc)
   any-at (y ∷ xs) zero x at = let e : y ≡ x = cc in let here : eq x y ≡ true = (decides x y).1 (sym e) in rw here refl
@@ -122,7 +122,7 @@ module _ {A : Type 0} (eq : A → A → Bool) (decides : (x y : A) → Decides (
       let parts = or_parts (eq x y) (list_any (eq x) xs) none in
       ap₂ (λ z zs. z ∷ zs) (same y parts.0) (map-same f g x xs parts.1 same)
 
-  -- two functions that differ at one thing alone
+  -- mapping two functions that differ at one element only
   pub map-one : {B : Type 0} (f g : A → B) (xs : List A) (p : ℕ) (x : A) → AreApart xs → slice_get xs p ≡ Some x → ((y : A) → eq x y ≡ false → g y ≡ f y) → map g xs ≡ set (map f xs) p (g x)
   map-one f g [] p x apart at same = absurd (let e : None ≡ Some x = at in cc)
   map-one f g (y ∷ xs) zero x apart at same =

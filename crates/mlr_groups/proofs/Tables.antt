@@ -32,7 +32,7 @@ among-at text (key ∷ keys) (suc i) at =
       | inr apart ↦ ap (λ t. t || is_among (texts_in keys) text) apart ∙ among-at text keys i at.1
     ]
 
--- a key that isn't there goes last
+-- a new key is added at the end
 pub texts-push : (keys : Keys) (key : Vec ℕ Global) → is_among (texts_in keys) key.items ≡ false
     → texts_in (insert_key (λ x y. bytes_eq x.items y.items) keys key) ≡ texts_in keys ++ key.items ∷ []
 texts-push keys key new =
@@ -43,7 +43,7 @@ pub slice_get-last : {A : Type 0} (xs : List A) (x : A) → slice_get (xs ++ x �
 slice_get-last [] x = refl
 slice_get-last (y ∷ xs) x = slice_get-last xs x
 
--- keys with one that is there, and with one that isn't
+-- entering a known key and a new one
 pub entered-known : (keys : List (List ℕ)) (key : List ℕ) → is_among keys key ≡ true → entered keys key ≡ keys
 entered-known keys key known = ap (λ t. cond t keys (keys ++ key ∷ [])) known
 

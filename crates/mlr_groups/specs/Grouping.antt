@@ -12,7 +12,7 @@ use Rattle.text_forms.specs.Shown.{shown}
 abbrev pub Fields : Type 0
 Fields = List (List ℕ × Tree)
 
--- the texts of the named fields, if a record has all of them
+-- the texts of the named fields, if the record has all of these fields
 abbrev pub group_of : List (List ℕ) → Fields → Option (List (List ℕ))
 group_of [] fields = Some []
 group_of (name ∷ names) fields = elim (value_at name fields) [
@@ -24,7 +24,7 @@ group_of (name ∷ names) fields = elim (value_at name fields) [
 abbrev pub texts_of : List (List ℕ) → Fields → List (List ℕ)
 texts_of names fields = map (λ name. elim (value_at name fields) [ Some value ↦ shown value | None ↦ [] ]) names
 
--- whether two lists of texts are one
+-- whether two lists of texts are equal
 abbrev pub texts_eq : List (List ℕ) → List (List ℕ) → Bool
 texts_eq texts other = pointwise bytes_eq texts other
 
@@ -32,11 +32,11 @@ texts_eq texts other = pointwise bytes_eq texts other
 abbrev pub is_in : List (List ℕ) → List (List ℕ) → Fields → Bool
 is_in names texts fields = elim (group_of names fields) [ Some own ↦ texts_eq texts own | None ↦ false ]
 
--- the records of a group
+-- the records in a group
 abbrev pub members : List (List ℕ) → List (List ℕ) → List Fields → List Fields
 members names texts records = filter (is_in names texts) records
 
--- each thing once, at its first place
+-- each element once, at its first place
 abbrev pub each_once : {A : Type 0} → (A → A → Bool) → List A → List A
 each_once eq [] = []
 each_once eq (x ∷ xs) = x ∷ filter (λ other. not (eq x other)) (each_once eq xs)
@@ -45,7 +45,8 @@ each_once eq (x ∷ xs) = x ∷ filter (λ other. not (eq x other)) (each_once e
 abbrev pub groups_in : List (List ℕ) → List Fields → List (List (List ℕ))
 groups_in names records = each_once texts_eq (filter_map (group_of names) records)
 
--- the place of a record's group among those of a list of records; a record that lacks a field is in no group
+-- The place of a record's group among the groups of some records. A record without one of the named fields is
+-- in no group.
 abbrev pub IsGroupPlace : List (List ℕ) → List Fields → Fields → Option ℕ → Type 0
 IsGroupPlace names records fields place =
     MatchOption place (group_of names fields ≡ None) (λ p. (texts : List (List ℕ)) × (group_of names fields ≡ Some texts) × (slice_get (groups_in names records) p ≡ Some texts))

@@ -1,3 +1,4 @@
+//! The groups of the records so far, and the place of a record's group.
 ghost use Rattle.std.specs.Prelude.{◌≡◌, ◌++◌, ◌∷◌, [], ℕ, List, length, IfOk, OnOk};
 ghost use Rattle.mlr_groups.specs.Grouping.{Fields, IsGroupPlace, groups_in};
 ghost use Rattle.mlr_groups.specs.Represents.{GroupsOf};
@@ -9,8 +10,8 @@ use mlr_spec::NoMemory;
 use mlr_value::Bytes;
 use std::alloc::Global;
 
-/// The groups of the records so far, by the texts of the named fields, in the order in which they came first. Verbs
-/// keep what they know of a group at its place.
+/// The groups of the records so far, by the texts of the named fields, in the order in which they came first.
+/// Verbs keep the state of a group at its place.
 #[derive(Drop)]
 pub struct Groups {
     alloc: Global,
@@ -20,7 +21,7 @@ pub struct Groups {
 }
 
 impl Groups {
-    /// No groups yet. It takes no memory.
+    /// No groups yet. It doesn't allocate.
     pub fn new(alloc: Global, names: Names) -> Self
         ensures { GroupsOf names [] result }
     {
@@ -40,8 +41,9 @@ impl Groups {
         self.table.len()
     }
 
-    /// The place of a record's group, which counts from 0; a new group is put last. A record that lacks a named field is
-    /// in no group. It takes memory for a new group, and where the key of one is longer than those before.
+    /// The place of a record's group, which counts from 0; a new group is added at the end. A record without
+    /// one of the named fields is in no group. It allocates for a new group, and for a key that is longer
+    /// than those before.
     pub fn enter(&mut self, fields: &Record) -> Result<Option<usize>, NoMemory>
         ensures represents { OnOk result ((names : List (List ℕ)) (before : List Fields)
             → GroupsOf names before self.old
@@ -51,7 +53,7 @@ impl Groups {
             → IsGroupPlace names (before ++ fields.now ∷ []) fields.now place) }
     {
         if self.names.len() == 0 && self.table.len() > 0 {
-            // All records are in one group, and it is there.
+            // All records are in one group, which exists already.
             return Ok(Some(0));
         }
         self.key.clear();

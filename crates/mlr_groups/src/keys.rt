@@ -1,3 +1,4 @@
+//! Keys: one text for each list of texts, and a table of keys.
 ghost use Rattle.std.specs.Prelude.{◌≡◌, ◌++◌, ◌∷◌, [], false, true, length, if◌then◌else◌, is_ok, IfOk, OnOk, Some, None, slice_get};
 ghost use Rattle.std.specs.Option.{option_map};
 ghost use Rattle.mlr_spec.specs.Pairs.{are_distinct};
@@ -17,9 +18,9 @@ use std::alloc::Global;
 use std::marker::Model;
 use text_forms::{held_text, shown};
 
-/// Puts the key of the texts of the named fields behind `key`, with the empty text for a field that is missing. Two
-/// records have one key where all these texts are equal. It takes memory where `key` lacks the room, and for a moment
-/// where a value's text is printed and has more than 16 bytes.
+/// Appends to `key` the key of the texts of the named fields, with the empty text for a missing field. Two
+/// records have equal keys exactly if all these texts are equal. It allocates if `key` has no room, and, for
+/// a moment, to print a value of more than 16 bytes.
 pub fn append_texts(
     alloc: Global,
     names: &Names,
@@ -37,8 +38,8 @@ pub fn append_texts(
     Ok(())
 }
 
-/// Puts the key of a record's group behind `key`, and says whether the record is in one: where it lacks a named field,
-/// what was put is no key.
+/// Appends to `key` the key of a record's group, and returns whether the record is in a group. If a named
+/// field is missing, the appended bytes aren't a key.
 pub(crate) fn append_group(
     alloc: Global,
     names: &Names,
@@ -57,10 +58,10 @@ pub(crate) fn append_group(
     Ok(true)
 }
 
-/// What ends each text in a key. No text has it, since in texts a byte 0 has a 1 behind it.
+/// The end of each text in a key. It occurs in no text, since each byte 0 of a text is followed by a 1.
 const END: &[u8] = &[0, 0];
 
-/// Puts the text of a value and its end behind `key`.
+/// Appends the text of a value and its end to `key`.
 #[inline(always)]
 fn append_value(alloc: Global, value: &Value, key: &mut Bytes) -> Result<(), NoMemory>
     ensures { OnOk result (key.new ≡ key.old ++ escaped (shown (tree_of value.now)) ++ 0 ∷ 0 ∷ []) }
@@ -71,7 +72,7 @@ fn append_value(alloc: Global, value: &Value, key: &mut Bytes) -> Result<(), NoM
     }
 }
 
-/// Puts the text of a value that doesn't hold it, and its end, behind `key`.
+/// Appends the text of a value that must be printed, and its end, to `key`.
 #[inline(never)]
 fn append_printed(alloc: Global, value: &Value, key: &mut Bytes) -> Result<(), NoMemory>
     ensures { OnOk result (key.new ≡ key.old ++ escaped (shown (tree_of value.now)) ++ 0 ∷ 0 ∷ []) }
@@ -80,8 +81,8 @@ fn append_printed(alloc: Global, value: &Value, key: &mut Bytes) -> Result<(), N
     append_text(text.as_slice(), key)
 }
 
-/// Puts a text and its end behind `key`: one text after another makes the key of them all. It takes memory where `key`
-/// lacks the room.
+/// Appends a text and its end to `key`; the key of a list of texts is made by one call for each. It allocates
+/// if `key` has no room.
 #[inline(always)]
 pub fn append_text(text: &[u8], key: &mut Bytes) -> Result<(), NoMemory>
     ensures { OnOk result (key.new ≡ key.old ++ escaped text.now ++ 0 ∷ 0 ∷ []) }
@@ -90,7 +91,7 @@ pub fn append_text(text: &[u8], key: &mut Bytes) -> Result<(), NoMemory>
     key.append(END)
 }
 
-/// Puts a text behind `key`, in which each byte 0 has a 1 behind it.
+/// Appends a text to `key`, with a 1 after each byte 0.
 #[inline(always)]
 fn append_escaped(text: &[u8], key: &mut Bytes) -> Result<(), NoMemory>
     ensures { OnOk result (key.new ≡ key.old ++ escaped text.now) }
@@ -101,7 +102,7 @@ fn append_escaped(text: &[u8], key: &mut Bytes) -> Result<(), NoMemory>
     }
 }
 
-/// Puts a text with a byte 0 behind `key`, one byte after another.
+/// Appends a text that contains a byte 0 to `key`, byte by byte.
 #[inline(never)]
 fn append_each(text: &[u8], key: &mut Bytes) -> Result<(), NoMemory>
     ensures { OnOk result (key.new ≡ key.old ++ escaped text.now) }
@@ -115,7 +116,7 @@ fn append_each(text: &[u8], key: &mut Bytes) -> Result<(), NoMemory>
     Ok(())
 }
 
-/// Keys, no two of them equal, in the order in which they came first. A search goes by a hash of the key.
+/// Distinct keys, in the order in which they came first, which are looked up by their hash.
 #[derive(Drop)]
 pub struct KeyTable {
     alloc: Global,
@@ -132,7 +133,7 @@ impl Model for KeyTable {
 }
 
 impl KeyTable {
-    /// A table without keys. It takes no memory.
+    /// A table without keys. It doesn't allocate.
     pub fn new(alloc: Global) -> Self
         ensures { result ≡ [] }
     {
@@ -150,8 +151,8 @@ impl KeyTable {
         self.keys.len()
     }
 
-    /// The place of this key, which counts from 0; a key that isn't there is put last. It takes memory for a new key
-    /// alone.
+    /// The place of a key, which counts from 0; a new key is added at the end. It allocates only for a new
+    /// key.
     pub fn enter(&mut self, key: &[u8]) -> Result<usize, NoMemory>
         ensures entered { self.new ≡ (if is_ok result then entered self.old key.now else self.old) }
         ensures place { IfOk result (λ place. slice_get self.new place ≡ Some key.now) }
@@ -162,7 +163,7 @@ impl KeyTable {
         }
     }
 
-    /// Puts a key last that isn't there, and answers its place.
+    /// Adds a new key at the end, and returns its place.
     #[cold]
     #[inline(never)]
     fn push(&mut self, key: &[u8]) -> Result<usize, NoMemory>

@@ -1,5 +1,5 @@
-//! Records in groups, by the texts of some of their fields: which group a record is in, and how many of its group came
-//! before it.
+//! Records in groups, by the texts of some of their fields: which group a record is in, and how many of its
+//! group came before it.
 #![tactic(auto)]
 
 mod groups;

@@ -1,3 +1,4 @@
+//! How many records are in each group.
 ghost use Rattle.std.specs.Prelude.{◌≡◌, ◌++◌, ◌∷◌, ◌+◌, [], ℕ, List, IfOk, OnOk};
 ghost use Rattle.mlr_groups.specs.Grouping.{Fields};
 ghost use Rattle.mlr_groups.specs.Represents.{TalliesOf};
@@ -9,7 +10,7 @@ use mlr_record::Record;
 use mlr_spec::NoMemory;
 use std::alloc::Global;
 
-/// How many records so far are in each group.
+/// The number of records so far in each group.
 #[derive(Drop)]
 pub struct Tallies {
     groups: Groups,
@@ -17,7 +18,7 @@ pub struct Tallies {
 }
 
 impl Tallies {
-    /// No records yet. It takes no memory.
+    /// No records yet. It doesn't allocate.
     pub fn new(alloc: Global, names: Names) -> Self
         ensures { TalliesOf names [] result }
     {
@@ -27,8 +28,9 @@ impl Tallies {
         }
     }
 
-    /// Counts a record, and answers how many of its group came before it. A record that lacks a named field is in no
-    /// group. It takes memory for a new group, and where the key of one is longer than those before.
+    /// Counts a record, and returns the number of earlier records of its group. A record without one of the
+    /// named fields is in no group. It allocates for a new group, and for a key that is longer than those
+    /// before.
     pub fn count(&mut self, fields: &Record) -> Result<Option<u64>, NoMemory>
         ensures represents { OnOk result ((names : List (List ℕ)) (before : List Fields)
             → TalliesOf names before self.old
@@ -50,10 +52,10 @@ impl Tallies {
     }
 }
 
-/// The greatest count, at which counting stops: what a signed integer can hold.
+/// The greatest count, at which counting stops: the greatest signed integer of 64 bits.
 const MOST: u64 = (1 << 63) - 1;
 
-/// The count with one more record. It stops at 2^63 - 1.
+/// The count with one more record. It stays at 2^63 - 1.
 pub fn next_count(count: u64) -> u64
     ensures next { result ≡ capped (count + 1) }
     ensures counted { (n : ℕ) → count ≡ capped n → result ≡ capped (n + 1) }

@@ -39,7 +39,7 @@ fn digit(number: Option<u64>) -> u8 {
     }
 }
 
-/// Names, records after one another, the places of their groups, of which `-` is none, and how many groups there are.
+/// Names, records, the places of the records' groups, where `-` is no group, and the number of groups.
 const GROUPS: [(&str, &[u8], &[u8], usize); 7] = [
     ("a", b"a=x,b=1;b=1,a=y;b=1;a=y,b=2;a=x", b"01-10", 2),
     (
@@ -84,7 +84,7 @@ fn records_are_in_the_group_of_their_texts(rt: HostRuntime) -> Result<(), NoMemo
     Ok(())
 }
 
-/// Names, records after one another, and how many of the group of each came before it, where `-` is no group.
+/// Names, records, and for each record the number of earlier ones in its group, where `-` is no group.
 const TALLIES: [(&str, &[u8], &[u8]); 3] = [
     ("a", b"a=x;a=y;a=x;b=x;a=x,b=1;a=y", b"001-21"),
     (

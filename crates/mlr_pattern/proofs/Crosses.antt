@@ -1,4 +1,4 @@
--- A pattern may go into a thread, and may be shared by threads.
+-- A pattern may be moved to another thread, and may be shared by threads.
 use denote.Param.Send.{IsSend, IsSync, sendable}
 use Rattle.std.proofs.Crossing.{crosses}
 use Rattle.regex_hir.specs.contracts.hir.Hir
@@ -12,7 +12,7 @@ use Rattle.regex_dfa.proofs.dfa.Dfa.TheSendSync as dfa
 use Rattle.regex.specs.contracts.pattern.Pattern
 use Rattle.regex.specs.contracts.bytes.regex.Regex
 
--- into a thread, layer by layer
+-- moved to another thread, layer by layer
 Hir-send : IsSend Hir.the_row
 Hir-send = search (crosses, hir_knot.crosses, sendable) depth 60 fits 20000
 

@@ -1,4 +1,4 @@
--- What a refusal of `regex` means.
+-- What it means that `regex` refuses a text.
 use Rattle.std.proofs.Common.{◌≡◌, ◌≢◌, ℕ, List, Option, None, Some, IfSome, IsSomeAnd, inl, inr, arith}
 use Rattle.std.specs.Str.{chars}
 use Rattle.regex.specs.Patterns.{Config, Reads, Refuses}
@@ -15,7 +15,7 @@ none : {A : Type 0} (o : Option A) (P : A → Type 0) → o ≡ None → IsSomeA
 none None P e q = q
 none (Some x) P e q = absurd cc
 
--- a text that is refused by its syntax is no pattern
+-- a text that is refused for its syntax isn't a pattern
 pub no_pattern : (config : Config) (source : List ℕ) (kind : ErrorKind) → Refuses config source kind → kind ≢ OutOfMemory → ¬ (IsPattern config source)
 unfolding Reads Refuses
 no_pattern config source kind refused memory (hir, names, reads) = elim refused [

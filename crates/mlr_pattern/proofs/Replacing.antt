@@ -1,4 +1,4 @@
--- One match after another, as they are replaced.
+-- Matches are replaced one after another.
 use Rattle.std.proofs.Common.{◌≡◌, ℕ, zero, suc, ◌+◌, ◌-◌, ◌<◌, ◌≤◌, ◌==◌, nat_lt, false, List, ◌++◌, take, drop, length, Option, None, Some, Result, Ok, Err, is_ok, is_some, OnOk, IfSome, slice_range, if◌then◌else◌, sym, ap, ap₂, ◌∙◌, subst, arith, append_assoc, ne_eqb}
 use Rattle.std.proofs.lemmas.Bool.{cond-true, cond-false, le-ltb, lt-ltb}
 use Rattle.std.proofs.lemmas.Option.{none-some, same_Some}
@@ -20,7 +20,7 @@ pub on_ok : {A E : Type 0} (r : Result A E) (new a b c : List ℕ) → new ≡ (
 on_ok (Ok x) new a b c e h = e ∙ h
 on_ok (Err x) new a b c e h = tt
 
--- what was found under one search is found under another that finds the same
+-- the result of one search is the result of another that finds the same
 answers_as : {A : Type 0} (r : Option A) (f g : Option Match) (P Q : Match → A → Type 0) → f ≡ g →
     ((m : Match) (x : A) → f ≡ Some m → P m x → Q m x) → Answers r f P → Answers r g Q
 answers_as None f g P Q e h found = sym e ∙ found
@@ -33,11 +33,11 @@ module _ (re : Re) (text by : List ℕ) where
   abbrev gap : ℕ → Match → List ℕ
   gap after m = slice_range text (after - 1) m.start ++ written m
 
-  -- the end of the match is known, and its text was put
+  -- the end of the match is returned, and the text up to the match and its replacement were appended
   abbrev pub Appends : List ℕ → List ℕ → ℕ → Match → ℕ → Type 0
   Appends old new after m end = (end ≡ m.trace.end) × (new ≡ old ++ gap after m)
 
-  -- the same, where nothing was put for a match that ends before `after`
+  -- the same, but nothing was appended for a match that ends before `after`
   abbrev pub AppendsLate : List ℕ → List ℕ → ℕ → Match → ℕ → Type 0
   AppendsLate old new after m end = (end ≡ m.trace.end) × (new ≡ (if nat_lt m.trace.end after then old else old ++ gap after m))
 
@@ -52,7 +52,7 @@ module _ (re : Re) (text by : List ℕ) where
       next_same re text false after (λ m some. absurd (none-some m (sym none ∙ some))) ∙ none
   none_next after at old new (Some x) e is found = absurd cc
 
-  -- it finds one behind the last match
+  -- it finds one that ends after the last match
   pub some_next : (after at end : ℕ) (old new : List ℕ) (r : Option ℕ) → at ≡ after - 1 → r ≡ Some end → after ≤ end →
       Answers r (find re text at) (AppendsLate old new after) → Answers (Some end) (next_match false re text after) (Appends old new after)
   some_next after at end old new None e is h found = absurd cc
@@ -82,7 +82,7 @@ module _ (re : Re) (text by : List ℕ) where
         found.2.1 ∙ cond-true _ old (old ++ gap after m) (lt-ltb m.trace.end after before),
       )
 
-  -- then the second search finds the next match
+  -- then a second search, one byte later, finds the next match
   pub second_next : (after : ℕ) (old new : List ℕ) (first : Match) → find re text (after - 1) ≡ Some first → first.trace.end < after →
       (r : Option ℕ) → Answers r (find re text after) (AppendsLate old new after) →
       Answers r (next_match false re text after) (Appends old new after)
@@ -97,7 +97,7 @@ module _ (re : Re) (text by : List ℕ) where
   inside after old new (Some end) found =
       let at = next_within re text false after found.0 found.1 in (omega (arith, at.0, found.2.0), omega (arith, at.1, found.2.0))
 
-  -- the next match is the first of those that are left
+  -- the next match is the first of the remaining ones
   pub step : (after end : ℕ) (old new whole : List ℕ) → Answers (Some end) (next_match false re text after) (Appends old new after) →
       old ++ replaced_by written text (after - 1) (matches_after false re text after) ≡ whole →
       new ++ replaced_by written text (end + 1 - 1) (matches_after false re text (end + 1)) ≡ whole
@@ -141,7 +141,7 @@ module _ (re : Re) (text by : List ℕ) where
   none_whole First none = ap (λ ms. replaced text by (take 1 ms)) (sym (matches_after_bytes re text) ∙ matches_after_none re text false 0 none)
   none_whole All none = ap (λ ms. replaced text by ms) (sym (matches_after_bytes re text) ∙ matches_after_none re text false 0 none)
 
-  -- the first of all matches is found where the pattern matches somewhere
+  -- a first match is found exactly if the pattern matches somewhere
   pub found_first : (old new : List ℕ) (r : Option ℕ) → Answers r (next_match false re text 0) (Appends old new 0) → is_some r ≡ is_some (find re text 0)
   found_first old new None found = sym (ap is_some (sym first_is ∙ found))
   found_first old new (Some end) found = sym (ap is_some (sym first_is ∙ found.1))

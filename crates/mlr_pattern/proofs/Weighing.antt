@@ -10,11 +10,11 @@ use Rattle.std.proofs.lemmas.Str.{digit_value_digit}
 use Rattle.std.specs.List.{take_while, prefix_len}
 use Rattle.mlr_pattern.specs.Weight.{factor, factors, number_at_start}
 
--- a list that isn't empty is its first element before the rest
+-- a list that isn't empty is its first element followed by the rest
 pub whole_of_first : (xs : List ℕ) → 1 ≤ length xs → xs ≡ get_or xs 0 0 ∷ take (length xs - 1) (drop 1 xs)
 whole_of_first xs h = drop_more xs 0 0 (omega (arith, h)) ∙ ap (λ rest. get_or xs 0 0 ∷ rest) (sym (take_rest xs 1))
 
--- more digits make no smaller number
+-- more digits never make a number smaller
 pub grows : (n : ℕ) (digits : List ℕ) → n ≤ digits_value_after 10 n digits
 grows n [] = omega arith
 grows n (c ∷ digits) = omega (arith, grows (n * 10 + digit_value c) digits)
@@ -35,7 +35,7 @@ more_digits n m b text rest is h range e =
     ∙ ap (λ l. digits_value_after 10 n (take_while is_ascii_digit l)) (sym is)
     ∙ e
 
--- a number that is large already, and one whose digits have ended
+-- a number that has reached 1,000 already, and one whose digits have ended
 pub large_already : (n m : ℕ) (digits : List ℕ) → 1000 ≤ n → digits_value_after 10 n digits ≡ m → min n 1000 ≡ min 1000 m
 large_already n m digits h e = omega (arith, grows n digits)
 
@@ -62,11 +62,11 @@ no_less_than_1 [] = omega arith
 no_less_than_1 (b ∷ text) =
     mul-le-mul (factor_no_less b text) (no_less_than_1 text)
 
--- a weight of 1,000 stays so
+-- a weight of 1,000 or more stays so
 pub heavy_already : (w : ℕ) (text : List ℕ) → 1000 ≤ w → nat_le 1000 (w * factors text) ≡ true
 heavy_already w text h = le-leb 1000 _ (mul-le-mul h (no_less_than_1 text))
 
--- a factor counts up to 1,000
+-- a factor counts only up to 1,000
 pub capped : (w f rest : ℕ) → 1 ≤ w → 1 ≤ rest → nat_le 1000 (w * min 1000 f * rest) ≡ nat_le 1000 (w * (f * rest))
 capped w f rest hw hr = elim (cases_lt f 1000) [
   | inl lt ↦ ap (nat_le 1000) (ap (λ n. w * n * rest) (min-eq_right (omega (arith, lt))) ∙ mul_assoc w f rest)

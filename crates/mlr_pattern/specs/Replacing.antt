@@ -7,7 +7,8 @@ use Rattle.regex.specs.Replace.{group_bytes, replaced_by}
 use Rattle.mlr_pattern.specs.declared.which.Which.{Which}
 use Rattle.mlr_pattern.specs.declared.which.Which.TheVariants.{First, All}
 
--- what a replacement stands for: a backslash with a digit is the text of the group of this number, any other byte itself
+-- The replacement of a match: a backslash and a digit are replaced by the text of the group of this number,
+-- and any other byte is itself.
 abbrev pub filled : (ℕ → List ℕ) → List ℕ → List ℕ
 filled group [] = []
 filled group (b ∷ []) = b ∷ []
@@ -15,11 +16,12 @@ filled group (b ∷ d ∷ by) =
     if (b == backslash) && is_ascii_digit d then group (d - digit_zero) ++ filled group by
     else b ∷ filled group (d ∷ by)
 
--- the matches that are replaced, of those that `regex` finds in a text from left to right
+-- The matches that are replaced: the first or all of those that `regex` finds in a text, from left to right.
 abbrev pub matches_of : Which → Re → List ℕ → List Match
 matches_of First re text = take 1 (find_all re text)
 matches_of All re text = find_all re text
 
--- The text with each of these matches replaced. Group 0 is the match, and a group that doesn't stand in it has no text.
+-- The text with each of these matches replaced. Group 0 is the whole match, and a group that isn't part of
+-- the match has the empty text.
 abbrev pub replaced : List ℕ → List ℕ → List Match → List ℕ
 replaced text by matches = replaced_by (λ m. filled (group_bytes text m) by) text 0 matches

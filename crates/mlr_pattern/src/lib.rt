@@ -1,4 +1,5 @@
-//! The patterns of verbs: how a word gives a pattern, which texts are read as one, and how its matches are replaced.
+//! The patterns of verbs: the pattern that a word of a command line gives, which texts are patterns, and how
+//! matches are replaced.
 #![tactic(auto)]
 
 mod patterns;

@@ -1,3 +1,4 @@
+//! A list of patterns.
 ghost use Rattle.std.specs.Prelude.{◌≡◌, ◌++◌, ◌∷◌, [], length, if◌then◌else◌, is_ok, IfOk, map, slice_get};
 ghost use Rattle.std.specs.Arc.{arc_value};
 ghost use Rattle.std.specs.Option.{option_map};
@@ -9,7 +10,7 @@ use mlr_spec::NoMemory;
 use std::alloc::Global;
 use std::sync::Arc;
 
-/// Patterns, in order, as the options of verbs have them. A copy shares them.
+/// Patterns in order, as options of verbs have them. A copy shares them.
 #[derive(Drop)]
 pub struct Patterns {
     alloc: Global,
@@ -17,7 +18,7 @@ pub struct Patterns {
 }
 
 impl Patterns {
-    /// No patterns. It takes no memory.
+    /// No patterns. It doesn't allocate.
     pub fn new(alloc: Global) -> Self
         ensures { patterns_in result ≡ [] }
     {
@@ -27,14 +28,14 @@ impl Patterns {
         }
     }
 
-    /// How many patterns there are.
+    /// The number of patterns.
     pub fn len(&self) -> usize
         ensures { result ≡ length (patterns_in self.now) }
     {
         self.patterns.len()
     }
 
-    /// The pattern at this place, which counts from 0.
+    /// The pattern at a place, which counts from 0.
     pub fn at(&self, place: usize) -> Option<&Arc<Pattern>>
         ensures { option_map (λ pattern. regex_pattern (arc_value pattern.now)) result
             ≡ slice_get (patterns_in self.now) place }
@@ -51,7 +52,7 @@ impl Patterns {
         self.patterns.as_slice()
     }
 
-    /// Puts a pattern last.
+    /// Appends a pattern.
     pub fn push(&mut self, pattern: Arc<Pattern>) -> Result<(), NoMemory>
         ensures { patterns_in self.new ≡ (if is_ok result
             then patterns_in self.old ++ regex_pattern (arc_value pattern) ∷ []

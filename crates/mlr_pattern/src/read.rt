@@ -1,3 +1,4 @@
+//! Compiles the text of a pattern.
 ghost use Rattle.std.specs.Prelude.{◌≡◌, ◌≤◌, IfOk, IfErr};
 ghost use Rattle.regex.specs.Bytes.{regex_source, regex_config, IsReadFromSource};
 ghost use Rattle.mlr_pattern.specs.Weight.{weight};
@@ -11,15 +12,16 @@ use std::alloc::Global;
 /// Why a text gives no pattern.
 #[derive(Clone, Copy, Debug, PartialEq, Eq)]
 pub enum PatternFault {
-    /// The text is no pattern, or one that is nested too deep.
+    /// The text isn't a pattern, or is one that is nested too deep.
     Bad,
     /// The pattern is too large, and its weight is 1,000 or more.
     TooLarge,
-    /// No memory. A pattern of a lower weight that is too large is answered so too.
+    /// Memory ran out. A pattern of a lower weight that is too large gives this too.
     NoMemory,
 }
 
-/// Reads a pattern, which is UTF-8 and may match any bytes. With `either_case` letters match in either case.
+/// Compiles a pattern, which is UTF-8 and may match any bytes. With `either_case` it ignores the case of
+/// letters.
 pub fn read_pattern(alloc: Global, text: &[u8], either_case: bool) -> Result<Pattern, PatternFault>
     ensures source { IfOk result (λ pattern. regex_source pattern ≡ text.now) }
     ensures config { IfOk result (λ pattern. regex_config pattern ≡ options either_case) }

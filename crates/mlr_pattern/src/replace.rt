@@ -1,3 +1,4 @@
+//! Replaces the matches of a pattern in a text.
 ghost use Rattle.std.specs.Prelude.{◌≡◌, true, false, ◌+◌, ◌-◌, ◌<◌, ◌≤◌, ◌++◌, length, nat_lt, is_some, slice_range, unwrap_or, if◌then◌else◌, IfOk, OnOk, IfSome, IfNone};
 ghost use Rattle.regex.specs.Patterns.{find};
 ghost use Rattle.regex.specs.Search.{Answers, next_match};
@@ -21,7 +22,8 @@ pub fn matches(alloc: Global, pattern: &Pattern, text: &[u8]) -> Result<bool, No
     Ok(matcher.is_match(text))
 }
 
-/// The text with matches of a pattern replaced. In `by`, `\0` to `\9` stand for the match and its groups.
+/// The text with matches of a pattern replaced. In `by`, `\0` to `\9` are the texts of the match and of its
+/// groups.
 pub fn replaced(
     alloc: Global,
     pattern: &Pattern,
@@ -38,8 +40,8 @@ pub fn replaced(
     Ok(out)
 }
 
-/// Puts the text with matches replaced behind `out`. After NoMemory nothing is known of what was put. One matcher serves
-/// many texts.
+/// Appends to `out` the text with matches replaced. After NoMemory it isn't specified what was appended. One
+/// matcher serves many texts.
 pub fn append_replaced(
     matcher: &mut Matcher<'_>,
     text: &[u8],
@@ -57,7 +59,7 @@ pub fn append_replaced(
     out.append(text)
 }
 
-/// The text with matches replaced, or none where no match is found, so that the text stays as it is.
+/// The text with matches replaced, or None if there is no match, so that the text needs no copy.
 pub fn replaced_if_found(
     alloc: Global,
     matcher: &mut Matcher<'_>,
@@ -76,7 +78,7 @@ pub fn replaced_if_found(
     Ok(if found { Some(out) } else { None })
 }
 
-/// Puts the text with matches replaced, and nothing where no match is found. Answers whether one was found.
+/// Appends the text with matches replaced, and nothing if there is no match. Returns whether there is one.
 fn append_if_found(
     matcher: &mut Matcher<'_>,
     text: &[u8],
@@ -100,7 +102,7 @@ fn append_if_found(
     Ok(true)
 }
 
-/// Puts what follows the first match, which ends here.
+/// Appends the text after the first match, which ends at `end`.
 fn append_after(
     matcher: &mut Matcher<'_>,
     text: &[u8],
@@ -120,8 +122,8 @@ fn append_after(
     }
 }
 
-/// Puts what follows the last match, with all matches there replaced. `after` is one more than the end of the last
-/// match, or 0 before the first.
+/// Appends the text after the last match, with all matches in it replaced. `after` is one more than the end
+/// of the last match, or 0 before the first.
 fn append_rest(
     matcher: &mut Matcher<'_>,
     text: &[u8],
@@ -140,8 +142,8 @@ fn append_rest(
     out.append(&text[after.saturating_sub(1)..])
 }
 
-/// Puts the text up to the next match, and what replaces that match, and answers the end of the match. `after` is one
-/// more than the end of the last match, or 0 before the first.
+/// Appends the text up to the next match and the replacement of that match, and returns the end of the match.
+/// `after` is one more than the end of the last match, or 0 before the first.
 fn append_next(
     matcher: &mut Matcher<'_>,
     text: &[u8],
@@ -166,7 +168,7 @@ fn append_next(
     }
 }
 
-/// The same for the first match from `start` on, where nothing is put if it ends before `after`.
+/// The same for the first match from `start` on. It appends nothing if that match ends before `after`.
 fn append_found(
     matcher: &mut Matcher<'_>,
     text: &[u8],
@@ -213,7 +215,7 @@ fn append_match(
     Ok(whole.end())
 }
 
-/// Puts what the replacement stands for at a match.
+/// Appends the replacement of a match, with the texts of the groups.
 fn append_filled(found: &Captures<'_, '_>, by: &[u8], out: &mut Bytes) -> Result<(), NoMemory>
     ensures { OnOk result (out.new ≡ out.old ++ filled (group_text found.now) by.now) }
 {
@@ -224,7 +226,7 @@ fn append_filled(found: &Captures<'_, '_>, by: &[u8], out: &mut Bytes) -> Result
     Ok(())
 }
 
-/// Puts what the front of a replacement stands for, and answers the rest.
+/// Appends the text of the first byte or of the first `\0` to `\9` of a replacement, and returns the rest.
 fn append_part<'b>(
     found: &Captures<'_, '_>,
     by: &'b [u8],
@@ -247,7 +249,7 @@ fn append_part<'b>(
     }
 }
 
-/// What a group matched, and no text where it doesn't stand in the match.
+/// The text of a group, which is empty if the group isn't part of the match.
 fn text_of_group<'h>(found: &Captures<'_, 'h>, index: usize) -> &'h [u8]
     ensures { result.now ≡ group_text found.now index }
 {

@@ -1,4 +1,4 @@
-//! Which words and texts are patterns, and what their matches are replaced by, by tables.
+//! Tables of words and texts that are patterns, and of texts before and after matches are replaced.
 
 use crate::{
     Pattern, PatternFault, Patterns, Which, append_replaced, is_heavy, matches, pattern_word,
@@ -10,7 +10,7 @@ use std::alloc::Global;
 use std::sync::Arc;
 use std::test::Fail;
 
-/// A word, the text of its pattern, and whether either case of a letter matches.
+/// A word, the text of its pattern, and whether it ignores the case of letters.
 const WORDS: [(&[u8], &[u8], bool); 14] = [
     (b"abc", b"abc", false),
     (b"\"abc\"", b"abc", false),
@@ -28,7 +28,7 @@ const WORDS: [(&[u8], &[u8], bool); 14] = [
     (b"\"a\"b\"i", b"a\"b", true),
 ];
 
-/// A text, and whether it makes a heavy pattern.
+/// A text, and whether it is a heavy pattern.
 const WEIGHTS: [(&[u8], bool); 15] = [
     (b"", false),
     (b"abc", false),
@@ -47,7 +47,8 @@ const WEIGHTS: [(&[u8], bool); 15] = [
     (&[b'a'; 999], false),
 ];
 
-/// A text, whether either case matches, a haystack, and whether the pattern matches it or why the text is no pattern.
+/// A text, whether case is ignored, a haystack, and whether the pattern matches it or why the text isn't a
+/// pattern.
 const READ: [(&[u8], bool, &[u8], Result<bool, PatternFault>); 16] = [
     (b"b+", false, b"abc", Ok(true)),
     (b"b+", false, b"aBc", Ok(false)),
@@ -210,7 +211,7 @@ fn matches_are_replaced(rt: HostRuntime) -> Result<(), Fail> {
     Ok(())
 }
 
-/// The kinds that a change of texts gives.
+/// The kinds of values that a change of texts gives.
 #[derive(Clone, Copy, Debug, PartialEq, Eq)]
 enum Kind {
     Absent,
@@ -246,7 +247,7 @@ fn kind_of_text(text: &[u8]) -> Kind {
     }
 }
 
-/// A text, the text that is replaced where it comes first, the replacement, and the text afterwards.
+/// A text, the text to replace at its first place, the replacement, and the text after it.
 const PLAIN: [(&[u8], &[u8], &[u8], &[u8]); 11] = [
     (b"a.b.c", b".", b"", b"ab.c"),
     (b"a.b.c", b".b", b"\\0", b"a\\0.c"),
@@ -266,8 +267,8 @@ const PLAIN: [(&[u8], &[u8], &[u8], &[u8]); 11] = [
     (b"1.50", b".", b",", b"1,50"),
 ];
 
-/// Values that data doesn't have, with their kind after a change, and what they print after `.$` and `1` were replaced by
-/// `X`.
+/// Values of kinds that data doesn't have, each with its kind after a change, and with its texts after `.$`
+/// and after `1` were replaced by `X`.
 fn made(alloc: Global) -> Result<[(Value, Kind, &'static [u8], &'static [u8]); 6], NoMemory> {
     let int = IntValue {
         n: -12,

@@ -1,3 +1,4 @@
+//! `sub`, `gsub` and `ssub` on one value.
 ghost use Rattle.std.specs.Prelude.{◌≡◌, ◌++◌, unwrap_or, IfOk, OnOk};
 ghost use Rattle.mlr_spec.specs.JsonGrammar.{text_value};
 ghost use Rattle.mlr_spec.specs.Tree.{text_of};
@@ -14,8 +15,8 @@ use mlr_spec::NoMemory;
 use mlr_value::{Bytes, IntValue, Value};
 use std::alloc::Global;
 
-/// What the functions and verbs `sub` (the first match) and `gsub` (all matches) make of a value. One matcher serves many
-/// values. The text of a string in which nothing matches is kept without a copy.
+/// A value after the function or the verb `sub` (the first match) or `gsub` (all matches). One matcher serves
+/// many values. A string without a match is kept without a copy.
 pub fn sub_value(
     alloc: Global,
     matcher: &mut Matcher<'_>,
@@ -38,8 +39,7 @@ pub fn sub_value(
     }
 }
 
-/// What the function and the verb `ssub` make of a value. The text of a string that doesn't hold `old` is kept without a
-/// copy.
+/// A value after the function or the verb `ssub`. A string that doesn't contain `old` is kept without a copy.
 pub fn ssub_value(alloc: Global, value: Value, old: &[u8], by: &[u8]) -> Result<Value, NoMemory>
     ensures { IfOk result (λ made. tree_of made ≡ ssub_of old.now by.now (tree_of value)) }
 {
@@ -54,7 +54,8 @@ pub fn ssub_value(alloc: Global, value: Value, old: &[u8], by: &[u8]) -> Result<
     }
 }
 
-/// The text with the first place of `old` replaced, or none where it doesn't stand there, so that the text stays as it is.
+/// The text with the first `old` in it replaced, or None if it doesn't contain `old`, so that the text needs
+/// no copy.
 fn plainly_replaced_if_found(
     alloc: Global,
     text: &[u8],
@@ -77,7 +78,7 @@ fn plainly_replaced_if_found(
     }
 }
 
-/// Puts three texts, one behind the other.
+/// Appends three texts, one after another.
 fn append_around(prefix: &[u8], by: &[u8], back: &[u8], out: &mut Bytes) -> Result<(), NoMemory>
     ensures { OnOk result (out.new ≡ out.old ++ (prefix.now ++ by.now ++ back.now)) }
 {

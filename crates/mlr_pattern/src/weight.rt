@@ -1,10 +1,11 @@
+//! The weight of a pattern: whether it may be refused for its size.
 ghost use Rattle.std.specs.Prelude.{◌≡◌, min, nat_le};
 ghost use Rattle.mlr_pattern.specs.Weight.{weight, factor, number_at_start};
 
-/// From this weight on a pattern may be refused for its size.
+/// A pattern of this weight or more may be refused for its size.
 const HEAVY: usize = 1000;
 
-/// Whether the weight of a pattern is 1,000 or more. The weight begins with the count of bytes of the text, and is
+/// Whether the weight of a pattern is 1,000 or more. The weight is the number of bytes of the text,
 /// multiplied by each decimal number that directly follows a `{` or a `,`; the number 0 counts as 1.
 pub fn is_heavy(text: &[u8]) -> bool
     ensures { result ≡ nat_le 1000 (weight text.now) }
@@ -21,7 +22,7 @@ pub fn is_heavy(text: &[u8]) -> bool
     weight >= HEAVY
 }
 
-/// By what a byte multiplies the weight, in front of such a text, up to 1,000.
+/// The factor of the weight that a byte and the text after it give, at most 1,000.
 fn factor(byte: u8, following: &[u8]) -> usize
     ensures { result ≡ min 1000 (factor byte following.now) }
 {
@@ -32,7 +33,7 @@ fn factor(byte: u8, following: &[u8]) -> usize
     }
 }
 
-/// The decimal number at the front of a text, up to 1,000.
+/// The decimal number at the start of a text, at most 1,000.
 fn number_at_start(text: &[u8]) -> usize
     ensures { result ≡ min 1000 (number_at_start text.now) }
 {

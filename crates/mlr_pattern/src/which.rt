@@ -1,7 +1,8 @@
+//! Whether the first match or all matches are replaced.
 /// Which matches are replaced.
 #[derive(Clone, Copy, Debug, PartialEq, Eq)]
 pub enum Which {
-    /// The first match alone.
+    /// Only the first match.
     First,
     /// All matches, from left to right.
     All,

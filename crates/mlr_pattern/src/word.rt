@@ -1,16 +1,18 @@
+//! Reads the pattern in a word of a command line.
 ghost use Rattle.std.specs.Prelude.{◌≡◌};
 ghost use Rattle.mlr_pattern.specs.Word.{shed, is_either_case};
 
-/// A pattern as a word of a command line gives it.
+/// A pattern as given by a word of a command line.
 #[derive(Clone, Copy, Debug, PartialEq, Eq)]
 pub struct PatternWord<'a> {
     /// The text of the pattern, without the quotes of the word.
     pub text: &'a [u8],
-    /// Whether letters match in either case.
+    /// Whether the pattern ignores the case of letters.
     pub either_case: bool,
 }
 
-/// A word in double quotes sheds them, and after `"..."i` either case matches. Any other word is the text itself.
+/// The pattern that a word gives: `"..."` without its quotes, `"..."i` without its quotes and ignoring case,
+/// or else the whole word.
 pub fn pattern_word(word: &[u8]) -> PatternWord<'_>
     ensures text { result.text.now ≡ shed word.now }
     ensures either_case { result.either_case ≡ is_either_case word.now }

@@ -1,15 +1,15 @@
--- Steps of one target, one after the other.
+-- Two changes of one target, one after the other.
 use Rattle.std.proofs.Common.{◌≡◌, ℕ, List, [], ◌++◌, Option, Some, None, refl, ap, sym, ◌∙◌, append_assoc}
 use Rattle.std.proofs.lemmas.List.{append-nil}
 use Rattle.mlr_event.specs.declared.names.Target.{Target}
 use Rattle.mlr_world.specs.Outputs.{Held, ChangesAt, with_bytes}
 
--- a step that leaves what is there
+-- a change that leaves the target as it is
 pub ChangesAt-none : (target : Target) (step : Option (List ℕ) → Option (List ℕ) → Type 0) → ((before : Option (List ℕ)) → step before before) → (held : Option Held) → ChangesAt target step held held
 ChangesAt-none target step same None = tt
 ChangesAt-none target step same (Some held) = record { here = same (held target); elsewhere = λ other apart. refl }
 
--- two steps make one
+-- two changes make one
 pub ChangesAt-then : (target : Target) (first second both : Option (List ℕ) → Option (List ℕ) → Type 0)
     → ((a b c : Option (List ℕ)) → first a b → second b c → both a c)
     → (before now later : Option Held) → ChangesAt target first before now → ChangesAt target second now later → ChangesAt target both before later
@@ -31,7 +31,7 @@ pub with_bytes-twice : (first second : List ℕ) (before : Option (List ℕ)) �
 with_bytes-twice first second None = refl
 with_bytes-twice first second (Some held) = ap Some (append_assoc held first second)
 
--- a step that implies another
+-- a change that implies another
 pub ChangesAt-map : (target : Target) (first second : Option (List ℕ) → Option (List ℕ) → Type 0) → ((before now : Option (List ℕ)) → first before now → second before now)
     → (before now : Option Held) → ChangesAt target first before now → ChangesAt target second before now
 ChangesAt-map target first second weaken None None a = tt

@@ -1,4 +1,4 @@
--- What a reading that goes on does to the takes.
+-- How a reading that continues changes the bytes taken.
 use Rattle.std.proofs.Common.{◌≡◌, ℕ, zero, suc, ◌+◌, true, false, List, [], ◌∷◌, ◌++◌, length, take, drop, get_or, set, map, Some, IsSome, All, inl, inr, refl, ap, subst, sym, ◌∙◌, arith}
 use Rattle.std.specs.Option.{option_map}
 use Rattle.std.proofs.lemmas.List.{append_assoc, map-append, get_or_default, length-take, length-drop, take-append-drop, take_all, length-set, get_or-set_same}
@@ -23,7 +23,7 @@ module _ {E : Type 0} (make : E → Take) where
   last_take-map (x ∷ y ∷ xs) zero d h = absurd (omega arith)
   last_take-map (x ∷ y ∷ xs) (suc i) d h = last_take-map (y ∷ xs) i d (omega arith)
 
-  -- the last entry, written
+  -- setting the last entry of a list changes the last entry
   with_last-set : (change : Take → Take) (xs : List E) (i : ℕ) (d x' : E) → i + 1 ≡ length xs → make x' ≡ change (make (get_or xs i d))
       → map make (set xs i x') ≡ with_last change (map make xs)
   with_last-set change [] i d x' h e = refl
@@ -52,11 +52,11 @@ module _ (contents : List (InputName × List ℕ)) (readings : List Reading) (i 
   last_of : last_take (takes_of contents readings) ≡ Some (take_of contents reading)
   last_of = last_take-map (take_of contents) readings i reading last ∙ ap (λ r. Some (take_of contents r)) (sym is)
 
-  -- the text that was read of
+  -- the text of the entry that is read
   pub text-read : (entry : InputName × List ℕ) (text : List ℕ) → text ≡ (get_or contents reading.place entry).1 → text ≡ text_at contents reading.place
   text-read entry text e = e ∙ ap (λ x. x.1) (get_or_default contents reading.place entry (input.Stdin, []) fine.there)
 
-  -- a reading that went on by so many bytes
+  -- a reading that took more bytes
   grew : (n : ℕ) → takes_of contents (set readings i (record { place = reading.place; count = reading.count + n; ended = reading.ended }))
       ≡ with_last (grown (take n (drop reading.count (text_at contents reading.place)))) (takes_of contents readings)
   grew n =
@@ -99,7 +99,7 @@ module _ (contents : List (InputName × List ℕ)) (readings : List Reading) (i 
         all = rw last_of (fine.first ∙ ap Some (sym (take_all reading.count text h.0)));
       }
 
-  -- the last take after a reading was written
+  -- the last take after its reading was set
   last_of-set : (reading' : Reading) → last_take (takes_of contents (set readings i reading')) ≡ Some (take_of contents reading')
   last_of-set reading' =
       last_take-map (take_of contents) (set readings i reading') i reading' (simp length-set last)
@@ -118,7 +118,7 @@ module _ (contents : List (InputName × List ℕ)) (readings : List Reading) (i 
   pub name-ended : last_name (takes_of contents (set readings i (record { place = reading.place; count = reading.count; ended = true }))) ≡ last_name (takes_of contents readings)
   name-ended = ap last_name met_end ∙ last_name-with ended (λ take. refl) (takes_of contents readings)
 
--- a reading that begins, behind the others
+-- a new reading, appended to the others
 module _ (contents : List (InputName × List ℕ)) (readings readings' : List Reading) (name : InputName) (place : ℕ)
     (found : IsFirstPlace (λ entry. same_input entry.0 name) contents (Some place)) (pushed : readings' ≡ readings ++ record { place = place; count = 0; ended = false } ∷ []) where
   name-found : name_at contents place ≡ name

@@ -37,7 +37,7 @@ module _ (entries : List HeldText) (target : Target) (i : ℕ) (entry : HeldText
   fails_elsewhere : (other : Target) → (other ≡ target → ⊥) → is_of other entry ≡ false
   fails_elsewhere other differs = same_target-false entry.target other (λ e. differs (sym e ∙ its_target))
 
-  -- an entry of the same target in its place
+  -- an entry replaced by one of the same target
   pub changes-set : (step : Option (List ℕ) → Option (List ℕ) → Type 0) (entry' : HeldText) → entry'.target ≡ entry.target → step (Some entry.text.items) (Some entry'.text.items)
       → ChangesOnly target step (held_at (pairs_of entries)) (held_at (pairs_of (set entries i entry')))
   changes-set step entry' same h =
@@ -80,6 +80,6 @@ changes-push entries entries' target mode absent pushed =
           ∙ first_at-push_other (test other) value (pairs_of entries) (target, []) (same_target-false target other (λ e. differs (sym e)));
     }
 
--- a failed write of a front
+-- a failed write appends a prefix
 pub writes_prefix : (bytes : List ℕ) (n : ℕ) (before now : List ℕ) → now ≡ before ++ take n bytes → WriteLeaves bytes done.Failed (Some before) (Some now)
 writes_prefix bytes n before now e = (take n bytes, (drop n bytes, sym (take-append-drop n bytes)), ap Some e)

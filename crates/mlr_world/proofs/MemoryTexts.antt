@@ -1,4 +1,4 @@
--- What the first entry that passes a test gives.
+-- The first entry of a list that passes a test.
 use Rattle.std.proofs.Common.{◌≡◌, ℕ, zero, suc, ◌+◌, ◌<◌, Bool, true, false, cond, ◌||◌, List, [], ◌∷◌, ◌++◌, length, take, get_or, set, map, Some, None, refl, ap, sym, ◌∙◌, arith}
 use Rattle.std.specs.List.{list_any}
 use Rattle.std.specs.Str.{bytes_eq}
@@ -29,7 +29,7 @@ same_input-true (input.File name) (input.File other) h = ap input.File ((bytes_e
 pub same_input-from : (a b : InputName) → a ≡ b → same_input a b ≡ true
 same_input-from a b e = ap (same_input a) (sym e) ∙ same_input-refl a
 
--- what a test of two names says, in either case
+-- two names that differ aren't the same, and two that are the same are equal
 pub same_input-false : (a b : InputName) → (a ≡ b → ⊥) → same_input a b ≡ false
 same_input-false a b differ = false_from_ne_true (same_input a b) (λ e. differ (same_input-true a b e))
 
@@ -70,7 +70,7 @@ module _ {E V : Type 0} (test : E → Bool) (value : E → V) where
       let parts = or_parts (test entry) (list_any test (take i entries)) absent in
       rw parts.0 (first_at-place entries i d (omega arith) parts.1 here)
 
-  -- an entry in the place of one that failed the test, as it does itself
+  -- replacing an entry that failed the test by one that fails it too
   pub first_at-set_other : (entries : List E) (i : ℕ) (d entry : E) → i < length entries → test (get_or entries i d) ≡ false → test entry ≡ false
       → first_at test value (set entries i entry) ≡ first_at test value entries
   first_at-set_other [] i d entry below was is = refl
@@ -78,20 +78,20 @@ module _ {E V : Type 0} (test : E → Bool) (value : E → V) where
   first_at-set_other (first ∷ entries) (suc i) d entry below was is =
       ap (λ rest. cond (test first) (Some (value first)) rest) (first_at-set_other entries i d entry (omega arith) was is)
 
-  -- one more entry, which fails the test
+  -- appending an entry that fails the test
   pub first_at-push_other : (entries : List E) (entry : E) → test entry ≡ false → first_at test value (entries ++ entry ∷ []) ≡ first_at test value entries
   first_at-push_other [] entry is = rw is refl
   first_at-push_other (first ∷ entries) entry is =
       ap (λ rest. cond (test first) (Some (value first)) rest) (first_at-push_other entries entry is)
 
-  -- one more entry, the first that passes
+  -- appending an entry that is the first to pass
   pub first_at-push_first : (entries : List E) (entry : E) → list_any test entries ≡ false → test entry ≡ true → first_at test value (entries ++ entry ∷ []) ≡ Some (value entry)
   first_at-push_first [] entry absent is = rw is refl
   first_at-push_first (first ∷ entries) entry absent is =
       let parts = or_parts (test first) (list_any test entries) absent in
       rw parts.0 (first_at-push_first entries entry parts.1 is)
 
--- the first of a list that was made from another
+-- the first entry of a mapped list
 pub first_at-map : {E F V : Type 0} (test : F → Bool) (value : F → V) (make : E → F) (entries : List E) → first_at test value (map make entries) ≡ first_at (λ entry. test (make entry)) (λ entry. value (make entry)) entries
 first_at-map test value make [] = refl
 first_at-map test value make (entry ∷ entries) =
@@ -100,7 +100,7 @@ first_at-map test value make (entry ∷ entries) =
 pub false_test : (t : Bool) → t ≡ false → t ≡ true → ⊥
 false_test t off on = absurd cc
 
--- a search that has come to a place
+-- a search that has reached a place
 module _ {E : Type 0} (test : E → Bool) (entries : List E) (i : ℕ) (entry : E)
     (below : i < length entries) (is : entry ≡ get_or entries i entry) (absent : list_any test (take i entries) ≡ false) where
   pub list_any-goes_on : test entry ≡ false → list_any test (take (i + 1) entries) ≡ false
@@ -110,7 +110,7 @@ module _ {E : Type 0} (test : E → Bool) (entries : List E) (i : ℕ) (entry : 
   pub is_first_place : test entry ≡ true → IsFirstPlace test entries (Some i)
   is_first_place passes = (below, absent, λ d. ap test (sym (get_or_read entries i entry below is d)) ∙ passes)
 
--- a search that has come to the end, and one more entry there
+-- a search that has reached the end, and an entry appended there that passes
 pub is_first_place-pushed : {E : Type 0} (test : E → Bool) (entries : List E) (entry : E) → list_any test entries ≡ false → test entry ≡ true → IsFirstPlace test (entries ++ entry ∷ []) (Some (length entries))
 is_first_place-pushed test entries entry absent passes =
     (simp length-append (omega arith), ap (list_any test) (take-append_seam entries (entry ∷ [])) ∙ absent, λ d. ap test (get_or-append_seam entries entry [] d) ∙ passes)

@@ -1,4 +1,4 @@
--- What the inputs that never fail tell.
+-- The contents of the inputs that never fail.
 use Rattle.std.proofs.Common.{◌≡◌, ◌≤◌, ◌<◌, ℕ, Bool, true, false, cond, List, [], ◌∷◌, ◌++◌, length, take, get_or, map, Some, All, refl, ap, subst, sym, ◌∙◌, arith}
 use Rattle.std.proofs.lemmas.List.{get_or_append_left, take-append-le, length-append}
 use Rattle.std.proofs.lemmas.List.Elements.{All-tail}
@@ -12,7 +12,7 @@ use Rattle.mlr_world.specs.Outputs.{or_empty}
 use Rattle.mlr_world.specs.SureContents.{sure_contents, empty_entry, AddsEmpty, SureState}
 use Rattle.mlr_world.proofs.MemoryInputs.{all_fine-begun}
 
--- a first entry stays the first with others behind
+-- the first entry that passes stays the first when others are appended
 first_at-found : {E V : Type 0} (test : E → Bool) (value : E → V) (found : V) (entries more : List E) → first_at test value entries ≡ Some found → first_at test value (entries ++ more) ≡ Some found
 first_at-found test value found [] more h = absurd cc
 first_at-found test value found (entry ∷ entries) more h = by_test (test entry) h (first_at-found test value found entries more)
@@ -23,7 +23,7 @@ first_at-found test value found (entry ∷ entries) more h = by_test (test entry
     by_test true h rest = h
     by_test false h rest = rest h
 
--- empty entries tell nothing more
+-- empty entries change no contents
 sure_contents-empty : (names : List InputName) (name : InputName) → or_empty (contents_at (map empty_entry names) name) ≡ []
 sure_contents-empty [] name = refl
 sure_contents-empty (first ∷ names) name = by_test (same_input first name) (sure_contents-empty names name)
@@ -66,7 +66,7 @@ module _ (entries more : List (InputName × List ℕ)) where
   all_fine-kept : (readings : List Reading) → All (IsReading entries) readings → All (IsReading (entries ++ more)) readings
   all_fine-kept readings fine = λ i reading below. reading-kept (get_or readings i reading) (fine i reading below)
 
--- a state that got empty entries, for names that were not listed
+-- a state to which empty entries were added, for names that were not listed
 module _ (given : ℕ) (entries entries' : List (InputName × List ℕ)) (readings : List Reading) (state : SureState given entries readings) (added : AddsEmpty entries entries') where
   pub state-kept : SureState given entries' readings
   state-kept =

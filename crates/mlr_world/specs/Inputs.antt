@@ -22,36 +22,37 @@ read_failed got.End = false
 read_failed got.Failed = true
 read_failed got.NoMemory = false
 
--- what is open after an open
+-- the input that is open after an open
 abbrev pub opens : InputName → Opened → Option InputName
 opens name opened.Ok = Some name
 opens name opened.Failed = None
 opens name opened.NoMemory = None
 
--- an open that answered Ok has an entry of its own
+-- a successful open adds an entry for its input to what was taken; one that fails changes nothing
 abbrev pub OpenTakes : InputName → Opened → Option (List Take) → Option (List Take) → Type 0
 OpenTakes name opened.Ok before now = now ≡ option_map (λ takes. takes ++ begun name ∷ []) before
 OpenTakes name opened.Failed before now = now ≡ before
 OpenTakes name opened.NoMemory before now = now ≡ before
 
--- where contents are told, only a name that has contents is opened
+-- where the contents are known, only a name that has contents can be opened
 abbrev pub OpenFinds : InputName → Opened → Option Contents → Type 0
 OpenFinds name opened.Ok contents = IfSome contents (λ told. IsSome (told name))
 OpenFinds name opened.Failed contents = Unit {0}
 OpenFinds name opened.NoMemory contents = Unit {0}
 
--- where contents and takes are told, what was taken of the open input, these bytes and some rest are all that it holds
+-- where the contents and the bytes taken are known: the contents of the open input begin with the bytes taken
+-- from it, followed by this piece
 abbrev pub Continues : Option Contents → Option (List Take) → List ℕ → Type 0
 Continues contents taken piece =
     IfSome contents (λ told. IfSome taken (λ takes. IfSome (last_take takes) (λ take.
     (rest : List ℕ) × (told take.name ≡ Some (take.bytes ++ piece ++ rest)))))
 
--- where they are told, all that the open input holds was taken
+-- where they are known: the bytes taken from the open input are all of its contents
 abbrev pub IsAllTaken : Option Contents → Option (List Take) → Type 0
 IsAllTaken contents taken =
     IfSome contents (λ told. IfSome taken (λ takes. IfSome (last_take takes) (λ take. told take.name ≡ Some take.bytes)))
 
--- A read took n bytes.
+-- A read appends n bytes, at least one, which continue the open input.
 pub record TakesPiece (max n : ℕ) (contents : Option Contents) (before now : Option (List Take)) (into into' : List ℕ) : Type 0 where
   pub piece : List ℕ
   pub count : length piece ≡ n
@@ -61,13 +62,13 @@ pub record TakesPiece (max n : ℕ) (contents : Option Contents) (before now : O
   pub entry : now ≡ option_map (with_last (grown piece)) before
   pub prefix : Continues contents before piece
 
--- A read met the end, exactly where all was taken.
+-- A read meets the end of the open input, which happens only when all of its contents were taken.
 pub record MeetsEnd (contents : Option Contents) (before now : Option (List Take)) (into into' : List ℕ) : Type 0 where
   pub unchanged : into' ≡ into
   pub entry : now ≡ option_map (with_last ended) before
   pub all : IsAllTaken contents before
 
--- A read took nothing.
+-- A read takes nothing.
 pub record TakesNothing (before now : Option (List Take)) (into into' : List ℕ) : Type 0 where
   pub unchanged : into' ≡ into
   pub entry : now ≡ before

@@ -1,4 +1,4 @@
--- The inputs in memory: what each name holds, and what was taken.
+-- The inputs in memory: the contents of each name, and the bytes taken.
 use Rattle.std.specs.Prelude.{◌≡◌, ◌≤◌, ◌<◌, ◌+◌, ◌++◌, ◌⊎◌, ℕ, Bool, true, false, List, [], length, take, drop, map, Option, Some, None, slice_index_or}
 use Rattle.std.specs.Option.{option_map}
 use Rattle.mlr_event.specs.declared.names.InputName.{InputName}
@@ -20,7 +20,7 @@ name_at contents place = (entry_at contents place).0
 abbrev pub text_at : List (InputName × List ℕ) → ℕ → List ℕ
 text_at contents place = (entry_at contents place).1
 
--- what a reading has taken: the first bytes of its entry
+-- the bytes taken by a reading: the first bytes of its entry
 abbrev pub take_of : List (InputName × List ℕ) → Reading → Take
 take_of contents reading =
     record {
@@ -32,22 +32,22 @@ take_of contents reading =
 abbrev pub takes_of : List (InputName × List ℕ) → List Reading → List Take
 takes_of contents readings = map (take_of contents) readings
 
--- the name of the last take
+-- the name of the input that was opened last
 abbrev pub last_name : List Take → Option InputName
 last_name taken = option_map (λ take. take.name) (last_take taken)
 
--- the same, if it is open
+-- the same, if it is still open
 abbrev pub open_of : Bool → List Take → Option InputName
 open_of true taken = last_name taken
 open_of false taken = None
 
--- a reading stands within the first entry of its name
+-- a reading is of the first entry of its name, and has taken no more bytes than the entry has
 pub record IsReading (contents : List (InputName × List ℕ)) (reading : Reading) : Type 0 where
   pub there : reading.place < length contents
   pub within : reading.count ≤ length (text_at contents reading.place)
   pub first : contents_at contents (name_at contents reading.place) ≡ Some (text_at contents reading.place)
 
--- what a read of at most so many bytes, from this place of a text on, puts behind the others
+-- a read of at most `max` bytes of a text, from a place on, appends the bytes there
 abbrev pub TakesFrom : ℕ → List ℕ → ℕ → Got → List ℕ → List ℕ → Type 0
 TakesFrom max text place (got.Some n) into into' =
     (0 < n) × (n ≤ max) × (place + n ≤ length text) × (into' ≡ into ++ take n (drop place text))
@@ -55,14 +55,14 @@ TakesFrom max text place got.End into into' = (length text ≤ place) × (into' 
 TakesFrom max text place got.Failed into into' = ⊥
 TakesFrom max text place got.NoMemory into into' = into' ≡ into
 
--- one that gives bytes gives as many as it may, or all that are left
+-- a read that gives bytes gives `max` of them, or all the remaining ones
 abbrev pub TakesMostFrom : ℕ → List ℕ → ℕ → Got → Type 0
 TakesMostFrom max text place (got.Some n) = (n ≡ max) ⊎ (length text ≡ place + n)
 TakesMostFrom max text place got.End = Unit {0}
 TakesMostFrom max text place got.Failed = Unit {0}
 TakesMostFrom max text place got.NoMemory = Unit {0}
 
--- the same, by what was taken when it is done
+-- the same, by the bytes that are taken after the read
 abbrev pub TakesMost : ℕ → Got → Option Contents → Option (List Take) → Type 0
 TakesMost max (got.Some n) contents now = (n ≡ max) ⊎ IsAllTaken contents now
 TakesMost max got.End contents now = Unit {0}

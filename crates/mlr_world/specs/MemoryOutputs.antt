@@ -10,6 +10,6 @@ pair_of entry = (entry.target, entry.text.items)
 abbrev pub pairs_of : List HeldText → List (Target × List ℕ)
 pairs_of entries = map pair_of entries
 
--- whether an entry is of this target
+-- whether an entry is the one of a target
 abbrev pub is_of : Target → HeldText → Bool
 is_of target entry = same_target entry.target target

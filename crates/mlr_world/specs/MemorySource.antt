@@ -1,20 +1,20 @@
--- What the inputs in memory show.
+-- The state of the inputs in memory that contracts see.
 use Rattle.std.specs.Prelude.{ℕ, List, [], Option, None}
 use Rattle.mlr_event.specs.declared.names.InputName.{InputName}
 use Rattle.mlr_world.specs.MemoryTexts.{same_input, first_at}
 use Rattle.mlr_world.specs.Taken.{Take}
 
 pub record Source : Type 0 where
-  -- the names with what they hold; the first entry of a name counts
+  -- the names with their contents; the first entry of a name counts
   pub contents : List (InputName × List ℕ)
   pub taken : List Take
   pub open_name : Option InputName
   pub faults : ℕ
 
--- before the first call
+-- the state before the first call
 abbrev pub source_of : List (InputName × List ℕ) → Source
 source_of contents = record { contents = contents; taken = []; open_name = None; faults = 0 }
 
--- what a name holds
+-- the contents of a name
 abbrev pub contents_at : List (InputName × List ℕ) → InputName → Option (List ℕ)
 contents_at contents name = first_at (λ entry. same_input entry.0 name) (λ entry. entry.1) contents

@@ -1,4 +1,4 @@
--- The first entry of a list that passes a test.
+-- The first entry of a list that passes a test, and when two names or targets are the same.
 use Rattle.std.specs.Prelude.{◌≡◌, ◌<◌, ℕ, Bool, true, false, List, [], ◌∷◌, length, take, Option, Some, None, MatchOption, slice_index_or, if◌then◌else◌}
 use Rattle.std.specs.List.{list_any}
 use Rattle.std.specs.Str.{bytes_eq}
@@ -7,7 +7,7 @@ use Rattle.mlr_event.specs.declared.names.InputName.TheVariants as input
 use Rattle.mlr_event.specs.declared.names.Target.{Target}
 use Rattle.mlr_event.specs.declared.names.Target.TheVariants as target
 
--- whether two names are one
+-- whether two names are the same
 abbrev pub same_input : InputName → InputName → Bool
 same_input input.Stdin input.Stdin = true
 same_input input.Stdin (input.File other) = false
@@ -30,7 +30,7 @@ abbrev pub first_at : {E V : Type 0} → (E → Bool) → (E → V) → List E �
 first_at test value [] = None
 first_at test value (entry ∷ entries) = if test entry then Some (value entry) else first_at test value entries
 
--- the place of the first entry that passes, or none where no entry does
+-- the place of the first entry that passes, or None if no entry passes
 abbrev pub IsFirstPlace : {E : Type 0} → (E → Bool) → List E → Option ℕ → Type 0
 IsFirstPlace {E} test entries place =
     MatchOption place (list_any test entries ≡ false)

@@ -1,18 +1,18 @@
--- What was taken from the inputs.
+-- The bytes that were taken from the inputs.
 use Rattle.std.specs.Prelude.{ℕ, Bool, true, false, List, [], ◌∷◌, ◌++◌, Option, Some, None}
 use Rattle.mlr_event.specs.declared.names.InputName.{InputName}
 
--- one input that was opened: its name, the bytes taken from it, and whether its end was met
+-- an input that was opened: its name, the bytes taken from it, and whether its end was met
 pub record Take : Type 0 where
   pub name : InputName
   pub bytes : List ℕ
   pub ended : Bool
 
--- an input that was opened just now
+-- an input that was just opened
 abbrev pub begun : InputName → Take
 begun name = record { name = name; bytes = []; ended = false }
 
--- one with more bytes, and one whose end was met
+-- an input with more bytes taken, and one whose end was met
 abbrev pub grown : List ℕ → Take → Take
 grown piece take = record { name = take.name; bytes = take.bytes ++ piece; ended = take.ended }
 

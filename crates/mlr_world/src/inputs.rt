@@ -1,3 +1,4 @@
+//! Inputs: files by name and standard input, which are opened and read piece by piece.
 ghost use Rattle.std.specs.Prelude.{◌≡◌, ◌≤◌, ℕ, List, Option, IsSome, IfSome};
 ghost use Rattle.mlr_event.specs.declared.names.InputName.{InputName};
 ghost use Rattle.mlr_world.specs.Counts.{Counted};
@@ -7,48 +8,48 @@ ghost use Rattle.mlr_world.specs.Inputs.{OpenTakes, OpenFinds, opens, open_faile
 use mlr_event::InputName;
 use mlr_value::Bytes;
 
-/// How an input was opened.
+/// The result of opening an input.
 #[derive(Clone, Copy, Debug, PartialEq, Eq)]
 pub enum Opened {
-    /// It is open, and nothing was taken from it yet.
+    /// The input is open, and nothing was taken from it yet.
     Ok,
-    /// It can't be opened. The fault was counted.
+    /// The input can't be opened. The fault was counted.
     Failed,
-    /// There was no memory.
+    /// The call ran out of memory.
     NoMemory,
 }
 
-/// What a read gave.
+/// The result of a read.
 #[derive(Clone, Copy, Debug, PartialEq, Eq)]
 pub enum Got {
-    /// So many bytes, at least one.
+    /// The number of bytes read, at least one.
     Some(usize),
     /// The input has ended.
     End,
     /// The read failed. The fault was counted.
     Failed,
-    /// There was no memory for the bytes.
+    /// The read ran out of memory for the bytes.
     NoMemory,
 }
 
-/// Inputs by name, one of them open at a time.
+/// Inputs by name, at most one of them open at a time.
 ///
-/// What an object holds and what was taken from it are told where it can tell them: files and pipes can't, and
-/// then the clauses on bytes say nothing.
+/// The contents of the inputs and the bytes taken from them are Some where an object can know them. They are
+/// None for files and pipes, and then the clauses on bytes say nothing.
 pub trait Inputs {
-    /// What each name holds, None for a name that holds nothing. It doesn't change.
+    /// The contents of each name, or None for a name without contents. They don't change.
     ghost contents: { Self → Option (InputName → Option (List ℕ)) };
 
-    /// What was taken, with one entry for each open that answered Ok, in order.
+    /// The bytes taken, with one entry for each successful open, in order.
     ghost taken: { Self → Option (List Take) };
 
-    /// The input that is open.
+    /// The name of the open input.
     ghost open_name: { Self → Option InputName };
 
-    /// How often a call on this name has failed. It never falls, and stands still at 2^64 - 1.
+    /// How many calls on a name have failed. The count never falls, and stays at 2^64 - 1.
     ghost faults: { Self → InputName → ℕ };
 
-    /// Opens an input at its start, and closes the one that was open. Where it doesn't answer Ok, none is open.
+    /// Opens an input at its start, and closes the one that was open. Unless it returns Ok, no input is open.
     fn open(&mut self, name: &InputName) -> Opened
         ensures contents { contents self.new ≡ contents self.old }
         ensures open { open_name self.new ≡ opens name.now result }
@@ -57,7 +58,8 @@ pub trait Inputs {
         ensures counts { Counted (open_failed result) (faults self.old) (faults self.new)
             name.now };
 
-    /// Takes up to `max` bytes of the open input, and puts them behind `into`. After the end it answers End again.
+    /// Reads up to `max` bytes of the open input, and appends them to `into`. After the end it returns End
+    /// again.
     fn read(&mut self, max: usize, into: &mut Bytes) -> Got
         requires open { IsSome (open_name self.old) }
         requires some { 1 ≤ max }

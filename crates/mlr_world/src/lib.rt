@@ -1,5 +1,5 @@
-//! The world that a run reads from and writes to: the traits `Inputs` and `Outputs`, which say in contracts what
-//! was taken from each input and what stands in each output, with objects in memory and the real ones.
+//! What a run reads from and writes to: the traits `Inputs` and `Outputs`, whose contracts say what was taken
+//! from each input and what each output holds, with implementations in memory and on the real system.
 #![tactic(auto)]
 
 mod inputs;

@@ -1,3 +1,4 @@
+//! Inputs in memory for tests, with chosen sizes of pieces and chosen failures.
 ghost use Rattle.std.specs.Prelude.{◌≡◌, ◌<◌, ◌≤◌, false, Some, IfOk, IfSome, IsSome, All, length, min};
 ghost use Rattle.mlr_event.specs.declared.names.InputName.{InputName};
 ghost use Rattle.mlr_world.specs.Counts.{Counted};
@@ -14,7 +15,7 @@ use mlr_value::Bytes;
 use std::alloc::Global;
 use std::marker::Model;
 
-/// The calls that are to fail, by their numbers from 1, and how many calls there were.
+/// The numbers, from 1, of the calls that fail, and the number of calls so far.
 #[derive(Drop)]
 pub(crate) struct Failing {
     numbers: Vec<u64>,
@@ -26,14 +27,14 @@ impl Failing {
         Failing { numbers, calls: 0 }
     }
 
-    /// Counts a call, and says whether it is to fail.
+    /// Counts a call, and returns whether it fails.
     pub(crate) fn next(&mut self) -> bool {
         self.calls = self.calls.saturating_add(1);
         self.numbers.contains(&self.calls)
     }
 }
 
-/// What was taken from one input: of the entry at this place, so many of its first bytes.
+/// The bytes taken from one opened input: the first `count` bytes of the entry at `place`.
 #[derive(Clone, Copy)]
 pub(crate) struct Reading {
     pub(crate) place: usize,
@@ -41,8 +42,7 @@ pub(crate) struct Reading {
     pub(crate) ended: bool,
 }
 
-/// Inputs in memory, for tests: they give what they are told to hold, in pieces of the sizes that they are told,
-/// and fail at the calls that they are told.
+/// Inputs in memory, for tests: the contents, the sizes of the pieces and the calls that fail are all given.
 pub struct MemInputs {
     contents: Vec<(InputName, Bytes)>,
     pieces: Vec<usize>,
@@ -53,7 +53,7 @@ pub struct MemInputs {
     faults: u64,
 }
 
-// Written out, so that the crates above call it and don't go into the fields.
+// Written by hand, so that the crates above call it instead of dropping the fields themselves.
 impl Drop for MemInputs {
     fn drop(self) {
         let MemInputs {
@@ -93,11 +93,11 @@ impl Model for MemInputs {
 }
 
 impl MemInputs {
-    /// Inputs with these contents, where the first entry of a name counts and opening any other name is a fault.
+    /// Inputs with these contents. The first entry of a name counts, and opening any other name is a fault.
     ///
-    /// The successful read number i, where it gives bytes, gives at most `pieces[i]` of them, at least one; past
-    /// the list a read gives all that it may. `failing` has the numbers, from 1 over all calls of `open` and
-    /// `read`, of those that fail.
+    /// The i-th successful read that gives bytes gives at most `pieces[i]` of them, and at least one; after
+    /// the end of the list a read gives as many as it may. `failing` has the numbers, from 1 over all calls
+    /// of `open` and `read`, of those that fail.
     pub fn new(
         alloc: Global,
         contents: Vec<(InputName, Bytes)>,
@@ -187,7 +187,7 @@ fn size_at(pieces: &[usize], number: usize) -> usize
     }
 }
 
-/// Goes on with the last reading.
+/// Reads more of the input that was opened last.
 pub(crate) fn take_on(
     contents: &[(InputName, Bytes)],
     readings: &mut Vec<Reading>,
@@ -231,7 +231,7 @@ pub(crate) fn take_on(
     got
 }
 
-/// Takes of the text from this place on, at most `max` bytes and at most `size`.
+/// Appends bytes of the text from this place on, at most `max` and at most `size`.
 fn take_from(text: &[u8], place: usize, max: usize, size: usize, into: &mut Bytes) -> Got
     requires some { 0 < max }
     requires piece { 0 < size }

@@ -1,3 +1,4 @@
+//! Outputs in memory for tests, with limited room and chosen failures.
 ghost use Rattle.std.specs.Prelude.{◌≡◌, ◌++◌, ◌∷◌, [], false, Some, IfOk, if◌then◌else◌, is_ok};
 ghost use Rattle.std.specs.Option.{option_map};
 ghost use Rattle.mlr_event.specs.declared.names.Target.{Target};
@@ -22,8 +23,7 @@ pub(crate) struct HeldText {
     pub(crate) text: Vec<u8>,
 }
 
-/// Outputs in memory, for tests: they keep what is written, have room for so many bytes, and fail at the calls
-/// that they are told.
+/// Outputs in memory, for tests: they keep the bytes written; their room and the calls that fail are given.
 pub struct MemOutputs {
     alloc: Global,
     held: Vec<HeldText>,
@@ -33,7 +33,7 @@ pub struct MemOutputs {
     shortages: u64,
 }
 
-// Written out, so that the crates above call it and don't go into the fields.
+// Written by hand, so that the crates above call it instead of dropping the fields themselves.
 impl Drop for MemOutputs {
     fn drop(self) {
         let MemOutputs {
@@ -65,12 +65,12 @@ impl Model for MemOutputs {
 }
 
 impl MemOutputs {
-    /// Outputs that hold these texts, where the first entry of a target counts, and standard output and standard
-    /// error, which are empty unless they stand in the list.
+    /// Outputs that hold these texts, and standard output and standard error, which are empty unless they are
+    /// in the list. The first entry of a target counts.
     ///
-    /// `room` is the number of bytes that may be written over all targets. The memory for them is taken here, and
-    /// by each open that adds a target. `failing` has the numbers, from 1 over all calls of `open`, `write` and
-    /// `close`, of those that fail; a write that fails leaves half of its bytes.
+    /// `room` is the number of bytes that may be written over all targets. The memory for them is allocated
+    /// here, and by each open that adds a target. `failing` has the numbers, from 1 over all calls of `open`,
+    /// `write` and `close`, of those that fail; a write that fails writes half of its bytes.
     pub fn new(
         alloc: Global,
         held: Vec<(Target, Bytes)>,
@@ -89,7 +89,7 @@ impl MemOutputs {
         })
     }
 
-    /// The bytes of this target, None if it isn't there.
+    /// The bytes of a target, or None if there is no such target.
     pub fn bytes_of(&self, target: &Target) -> Option<&[u8]>
         ensures { option_map (λ bytes. bytes.now) result ≡ held_at self.now.held target.now }
     {
@@ -130,7 +130,7 @@ impl Outputs for MemOutputs {
     }
 }
 
-/// Counts a fault or a shortage, where that is how the call ended.
+/// Counts a fault or a shortage of memory, if the call ended with one.
 fn count(done: Done, faults: &mut u64, shortages: &mut u64)
     ensures faults { (target : Target)
         → Counted (call_failed done) (λ _. faults.old) (λ _. faults.new) target }
@@ -165,7 +165,7 @@ pub(crate) fn place_of(entries: &[HeldText], target: &Target) -> Option<usize>
     None
 }
 
-/// These texts, and empty ones for standard output and standard error behind them.
+/// These texts, followed by empty ones for standard output and standard error.
 pub(crate) fn first_texts(
     alloc: Global,
     given: &[(Target, Bytes)],
@@ -200,7 +200,7 @@ fn given_texts(
     Ok(entries)
 }
 
-/// Adds a target that holds these bytes, with room for so many more.
+/// Adds a target that holds these bytes, with room for more.
 fn add_text(
     alloc: Global,
     entries: &mut Vec<HeldText>,
@@ -235,7 +235,7 @@ fn open_text(
     open_entry(alloc, entries, target, mode, room)
 }
 
-/// Opens a target, which is added where it isn't there.
+/// Opens a target, and adds it if it isn't there.
 pub(crate) fn open_entry(
     alloc: Global,
     entries: &mut Vec<HeldText>,
@@ -296,7 +296,7 @@ fn write_text(
     }
 }
 
-/// Appends the bytes as far as the room goes, and only half of them in a call that is to fail.
+/// Appends the bytes as far as there is room, and only half of them in a call that is to fail.
 fn append_prefix(text: &mut Vec<u8>, bytes: &[u8], room: &mut usize, fails: bool) -> Done
     ensures { WriteLeaves bytes.now result (Some text.old.items) (Some text.new.items) }
 {

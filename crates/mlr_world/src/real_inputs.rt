@@ -1,3 +1,4 @@
+//! The inputs of the system: files and standard input.
 ghost use Rattle.std.specs.Prelude.{◌≡◌, ◌↔◌, ◌≤◌, [], ◌++◌, length, take, drop, min, None, IsTrue, IfOk, OnOk, OnErr};
 ghost use Rattle.mlr_event.specs.declared.names.InputName.{InputName};
 ghost use Rattle.std.specs.Io.KnownBytes.{Consumes, IsAtEnd, Keeps};
@@ -12,22 +13,22 @@ use std::marker::Model;
 use std::rt::Files;
 use std::{fs, io, str};
 
-/// How many bytes one read asks the system for at most.
+/// The most bytes that one read asks the system for.
 const ROOM: usize = 65_536;
 
-/// How often a read is tried that signals interrupt.
+/// How many times a read is tried while signals interrupt it.
 const TRIES: u32 = 1_000;
 
 /// The files of the system by name, and standard input.
 ///
-/// Standard input has no start to go back to: to open it again goes on where its reads have come to.
+/// Standard input can't be read again from its start: opening it again continues after the bytes read before.
 #[derive(Drop)]
 pub struct RealInputs<R: Files + Input> {
     alloc: Global,
     rt: R,
     stdin: R::Reader,
     name: Option<InputName>,
-    /// The file that is open. Where none is, standard input is read.
+    /// The open file, or None while standard input is read.
     file: Option<R::File>,
     ended: bool,
     unread: Unread,
@@ -35,7 +36,8 @@ pub struct RealInputs<R: Files + Input> {
 }
 
 impl<R: Files + Input + Drop> RealInputs<R> {
-    /// None is open yet. It takes memory for one buffer, and later only for names and for what a read hands out.
+    /// No input is open yet. It allocates one buffer; later calls allocate only for names and for the bytes
+    /// that a read returns.
     pub fn new(alloc: Global, rt: R) -> Result<Self, NoMemory>
         ensures closed { IfOk result (λ made. ⟦<RealInputs<R> as Inputs>⟧.open_name made ≡ None) }
         ensures faults { IfOk result (λ made. (name : InputName)
@@ -114,7 +116,7 @@ impl<R: Files + Input> Inputs for RealInputs<R> {
     }
 }
 
-/// The file of this name, opened, or none for standard input.
+/// The file of this name, opened, or None for standard input.
 fn file_of<R: Files>(rt: &R, name: &InputName) -> io::Result<Option<R::File>> {
     match name {
         InputName::Stdin => Ok(None),
@@ -125,8 +127,8 @@ fn file_of<R: Files>(rt: &R, name: &InputName) -> io::Result<Option<R::File>> {
     }
 }
 
-/// One read of up to `max` bytes to the front of the buffer. Where a signal interrupts it, it is tried again, and
-/// after `TRIES` times that is its error.
+/// Reads up to `max` bytes to the start of the buffer. A read that a signal interrupts is tried again, at
+/// most `TRIES` times; then the interruption is its error.
 fn read_once<S: Read>(source: &mut S, buffer: &mut [u8], max: usize) -> io::Result<usize>
     ensures most { IfOk result (λ n. n ≤ max) }
     ensures bound { IfOk result (λ n. n ≤ length buffer.new) }
@@ -150,9 +152,10 @@ fn read_once<S: Read>(source: &mut S, buffer: &mut [u8], max: usize) -> io::Resu
     Err(io::Error::from(ErrorKind::Interrupted))
 }
 
-/// The bytes that the system gave and no read has handed out yet: those of the buffer from `start` up to `end`.
+/// The bytes that the system gave and that no read has returned yet: those of the buffer from `start` up to
+/// `end`.
 ///
-/// Between reads there are some only where the last read found no memory to hand them out.
+/// Between reads there are some only if the last read ran out of memory for them.
 #[derive(Drop)]
 struct Unread {
     buffer: Vec<u8>,
@@ -195,7 +198,7 @@ impl Unread {
         self.end = 0;
     }
 
-    /// Takes up to `max` bytes by one read, in place of those that are here.
+    /// Replaces the bytes by up to `max` new ones, with one read.
     fn fill<S: Read>(&mut self, source: &mut S, max: usize) -> io::Result<usize>
         ensures count { IfOk result (λ n. n ≡ length self.new) }
         ensures most { IfOk result (λ n. n ≤ max) }
@@ -210,7 +213,7 @@ impl Unread {
         Ok(self.end)
     }
 
-    /// Puts up to `max` of the bytes behind `into`. Where there is no memory for them, they stay here.
+    /// Appends up to `max` of the bytes to `into`. If memory runs out, the bytes stay here.
     fn hand_out(&mut self, max: usize, into: &mut Bytes) -> Result<usize, NoMemory>
         ensures count { IfOk result (λ n. n ≡ min max (length self.old)) }
         ensures handed { IfOk result (λ n. into.new ≡ into.old ++ take n self.old) }
@@ -252,7 +255,7 @@ mod tests {
         }
     }
 
-    /// What a program asks of its inputs, which it hands to a thread.
+    /// Checks that inputs have the traits that a program needs to move them to a thread.
     fn ready<I: Inputs + Drop + Send + 'static>(inputs: I) -> I
         ensures { result ≡ inputs }
     {

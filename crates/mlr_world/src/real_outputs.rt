@@ -1,3 +1,4 @@
+//! The outputs of the system: files, standard output and standard error.
 ghost use Rattle.std.specs.Prelude.{◌≡◌, ◌≢◌, ◌↔◌, ◌<◌, ◌≤◌, None, All, IsOk, IsErr, IsErrAnd, IfSome, IfNone, length, slice_get, vec_len, vec_capacity};
 ghost use Rattle.std.specs.IoError.{error_kind};
 ghost use Rattle.mlr_event.specs.declared.names.Target.{Target};
@@ -13,7 +14,7 @@ use std::io::{Error, ErrorKind, Write};
 use std::rt::Files;
 use std::{io, str};
 
-/// A runtime with a standard error that takes bytes. `Eprint` of std takes texts alone.
+/// A runtime with a standard error that takes bytes. `Eprint` of std takes only texts.
 pub trait ErrorStream {
     /// Writes all the bytes, or fails.
     fn write_error(&self, bytes: &[u8]) -> io::Result<()>;
@@ -25,7 +26,7 @@ impl ErrorStream for HostRuntime {
     }
 }
 
-/// A file that is open, with the target that it stands for.
+/// An open file, with its target.
 #[derive(Drop)]
 struct FileOutput<F> {
     target: Target,
@@ -42,7 +43,7 @@ pub struct RealOutputs<R: Files + Print + ErrorStream> {
 }
 
 impl<R: Files + Print + ErrorStream> RealOutputs<R> {
-    /// No file is open yet. It takes no memory.
+    /// No file is open yet. It doesn't allocate.
     pub fn new(alloc: Global, rt: R) -> Self
         ensures faults { (target : Target)
             → ⟦<RealOutputs<R> as Outputs>⟧.faults result target ≡ 0 }
@@ -105,7 +106,8 @@ impl<R: Files + Print + ErrorStream> Outputs for RealOutputs<R> {
     }
 }
 
-/// How a write ended. It has failed also where the system had no memory, since bytes before may have gone out.
+/// The result of a write. Running out of memory in the system counts as failed too, since bytes may already
+/// have been written.
 fn done_of_write(answer: io::Result<()>) -> Done
     ensures ok { (result ≡ Done.Ok) ↔ IsOk answer }
     ensures failed { (result ≡ Done.Failed) ↔ IsErr answer }
@@ -116,7 +118,7 @@ fn done_of_write(answer: io::Result<()>) -> Done
     }
 }
 
-/// How an open ended, which changes nothing where it finds no memory.
+/// The result of an open, which changes nothing if it runs out of memory.
 fn done_of_open(answer: io::Result<()>) -> Done
     ensures ok { (result ≡ Done.Ok) ↔ IsOk answer }
     ensures memory { (result ≡ Done.NoMemory) ↔ IsErrAnd answer
@@ -134,7 +136,7 @@ fn done_of_open(answer: io::Result<()>) -> Done
     }
 }
 
-/// Opens the file of a target, and closes the one that was open for it. The memory is taken first.
+/// Opens the file of a target, and closes the one that was open for it. It allocates before it opens.
 fn open_file<R: Files>(
     rt: &R,
     alloc: Global,
@@ -161,7 +163,7 @@ fn open_file<R: Files>(
     Ok(())
 }
 
-/// Writes all the bytes to the file of a target. It fails where none is open.
+/// Writes all the bytes to the file of a target. It fails if no file is open for the target.
 fn write_file<F: Write>(
     files: &mut [FileOutput<F>],
     target: &Target,
@@ -173,7 +175,7 @@ fn write_file<F: Write>(
     }
 }
 
-/// Closes the file of a target, and says whether it was open.
+/// Closes the file of a target, and returns whether it was open.
 fn close_file<F: Drop>(files: &mut Vec<FileOutput<F>>, target: &Target) -> bool
     ensures len { vec_len files.new ≤ vec_len files.old }
     ensures capacity { vec_capacity files.new ≡ vec_capacity files.old }
@@ -187,7 +189,7 @@ fn close_file<F: Drop>(files: &mut Vec<FileOutput<F>>, target: &Target) -> bool
     }
 }
 
-/// The place of the file that is open for a target.
+/// The place of the open file of a target.
 fn place_of<F>(files: &[FileOutput<F>], target: &Target) -> Option<usize>
     ensures bound { IfSome result (λ place. place < length files.now) }
     ensures here { IfSome result (λ place. IfSome (slice_get files.now place)
@@ -202,7 +204,8 @@ fn place_of<F>(files: &[FileOutput<F>], target: &Target) -> Option<usize>
     None
 }
 
-/// How often calls ended badly. Neither count falls, and each stands still at its last value.
+/// How many calls failed and how many ran out of memory. Neither count falls, and each stays at its greatest
+/// value.
 #[derive(Drop)]
 struct Counts {
     faults: u64,
@@ -210,7 +213,7 @@ struct Counts {
 }
 
 impl Counts {
-    /// Counts how a call ended.
+    /// Counts the result of a call.
     fn add(&mut self, done: Done)
         ensures faults { Tallied (call_failed done) self.old.faults self.new.faults }
         ensures faults_stay { self.old.faults ≤ self.new.faults }
@@ -231,7 +234,7 @@ mod tests {
     use std::process::Abort;
     use std::test::Fail;
 
-    /// What a program asks of its outputs, which it hands to a thread.
+    /// Checks that outputs have the traits that a program needs to move them to a thread.
     fn ready<O: Outputs + Drop + Send + 'static>(outputs: O) -> O
         ensures { result ≡ outputs }
     {

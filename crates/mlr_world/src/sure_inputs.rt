@@ -1,3 +1,4 @@
+//! Inputs in memory that never fail.
 ghost use Rattle.std.specs.Prelude.{◌≡◌, ◌≤◌, ◌++◌, ◌∷◌, [], false, Some, IfOk, IfSome, IsSome, if◌then◌else◌, is_ok};
 ghost use Rattle.mlr_event.specs.declared.names.InputName.{InputName};
 ghost use Rattle.mlr_world.specs.Counts.{Counted};
@@ -16,17 +17,17 @@ use mlr_value::Bytes;
 use std::alloc::Global;
 use std::marker::Model;
 
-/// Inputs in memory that never fail. A name that isn't listed is empty.
+/// Inputs in memory that never fail. A name that isn't in the list is empty.
 pub struct SureInputs {
     alloc: Global,
-    /// What was given, and behind it an empty entry for each other name that was opened.
+    /// The given entries, followed by an empty one for each other name that was opened.
     entries: Vec<(InputName, Bytes)>,
     given: usize,
     readings: Vec<Reading>,
     is_open: bool,
 }
 
-// Written out, so that the crates above call it and don't go into the fields.
+// Written by hand, so that the crates above call it instead of dropping the fields themselves.
 impl Drop for SureInputs {
     fn drop(self) {
         let SureInputs {
@@ -63,7 +64,7 @@ impl Model for SureInputs {
 }
 
 impl SureInputs {
-    /// Inputs with these contents, where the first entry of a name counts.
+    /// Inputs with these contents. The first entry of a name counts.
     pub fn new(alloc: Global, contents: Vec<(InputName, Bytes)>) -> Result<SureInputs, NoMemory>
         ensures { IfOk result (λ made. made ≡ source_of contents.items) }
     {
@@ -106,7 +107,7 @@ impl Inputs for SureInputs {
         }
     }
 
-    /// Takes as many bytes as are left, at most `max`.
+    /// Reads as many bytes as remain, at most `max`.
     fn read(&mut self, max: usize, into: &mut Bytes) -> Got
         requires open { IsSome self.old.open_name }
         requires some { 1 ≤ max }
@@ -122,7 +123,7 @@ impl Inputs for SureInputs {
     }
 }
 
-/// The place of the first entry with this name, which is added where there is none.
+/// The place of the first entry with this name, which is added if there is none.
 fn place_or_add(
     alloc: Global,
     entries: &mut Vec<(InputName, Bytes)>,

@@ -1,3 +1,4 @@
+//! Outputs in memory that never fail.
 ghost use Rattle.std.specs.Prelude.{◌≡◌, false, Some, IfOk};
 ghost use Rattle.std.specs.Option.{option_map};
 ghost use Rattle.mlr_event.specs.declared.names.Target.{Target};
@@ -21,7 +22,7 @@ pub struct SureOutputs {
     shortages: u64,
 }
 
-// Written out, so that the crates above call it and don't go into the fields.
+// Written by hand, so that the crates above call it instead of dropping the fields themselves.
 impl Drop for SureOutputs {
     fn drop(self) {
         let SureOutputs {
@@ -49,8 +50,8 @@ impl Model for SureOutputs {
 }
 
 impl SureOutputs {
-    /// Outputs that hold these texts, where the first entry of a target counts, and standard output and standard
-    /// error, which are empty unless they stand in the list.
+    /// Outputs that hold these texts, and standard output and standard error, which are empty unless they are
+    /// in the list. The first entry of a target counts.
     pub fn new(alloc: Global, held: Vec<(Target, Bytes)>) -> Result<SureOutputs, NoMemory>
         ensures { IfOk result (λ made. made ≡ sink_of held.items) }
     {
@@ -61,7 +62,7 @@ impl SureOutputs {
         })
     }
 
-    /// The bytes of this target, None if it isn't there.
+    /// The bytes of a target, or None if there is no such target.
     pub fn bytes_of(&self, target: &Target) -> Option<&[u8]>
         ensures { option_map (λ bytes. bytes.now) result ≡ held_at self.now.held target.now }
     {
@@ -82,7 +83,7 @@ impl Outputs for SureOutputs {
         done
     }
 
-    /// For a target that isn't there it answers NoMemory: nothing could be written, and no fault is to be counted.
+    /// For a target that isn't there it returns NoMemory: nothing could be written, and no fault is counted.
     fn write(&mut self, target: &Target, bytes: &[u8]) -> Done {
         let done = append_text(&mut self.held, target, bytes);
         count_shortage(done, &mut self.shortages);
@@ -94,7 +95,7 @@ impl Outputs for SureOutputs {
     }
 }
 
-/// Counts a shortage, where that is how the call ended.
+/// Counts a shortage of memory, if the call ended with one.
 fn count_shortage(done: Done, shortages: &mut u64)
     ensures { Tallied (lacked_memory done) shortages.old shortages.new }
 {
@@ -104,7 +105,7 @@ fn count_shortage(done: Done, shortages: &mut u64)
     }
 }
 
-/// Puts the bytes behind those of the target.
+/// Appends the bytes to those of the target.
 fn append_text(entries: &mut Vec<HeldText>, target: &Target, bytes: &[u8]) -> Done
     ensures bytes { ChangesOnly target.now (WriteLeaves bytes.now result)
         (held_at (pairs_of entries.old.items)) (held_at (pairs_of entries.new.items)) }

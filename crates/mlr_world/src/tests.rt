@@ -86,7 +86,7 @@ const READS: [(&[usize], usize, &[u64], [Got; 5]); 6] = [
     ),
 ];
 
-/// Inputs in memory give their texts in pieces, and fail where they are told to.
+/// Inputs in memory give their texts in pieces, and fail where they are set to.
 fn read_memory(rt: &impl Abort, alloc: Global) -> Result<(), NoMemory> {
     for (pieces, max, failing, want) in &READS {
         let mut inputs = abc(alloc, *pieces, *failing)?;
@@ -177,7 +177,7 @@ fn outputs(alloc: Global, room: usize, failing: &[u64]) -> Result<MemOutputs, No
     MemOutputs::new(alloc, held, room, Vec::from_slice(alloc, failing)?)
 }
 
-/// Outputs in memory keep what is written while they have room, and fail where they are told to.
+/// Outputs in memory keep the bytes written while they have room, and fail where they are set to.
 fn write_memory(rt: &impl Abort, alloc: Global) -> Result<(), NoMemory> {
     let file = target(alloc, b"out")?;
     for (mode, want) in [(Mode::Fresh, b"new" as &[u8]), (Mode::Append, b"oldnew")] {

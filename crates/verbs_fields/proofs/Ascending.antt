@@ -1,5 +1,5 @@
--- Pairs in the order of their names: a list of distinct names has one such order, which a sort and the insertion of one
--- pair after another both give.
+-- Pairs sorted by their names: distinct names have one such order, which a sort gives, and also the insertion
+-- of one pair after another.
 use Rattle.std.proofs.Common.{◌≡◌, ◌⊎◌, ℕ, zero, suc, ◌<◌, ◌≤◌, Bool, true, false, not, cond, List, [], ◌∷◌, map, length, get_or, refl, ap, ap₂, sym, subst, ◌∙◌, arith, inl, inr}
 use Rattle.std.specs.List.{list_any, Contains, IsDistinct, AllByRecursion}
 use Rattle.std.specs.List.Sorted.{IsPermutation, IsSortedBy}
@@ -37,7 +37,7 @@ before-chain a b c h g =
       | inr isnt ↦ absurd (true≢false (sym h ∙ order.chain a c b isnt (order.one_way b c g)))
     ]
 
--- of two names that aren't equal one comes before the other
+-- of two names that differ, one precedes the other
 decided : (o : Ordering) → is_lt (ordering_reverse o) ≡ false → is_eq o ≡ false → is_lt o ≡ true
 decided Less not_after apart = refl
 decided Equal not_after apart = absurd (true≢false apart)
@@ -47,7 +47,7 @@ before-apart : (a b : List ℕ) → bytes_eq a b ≡ false → is_before b a ≡
 before-apart a b apart following =
     decided (slice_cmp nat_cmp a b) (ap is_lt (sym (nat_list_cmp_total.antisymm b a)) ∙ following) (is_eq-slice_cmp a b ∙ apart)
 
--- what stands in a list
+-- the elements of a list
 abbrev In : {A : Type 0} → A → List A → Type 0
 In x [] = ⊥
 In x (y ∷ ys) = (x ≡ y) ⊎ In x ys
@@ -74,7 +74,7 @@ in-map f (x ∷ xs) y h = elim h [
   | inr later ↦ let at = in-map f xs y later in (at.0, inr at.1, at.2)
 ]
 
--- each name comes before those behind it
+-- each name precedes those after it
 abbrev pub Ascends : List Pair → Type 0
 Ascends [] = Unit {0}
 Ascends (x ∷ xs) = ((y : Pair) → In y xs → is_before x.0 y.0 ≡ true) × Ascends xs
@@ -108,7 +108,7 @@ same-ascending (x ∷ xs) (y ∷ ys) up up_2 forth back =
       | inr later ↦ later
     ]
 
--- what stands in a list into which a pair was put
+-- the elements of a list after a pair was inserted
 inserted-parts : (p q : Pair) (pairs : List Pair) (z : Pair) → (In z (insert_by_name p pairs) → (z ≡ p) ⊎ In z pairs) → (t : Bool) → In z (cond t (q ∷ insert_by_name p pairs) (p ∷ q ∷ pairs)) → (z ≡ p) ⊎ In z (q ∷ pairs)
 inserted-parts p q pairs z rest true h = elim h [
   | inl same ↦ inr (inl same)
@@ -164,7 +164,7 @@ ascends-inserted p (q ∷ pairs) up apart =
     (λ is. ascends-following p q pairs up (ascends-inserted p pairs up.1 (λ z h. apart z (inr h))) is)
     (λ isnt. ascends-here p q pairs up (before-apart p.0 q.0 (apart q (inl refl)) isnt))
 
--- a name that none has isn't that of a pair in the list
+-- a name that no pair has differs from the name of each pair in the list
 apart-in : (key : List ℕ) (pairs : List Pair) (z : Pair) → list_any (bytes_eq key) (keys_of pairs) ≡ false → In z pairs → bytes_eq key z.0 ≡ false
 apart-in key [] z none h = absurd h
 apart-in key (p ∷ pairs) z none h =
@@ -231,7 +231,7 @@ module _ {A : Type 0} (pair_of : A → Pair) (xs ys : List A) (moved : IsPermuta
   pub sorted-distinct : are_distinct (keys_of (map pair_of ys)) ≡ true
   sorted-distinct = distinct-permutation (map pair_of xs) (map pair_of ys) (IsPermutation-map pair_of xs ys moved) distinct
 
-  -- a sort by the names gives what the insertion of one pair after another gives
+  -- sorting by name gives the same as inserting one pair after another
   pub sorted-by_name : IsSortedBy (precedes pair_of) ys → map pair_of ys ≡ by_name (map pair_of xs)
   sorted-by_name sorted =
       let pairs = map pair_of xs in

@@ -1,4 +1,4 @@
--- Values with their maps in order, one pair or item after another.
+-- Values with their maps sorted, one pair or item after another.
 use Rattle.std.proofs.Common.{◌≡◌, ℕ, ◌+◌, true, List, [], ◌∷◌, ◌++◌, drop, Some, slice_get, refl, ap, sym, ◌∙◌, append_assoc}
 use Rattle.mlr_spec.specs.Tree.{Tree, fields_of, trees_of}
 use Rattle.mlr_spec.specs.Pairs.{keys_of, are_distinct}

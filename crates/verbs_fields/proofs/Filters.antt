@@ -1,4 +1,4 @@
--- Fields that pass a test, and what a filter leaves of distinct names.
+-- Fields that pass a test, and that filtering keeps names distinct.
 use Rattle.std.proofs.Common.{◌≡◌, ℕ, Bool, true, false, not, List, [], ◌∷◌, refl, ap, ◌∙◌, inl, inr}
 use Rattle.std.specs.List.{list_any, filter}
 use Rattle.std.specs.Str.{bytes_eq}

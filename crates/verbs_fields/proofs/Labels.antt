@@ -1,4 +1,4 @@
--- Fields that take names, one field after another.
+-- Fields that are labelled, one field after another.
 use Rattle.std.proofs.Common.{◌≡◌, ℕ, zero, suc, Bool, true, false, not, List, [], ◌∷◌, ◌++◌, length, drop, refl, ap, sym, ◌∙◌, inl, inr}
 use Rattle.std.specs.List.{zip, list_any}
 use Rattle.std.specs.Str.{bytes_eq}
@@ -12,7 +12,7 @@ use Rattle.verbs_fields.specs.Naming.{labelled, values_of}
 use Rattle.verbs_fields.proofs.Filters.{are_distinct-filter}
 use Rattle.verbs_fields.proofs.Picking.{are_distinct-append, dropped-named}
 
--- the fields under the names that are left, and behind these names those that have none of all names
+-- the fields with the remaining names, and, of the fields after these, those that have none of all names
 abbrev pub labelled_left : List (List ℕ) → List (List ℕ) → List (List ℕ × Tree) → List (List ℕ × Tree)
 labelled_left names left pairs = zip left (values_of pairs) ++ dropped names (drop (length left) pairs)
 

@@ -1,4 +1,4 @@
--- Names that count once, one name after another.
+-- Names that count once, taken one after another.
 use Rattle.std.proofs.Common.{◌≡◌, ℕ, Bool, true, false, not, cond, ◌||◌, List, [], ◌∷◌, ◌++◌, map, refl, ap, ap₂, sym, ◌∙◌, inl, inr, append_assoc}
 use Rattle.std.specs.List.{filter}
 use Rattle.std.specs.Str.{bytes_eq}
@@ -12,7 +12,7 @@ use Rattle.mlr_event.specs.Reading.{is_among}
 use Rattle.mlr_event.proofs.Distinct.{bytes_eq-swap}
 use Rattle.verbs_fields.specs.Choosing.{once, put_once}
 
--- the names that weren't seen, each once
+-- the names that were not seen before, each once
 abbrev pub fresh : List (List ℕ) → List (List ℕ) → List (List ℕ)
 fresh seen names = filter (λ name. not (is_among seen name)) (once names)
 
@@ -74,7 +74,7 @@ module _ (value_of : List ℕ → Tree) where
   abbrev pub field_of : List ℕ → List ℕ × Tree
   field_of name = (name, value_of name)
 
-  -- one more name, whose field is put behind those of the others unless it is there
+  -- one more name, whose field is appended to the others unless it is there
   pub put_once-more : (made : List (List ℕ × Tree)) (name : List ℕ) (value : Tree) (names : List (List ℕ)) → (is_among (keys_of made) name ≡ false → value ≡ value_of name)
       → put_once name value made ++ map field_of (fresh (keys_of (put_once name value made)) names) ≡ made ++ map field_of (fresh (keys_of made) (name ∷ names))
   put_once-more made name value names is =
@@ -89,7 +89,7 @@ module _ (value_of : List ℕ → Tree) where
             ∙ ap (λ left. made ++ map field_of left) (sym (fresh-new (keys_of made) name names new))
       ]
 
--- a name that isn't there after a field was put wasn't there before, and isn't that field's
+-- a name that is missing after a field was appended was missing before, and isn't that field's name
 pub put_once-apart : (name other : List ℕ) (value : Tree) (made : List (List ℕ × Tree)) → is_among (keys_of (put_once name value made)) other ≡ false → (is_among (keys_of made) other ≡ false) × (bytes_eq name other ≡ false)
 put_once-apart name other value made absent =
     elim (cases_Bool (is_among (keys_of made) name)) as (λ _. (is_among (keys_of made) other ≡ false) × (bytes_eq name other ≡ false)) [

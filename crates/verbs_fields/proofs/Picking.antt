@@ -1,4 +1,4 @@
--- The fields that are picked by names, one name after another.
+-- Fields that are picked by names, one name after another.
 use Rattle.std.proofs.Common.{◌≡◌, ℕ, Bool, true, false, not, cond, List, [], ◌∷◌, ◌++◌, Some, None, refl, ap, ap₂, sym, subst, ◌∙◌, inl, inr}
 use Rattle.std.specs.List.{list_any, filter, filter_map, cons_option}
 use Rattle.std.specs.Option.{option_map, is_some}
@@ -18,7 +18,7 @@ use Rattle.verbs_fields.specs.Choosing.{once, named, picked, dropped}
 use Rattle.verbs_fields.specs.Ordering.{named_first, named_last}
 use Rattle.verbs_fields.proofs.Filters.{are_distinct-filter}
 
--- a pair that is taken out leaves the values of the other keys
+-- removing a pair leaves the values of the other keys
 pub value_at-other : (name other : List ℕ) (pairs : List (List ℕ × Tree)) → bytes_eq name other ≡ false → value_at other (remove_at name pairs) ≡ value_at other pairs
 value_at-other name other [] apart = refl
 value_at-other name other (p ∷ pairs) apart =
@@ -100,7 +100,7 @@ any-once test (name ∷ names) none =
     let parts = or_parts (test name) (list_any test names) none in
     or_from _ _ parts.0 (any-filter test (λ other. not (bytes_eq name other)) (once names) (any-once test names parts.1))
 
--- the names of the fields that are found
+-- the names of the fields that are found are distinct
 keys-found : (pairs : List (List ℕ × Tree)) (names : List (List ℕ)) → keys_of (filter_map (named pairs) names) ≡ filter (λ name. is_some (value_at name pairs)) names
 keys-found pairs [] = refl
 keys-found pairs (n ∷ names) =

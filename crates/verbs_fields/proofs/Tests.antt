@@ -1,4 +1,4 @@
--- A test of each entry from a place on.
+-- A test of each entry, from a place on.
 use Rattle.std.proofs.Common.{◌≡◌, ℕ, ◌+◌, Bool, true, false, ◌&&◌, List, drop, Some, slice_get, ap, sym, ◌∙◌}
 use Rattle.std.specs.List.{list_all}
 use Rattle.mlr_spec.proofs.Flattening.{drop-more}

@@ -1,4 +1,4 @@
--- Which fields of a record stay, and in which order.
+-- The fields of a record that are kept, and their order.
 use Rattle.std.specs.Prelude.{ℕ, Bool, true, false, not, ◌&&◌, if◌then◌else◌, List, [], ◌∷◌, ◌++◌, map, Option}
 use Rattle.std.specs.List.{filter, filter_map}
 use Rattle.std.specs.Option.{option_map, unwrap_or}
@@ -22,7 +22,7 @@ abbrev pub once : List (List ℕ) → List (List ℕ)
 once [] = []
 once (name ∷ names) = name ∷ filter (λ other. not (bytes_eq name other)) (once names)
 
--- the field of this name, if there is one
+-- the field with this name, if there is one
 abbrev pub named : List (List ℕ × Tree) → List ℕ → Option (List ℕ × Tree)
 named pairs name = option_map (λ value. (name, value)) (value_at name pairs)
 
@@ -30,11 +30,12 @@ named pairs name = option_map (λ value. (name, value)) (value_at name pairs)
 abbrev pub picked : List (List ℕ) → List (List ℕ × Tree) → List (List ℕ × Tree)
 picked names pairs = filter_map (named pairs) (once names)
 
--- a field for each name, in the order of the names; one that is missing has the text, which isn't inferred
+-- a field for each name, in the order of the names; a missing field has the text as its value, and its type
+-- isn't inferred
 abbrev pub templated : List (List ℕ) → List ℕ → List (List ℕ × Tree) → List (List ℕ × Tree)
 templated names text pairs = map (λ name. (name, unwrap_or (value_at name pairs) (text_value text))) (once names)
 
--- the pairs with one more, unless its name is there
+-- the pairs with one more appended, unless its name is there
 abbrev pub put_once : List ℕ → Tree → List (List ℕ × Tree) → List (List ℕ × Tree)
 put_once name value pairs = if is_among (keys_of pairs) name then pairs else pairs ++ (name, value) ∷ []
 
@@ -42,10 +43,10 @@ abbrev pub is_empty : Tree → Bool
 is_empty empty = true
 is_empty _ = false
 
--- a field that is taken and empty
+-- whether a field is dropped: it is empty, and it is one of the named fields or there are no names
 abbrev pub is_sparse : Option (List (List ℕ)) → List ℕ × Tree → Bool
 is_sparse names pair = is_empty pair.1 && is_taken names pair.0
 
--- the fields without the empty ones among those that are taken
+-- the fields that aren't dropped
 abbrev pub sparse : Option (List (List ℕ)) → List (List ℕ × Tree) → List (List ℕ × Tree)
 sparse names pairs = filter (λ pair. not (is_sparse names pair)) pairs

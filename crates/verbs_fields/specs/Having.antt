@@ -1,4 +1,4 @@
--- What `having-fields` asks of a record.
+-- The tests of `having-fields`.
 use Rattle.std.specs.Prelude.{ℕ, Bool, false, not, List}
 use Rattle.std.specs.List.{list_all, list_any}
 use Rattle.std.specs.Option.{is_some, option_map_or}
@@ -11,7 +11,7 @@ use Rattle.verbs_fields.specs.Choosing.{is_empty}
 abbrev pub has_all : List (List ℕ) → List (List ℕ × Tree) → Bool
 has_all names pairs = list_all (λ name. is_some (value_at name pairs)) names
 
--- whether each field is one of the named
+-- whether each field has one of the names
 abbrev pub has_no_others : List (List ℕ) → List (List ℕ × Tree) → Bool
 has_no_others names pairs = list_all (λ pair. is_among names pair.0) pairs
 

@@ -1,4 +1,4 @@
--- The fields of a record under other names.
+-- The fields of a record with other names.
 use Rattle.std.specs.Prelude.{ℕ, ◌+◌, ◌/◌, List, [], ◌∷◌, ◌++◌, map, length, drop}
 use Rattle.std.specs.List.{zip}
 use Rattle.std.specs.Fmt.{decimal}
@@ -11,21 +11,24 @@ use Rattle.verbs_fields.specs.Choosing.{dropped}
 abbrev pub values_of : List (List ℕ × Tree) → List Tree
 values_of pairs = map (λ pair. pair.1) pairs
 
--- the first fields under the names; of the others, those that have none of the names
+-- The first fields get the given names, one each. Of the other fields those are kept that have none of these
+-- names.
 abbrev pub labelled : List (List ℕ) → List (List ℕ × Tree) → List (List ℕ × Tree)
 labelled names pairs = zip names (values_of pairs) ++ dropped names (drop (length names) pairs)
 
--- the fields renamed one after another
+-- the fields renamed, one renaming after another
 abbrev pub renamed : List Renaming → List (List ℕ × Tree) → List (List ℕ × Tree)
 renamed [] pairs = pairs
 renamed (renaming ∷ renamings) pairs = renamed renamings (rename_at renaming.old renaming.new pairs)
 
--- the values taken in turn as a key and its value; the last key is that of a value that no other follows
+-- The values in turn as a key and its value. The last value of an odd number of values has no value after it:
+-- it gets the key `last`.
 abbrev pub in_turn : List ℕ → List Tree → List (List ℕ × Tree)
 in_turn last [] = []
 in_turn last (value ∷ []) = (last, value) ∷ []
 in_turn last (key ∷ value ∷ more) = (shown key, value) ∷ in_turn last more
 
--- the fields that the values in turn make; of an odd count of values the last has its pair's number as its key
+-- The fields that the values in turn make. If the number of values is odd, the key of the last is the number
+-- of its pair.
 abbrev pub alternated : List (List ℕ × Tree) → List (List ℕ × Tree)
 alternated pairs = put_each [] (in_turn (decimal ((length pairs + 1) / 2)) (values_of pairs))

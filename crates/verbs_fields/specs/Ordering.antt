@@ -7,6 +7,6 @@ use Rattle.verbs_fields.specs.Choosing.{picked, dropped}
 abbrev pub named_first : List (List ℕ) → List (List ℕ × Tree) → List (List ℕ × Tree)
 named_first names pairs = picked names pairs ++ dropped names pairs
 
--- the named fields behind the others
+-- the named fields after the others
 abbrev pub named_last : List (List ℕ) → List (List ℕ × Tree) → List (List ℕ × Tree)
 named_last names pairs = dropped names pairs ++ picked names pairs

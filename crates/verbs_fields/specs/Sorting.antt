@@ -4,11 +4,11 @@ use Rattle.std.specs.Ordering.{is_lt, nat_cmp}
 use Rattle.std.specs.Cmp.Lexicographic.{slice_cmp}
 use Rattle.mlr_spec.specs.Tree.{Tree, mapping, array, Trees, no_trees, tree_and, Fields, no_fields, field_and, fields_of, map_of, array_of}
 
--- whether a text comes before another in byte order
+-- whether a text precedes another in byte order
 abbrev pub is_before : List ℕ → List ℕ → Bool
 is_before text other = is_lt (slice_cmp nat_cmp text other)
 
--- the pairs with one more, behind those whose names come before its own
+-- the sorted pairs with one more, after those whose names precede its own
 abbrev pub insert_by_name : List ℕ × Tree → List (List ℕ × Tree) → List (List ℕ × Tree)
 insert_by_name pair [] = pair ∷ []
 insert_by_name pair (other ∷ pairs) =
@@ -18,7 +18,7 @@ abbrev pub by_name : List (List ℕ × Tree) → List (List ℕ × Tree)
 by_name [] = []
 by_name (pair ∷ pairs) = insert_by_name pair (by_name pairs)
 
--- a value with its maps in the order of their keys, and those in them and in arrays too
+-- a value with its maps sorted by their keys, and so the maps at any depth in maps and arrays
 abbrev mutual
   pub deep_sorted : Tree → Tree
   deep_sorted (mapping pairs) = map_of (by_name (deep_pairs pairs))
@@ -33,6 +33,6 @@ abbrev mutual
   deep_items no_trees = []
   deep_items (tree_and item more) = deep_sorted item ∷ deep_items more
 
--- the fields in the order of their names, and so the maps in them where it goes deep
+-- the fields sorted by their names; with `deep` also the maps in their values
 abbrev pub sorted_within : Bool → List (List ℕ × Tree) → List (List ℕ × Tree)
 sorted_within deep pairs = by_name (if deep then deep_pairs (fields_of pairs) else pairs)

@@ -1,4 +1,4 @@
--- Another text in place of the spaces of a record.
+-- A text in place of the spaces in a record.
 use Rattle.std.specs.Prelude.{ℕ, Bool, true, false, ◌&&◌, ◌||◌, ◌==◌, if◌then◌else◌, List, [], ◌∷◌, map}
 use Rattle.std.specs.List.{list_any, flat_map}
 use Rattle.mlr_spec.specs.Ascii.{space}
@@ -12,14 +12,15 @@ use Rattle.verbs_fields.specs.declared.spaces.UnspacePart.TheVariants.{Both, Key
 abbrev pub has_space : List ℕ → Bool
 has_space text = list_any (λ b. b == space) text
 
--- a byte, or the other text in place of a space
+-- a byte, or `other` in place of a space
 abbrev pub unspaced_byte : List ℕ → ℕ → List ℕ
 unspaced_byte other b = if b == space then other else b ∷ []
 
 abbrev pub unspaced_text : List ℕ → List ℕ → List ℕ
 unspaced_text other text = flat_map (unspaced_byte other) text
 
--- a string with a space in it is read anew without it, as data is; any other value stays
+-- a string with a space gets `other` in place of each space, and its type is inferred as for data; any other
+-- value is unchanged
 abbrev pub unspaced_value : List ℕ → Tree → Tree
 unspaced_value other (string text) =
     if has_space text then tree_of_data (record { none = false; octal = false }) (unspaced_text other text) else string text
@@ -41,7 +42,7 @@ unspaced_field unspace pair = (
   if takes_values unspace.part then unspaced_value unspace.text pair.1 else pair.1,
 )
 
--- of fields whose names become equal the first gives the place and the last the value
+-- of fields whose names become equal, the first gives the place and the last the value
 abbrev pub unspaced : Unspace → List (List ℕ × Tree) → List (List ℕ × Tree)
 unspaced unspace pairs = put_each [] (map (unspaced_field unspace) pairs)
 
@@ -49,6 +50,6 @@ abbrev pub is_spaced_string : Tree → Bool
 is_spaced_string (string text) = has_space text
 is_spaced_string _ = false
 
--- whether a field has a space in what is taken of it
+-- whether the key or the value of a field has a space, as far as `unspace` takes it
 abbrev pub is_spaced : UnspacePart → List ℕ × Tree → Bool
 is_spaced part pair = (takes_keys part && has_space pair.0) || (takes_values part && is_spaced_string pair.1)

@@ -1,3 +1,4 @@
+//! `cut`, `template` and `sparsify`: which fields of a record are kept.
 ghost use Rattle.std.specs.Prelude.{◌≡◌, ℕ, false, List, [], IfOk, OnOk};
 ghost use Rattle.std.specs.Option.{option_map, unwrap_or};
 ghost use Rattle.std.specs.Str.{bytes_eq};
@@ -16,7 +17,7 @@ use mlr_value::{Bytes, Value};
 use std::alloc::Global;
 use verbs_base::{is_taken, string_of};
 
-/// The named fields, in the record's order, as `cut -f` gives them. It takes no memory.
+/// The named fields, in the record's order, for `cut -f`. It doesn't allocate.
 pub fn keep_named(names: &Names, from: Record) -> Record
     ensures { result ≡ kept names.now from }
 {
@@ -26,7 +27,7 @@ pub fn keep_named(names: &Names, from: Record) -> Record
     Record::of_fields(alloc, fields)
 }
 
-/// The fields that aren't named, as `cut -x -f` gives them. It takes no memory.
+/// The fields that aren't named, for `cut -x -f`. It doesn't allocate.
 pub fn drop_named(names: &Names, from: Record) -> Record
     ensures { result ≡ dropped names.now from }
 {
@@ -36,8 +37,8 @@ pub fn drop_named(names: &Names, from: Record) -> Record
     Record::of_fields(alloc, fields)
 }
 
-/// The named fields in the order of the names, as `cut -o -f` gives them. A name that repeats counts once. It takes room
-/// for the named fields.
+/// The named fields, in the order of the names, for `cut -o -f`. A name that repeats counts once. It
+/// allocates a list of fields.
 pub fn pick_named(names: &Names, from: Record) -> Result<Record, NoMemory>
     ensures { IfOk result (λ made. made ≡ picked names.now from) }
 {
@@ -48,8 +49,8 @@ pub fn pick_named(names: &Names, from: Record) -> Result<Record, NoMemory>
     Ok(Record::of_fields(alloc, taken))
 }
 
-/// A field for each name in the order of the names, as `template` gives them: one that the record lacks has the text as
-/// its value. A name that repeats counts once. It takes memory for the record.
+/// A field for each name, in the order of the names, for `template`; a field that is missing in the record
+/// has `text` as its value. A name that repeats counts once. It allocates a record.
 pub fn template(alloc: Global, names: &Names, text: &[u8], from: Record) -> Result<Record, NoMemory>
     ensures { IfOk result (λ made. made ≡ templated names.now text.now from) }
 {
@@ -59,7 +60,7 @@ pub fn template(alloc: Global, names: &Names, text: &[u8], from: Record) -> Resu
     Ok(made)
 }
 
-/// Puts a field for each name into a record without fields.
+/// Appends a field for each name to a record without fields.
 fn put_each_named(
     alloc: Global,
     names: &[Bytes],
@@ -76,7 +77,7 @@ fn put_each_named(
     Ok(())
 }
 
-/// Puts the field of this name last, unless it is there.
+/// Appends the field of this name, unless the record has one.
 fn put_named(
     alloc: Global,
     name: &[u8],
@@ -100,7 +101,8 @@ fn put_named(
     into.push(name, value)
 }
 
-/// The fields without the empty ones, or without those among the named, as `sparsify` gives them. It takes no memory.
+/// The fields except the empty ones, or except the empty ones among the named, for `sparsify`. It doesn't
+/// allocate.
 pub fn sparsify(names: Option<&Names>, from: Record) -> Record
     ensures { result ≡ sparse (option_map (λ names. names.now) names.entry) from }
 {
@@ -110,14 +112,14 @@ pub fn sparsify(names: Option<&Names>, from: Record) -> Record
     Record::of_fields(alloc, fields)
 }
 
-/// Whether a field is taken and empty.
+/// Whether a field is empty and among the named fields, if there are names.
 fn is_sparse(names: Option<&Names>, field: &Field) -> bool
     ensures { result ≡ is_sparse (option_map (λ names. names.now) names.entry) (pair_of field.now) }
 {
     is_empty(&field.value) && is_taken(names, field.name.as_slice())
 }
 
-/// Whether a value is a text of no bytes.
+/// Whether a value is the empty text.
 pub fn is_empty(value: &Value) -> bool
     ensures { result ≡ is_empty (tree_of value.now) }
 {

@@ -1,3 +1,4 @@
+//! Removes fields by name from a list.
 ghost use Rattle.std.specs.Prelude.{◌≡◌, ◌++◌, true, OnOk};
 ghost use Rattle.std.specs.Option.{option_map};
 ghost use Rattle.mlr_spec.specs.Pairs.{remove_at, keys_of, are_distinct};
@@ -8,7 +9,7 @@ use mlr_record::Field;
 use mlr_spec::NoMemory;
 use mlr_value::Bytes;
 
-/// Takes the field of this name out, if there is one.
+/// Removes the field of this name, if there is one, and returns it.
 pub(crate) fn take_field(fields: &mut Vec<Field>, name: &[u8]) -> Option<Field>
     ensures taken { option_map pair_of result ≡ named (pairs_of fields.old.items) name.now }
     ensures left { pairs_of fields.new.items ≡ remove_at name.now (pairs_of fields.old.items) }
@@ -29,7 +30,7 @@ fn place_of(fields: &[Field], name: &[u8]) -> Option<usize>
     None
 }
 
-/// Takes the named fields out, in the order of the names, and puts them behind others.
+/// Removes the named fields, in the order of the names, and appends them to `taken`.
 pub(crate) fn take_named(
     names: &[Bytes],
     fields: &mut Vec<Field>,

@@ -1,3 +1,4 @@
+//! `having-fields`: whether a record has fields of some names.
 ghost use Rattle.std.specs.Prelude.{◌≡◌};
 ghost use Rattle.verbs_fields.specs.Having.{all_defined, any_defined, has_all, has_no_others, is_defined};
 
@@ -5,7 +6,7 @@ use crate::choosing::is_empty;
 use mlr_event::Names;
 use mlr_record::Record;
 
-/// Whether the record has a field of each name, as `having-fields --at-least` asks. It takes no memory.
+/// Whether the record has a field of each name, for `having-fields --at-least`. It doesn't allocate.
 pub fn has_all(names: &Names, from: &Record) -> bool
     ensures { result ≡ has_all names.now from.now }
 {
@@ -15,7 +16,8 @@ pub fn has_all(names: &Names, from: &Record) -> bool
         .all(|name| from.get(name.as_slice()).is_some())
 }
 
-/// Whether each field of the record is one of the named, as `having-fields --at-most` asks. It takes no memory.
+/// Whether each field of the record has one of the names, for `having-fields --at-most`. It doesn't
+/// allocate.
 pub fn has_no_others(names: &Names, from: &Record) -> bool
     ensures { result ≡ has_no_others names.now from.now }
 {
@@ -27,7 +29,8 @@ pub fn has_no_others(names: &Names, from: &Record) -> bool
     true
 }
 
-/// Whether the record has a field of each name that isn't empty, as `having-fields --all-defined` asks. It takes no memory.
+/// Whether the record has a field of each name, and none of these is empty, for `having-fields
+/// --all-defined`. It doesn't allocate.
 pub fn all_defined(names: &Names, from: &Record) -> bool
     ensures { result ≡ all_defined names.now from.now }
 {
@@ -37,8 +40,8 @@ pub fn all_defined(names: &Names, from: &Record) -> bool
         .all(|name| is_defined(from, name.as_slice()))
 }
 
-/// Whether the record has a field of one of the names that isn't empty, as `having-fields --any-defined` asks. It takes no
-/// memory.
+/// Whether the record has a field of one of the names that isn't empty, for `having-fields --any-defined`.
+/// It doesn't allocate.
 pub fn any_defined(names: &Names, from: &Record) -> bool
     ensures { result ≡ any_defined names.now from.now }
 {

@@ -1,4 +1,4 @@
-//! What the verbs that choose, order and name fields make of one record.
+//! The verbs that choose, order and name fields, on one record.
 #![tactic(auto)]
 
 mod choosing;

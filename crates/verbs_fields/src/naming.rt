@@ -1,3 +1,4 @@
+//! `label`, `rename` and `altkv`: new names for the fields of a record.
 ghost use Rattle.std.specs.Prelude.{◌≡◌, ◌<◌, ◌++◌, ◌∷◌, [], true, length, drop, map, IfOk, OnOk, MatchOption};
 ghost use Rattle.std.specs.List.{zip};
 ghost use Rattle.mlr_spec.specs.Pairs.{are_distinct, put_at, put_each};
@@ -16,7 +17,7 @@ use mlr_value::{Bytes, Value};
 use std::alloc::Global;
 use text_forms::shown;
 
-/// A name and the one that it becomes.
+/// A name and the name that replaces it.
 #[derive(Drop)]
 pub struct Renaming {
     pub old: Bytes,
@@ -24,7 +25,7 @@ pub struct Renaming {
 }
 
 impl Renaming {
-    /// A copy. It takes memory for names of more than 16 bytes.
+    /// A copy. It allocates only for names of more than 16 bytes.
     pub fn copy(&self, alloc: Global) -> Result<Self, NoMemory>
         ensures { IfOk result (λ copy. copy ≡ self.now) }
     {
@@ -35,7 +36,7 @@ impl Renaming {
     }
 }
 
-/// Whether no name repeats, as `label` asks for. It takes no memory.
+/// Whether no name repeats, as `label` requires. It doesn't allocate.
 pub fn are_distinct(names: &Names) -> bool
     ensures { result ≡ are_distinct names.now }
 {
@@ -49,8 +50,9 @@ pub fn are_distinct(names: &Names) -> bool
     true
 }
 
-/// The first fields under the names in order, as `label` gives them. Names past the last field have no effect, and a
-/// field past the last name is dropped if it has one of the names. It takes room for the fields and the longer names.
+/// The first fields with the given names in order, for `label`. Names after the last field have no effect,
+/// and a field after the last name is dropped if it has one of the names. It allocates a list of fields, and
+/// longer names.
 pub fn label(names: &Names, from: Record) -> Result<Record, NoMemory>
     requires { are_distinct names.now ≡ true }
     ensures { IfOk result (λ made. made ≡ labelled names.now from) }
@@ -62,7 +64,7 @@ pub fn label(names: &Names, from: Record) -> Result<Record, NoMemory>
     Ok(Record::of_fields(alloc, made))
 }
 
-/// Puts the fields under the names behind others.
+/// Appends the fields with their new names to `into`.
 fn put_labelled(
     alloc: Global,
     names: &[Bytes],
@@ -89,7 +91,7 @@ fn put_labelled(
     Ok(())
 }
 
-/// Puts a field last, unless it is named.
+/// Appends a field, unless its name is one of the names.
 fn push_other(names: &[Bytes], field: Field, into: &mut Vec<Field>) -> Result<(), NoMemory>
     ensures { OnOk result (pairs_of into.new.items
         ≡ pairs_of into.old.items ++ dropped names.now (pair_of field ∷ [])) }
@@ -100,15 +102,15 @@ fn push_other(names: &[Bytes], field: Field, into: &mut Vec<Field>) -> Result<()
     Ok(())
 }
 
-/// Whether this name is among them.
+/// Whether a name is in the list.
 fn is_among(names: &[Bytes], name: &[u8]) -> bool
     ensures { result ≡ is_among names.now name.now }
 {
     names.iter().any(|other| name == other.as_slice())
 }
 
-/// The fields renamed one after another, as `rename` gives them: each in its place, and another field of the new name
-/// is taken out. It takes memory for longer names.
+/// The fields renamed, one renaming after another, for `rename`: each field keeps its place, and another
+/// field with the new name is removed. It allocates for longer names.
 pub fn rename_each(renamings: &[Renaming], from: Record) -> Result<Record, NoMemory>
     ensures { IfOk result (λ made. made ≡ renamed renamings.now from) }
 {
@@ -127,8 +129,8 @@ fn rename_in(renamings: &[Renaming], fields: &mut Record) -> Result<(), NoMemory
     Ok(())
 }
 
-/// The values in turn as keys and values, as `altkv` gives them: an odd last value gets the number of its pair as its
-/// key, and a key that repeats keeps its place and takes the later value. It takes memory for the record.
+/// The values, in turn a key and a value, for `altkv`. An odd last value gets the number of its pair as its
+/// key, and a key that repeats keeps its place and takes the later value. It allocates a record.
 pub fn altkv(alloc: Global, from: Record) -> Result<Record, NoMemory>
     ensures { IfOk result (λ made. made ≡ alternated from) }
 {
@@ -141,7 +143,7 @@ pub fn altkv(alloc: Global, from: Record) -> Result<Record, NoMemory>
     Ok(made)
 }
 
-/// Puts the values in turn as keys and values into a record without fields.
+/// Sets the values, in turn a key and a value, in a record without fields.
 fn put_in_turn(
     alloc: Global,
     fields: Vec<Field>,
@@ -159,7 +161,7 @@ fn put_in_turn(
     Ok(())
 }
 
-/// Puts a key and the value that follows it, or, where none does, the last key and this value.
+/// Sets a key to the value that follows it, or, if none follows, the key `last` to this value.
 fn put_turn(
     alloc: Global,
     key: Value,

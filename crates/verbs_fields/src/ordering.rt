@@ -1,3 +1,4 @@
+//! `reorder`: the named fields at the start or at the end of a record.
 ghost use Rattle.std.specs.Prelude.{◌≡◌, IfOk};
 ghost use Rattle.verbs_fields.specs.Ordering.{named_first, named_last};
 
@@ -6,8 +7,8 @@ use mlr_event::Names;
 use mlr_record::Record;
 use mlr_spec::NoMemory;
 
-/// The named fields in the order of the names, then the others, as `reorder -f` gives them. A name that repeats counts
-/// once. It takes the room of the list of fields.
+/// The named fields in the order of the names, then the others, for `reorder -f`. A name that repeats
+/// counts once. It allocates a list of fields.
 pub fn reorder_first(names: &Names, from: Record) -> Result<Record, NoMemory>
     ensures { IfOk result (λ made. made ≡ named_first names.now from) }
 {
@@ -19,8 +20,8 @@ pub fn reorder_first(names: &Names, from: Record) -> Result<Record, NoMemory>
     Ok(Record::of_fields(alloc, fields))
 }
 
-/// The fields that aren't named, then the named ones in the order of the names, as `reorder -e -f` gives them. A name
-/// that repeats counts once. It takes room for the named fields.
+/// The fields that aren't named, then the named ones in the order of the names, for `reorder -e -f`. A name
+/// that repeats counts once. It allocates a list of fields.
 pub fn reorder_last(names: &Names, from: Record) -> Result<Record, NoMemory>
     ensures { IfOk result (λ made. made ≡ named_last names.now from) }
 {

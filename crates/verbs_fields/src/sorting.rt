@@ -1,3 +1,4 @@
+//! `sort-within-records`: the fields of a record in the order of their names.
 ghost use Rattle.std.specs.Prelude.{◌≡◌, ◌++◌, [], true, IfOk, OnOk};
 ghost use Rattle.mlr_spec.specs.Tree.{fields_of, trees_of};
 ghost use Rattle.mlr_spec.specs.Pairs.{keys_of, are_distinct};
@@ -10,8 +11,8 @@ use mlr_spec::NoMemory;
 use mlr_value::{ArrayValue, Bytes, MapValue, Value};
 use std::alloc::Global;
 
-/// The fields in byte order of their names, as `sort-within-records` gives them; with `deep`, as `-r` says, also the
-/// maps in them, those in maps and arrays too. It takes memory only with `deep`.
+/// The fields in byte order of their names, for `sort-within-records`; with `deep`, which is `-r`, also the
+/// maps in them, at any depth in maps and arrays. It allocates only with `deep`.
 pub fn sort_within(alloc: Global, deep: bool, from: Record) -> Result<Record, NoMemory>
     ensures { IfOk result (λ made. made ≡ sorted_within deep from) }
 {
@@ -24,7 +25,7 @@ pub fn sort_within(alloc: Global, deep: bool, from: Record) -> Result<Record, No
     }
 }
 
-/// The record of these fields in the order of their names.
+/// The record of these fields, in the order of their names.
 fn record_by_name(alloc: Global, mut fields: Vec<Field>) -> Record
     requires { are_distinct (keys_of (pairs_of fields.items)) ≡ true }
     ensures { result ≡ by_name (pairs_of fields.items) }
@@ -33,7 +34,7 @@ fn record_by_name(alloc: Global, mut fields: Vec<Field>) -> Record
     Record::of_fields(alloc, fields)
 }
 
-/// Puts the fields into the order of their names.
+/// Sorts the fields by their names.
 fn sort_by_name(fields: &mut Vec<Field>)
     requires { are_distinct (keys_of (pairs_of fields.old.items)) ≡ true }
     ensures sorted { pairs_of fields.new.items ≡ by_name (pairs_of fields.old.items) }
@@ -42,7 +43,7 @@ fn sort_by_name(fields: &mut Vec<Field>)
     fields.sort_unstable_by(|left, right| left.name.as_slice().cmp(right.name.as_slice()));
 }
 
-/// The fields with their maps in order.
+/// The fields with their maps sorted.
 fn deep_fields(alloc: Global, fields: Vec<Field>) -> Result<Vec<Field>, NoMemory>
     ensures { IfOk result (λ made. pairs_of made.items
         ≡ deep_pairs (fields_of (pairs_of fields.items))) }
@@ -52,7 +53,7 @@ fn deep_fields(alloc: Global, fields: Vec<Field>) -> Result<Vec<Field>, NoMemory
     Ok(made)
 }
 
-/// Puts the fields with their maps in order behind others.
+/// Appends the fields with their maps sorted to `into`.
 fn push_fields(alloc: Global, fields: Vec<Field>, into: &mut Vec<Field>) -> Result<(), NoMemory>
     ensures { OnOk result (pairs_of into.new.items
         ≡ pairs_of into.old.items ++ deep_pairs (fields_of (pairs_of fields.items))) }
@@ -65,7 +66,7 @@ fn push_fields(alloc: Global, fields: Vec<Field>, into: &mut Vec<Field>) -> Resu
     Ok(())
 }
 
-/// The value with its maps in order. It takes memory for a map or an array.
+/// The value with its maps sorted. It allocates only for a map or an array.
 fn sorted_field(alloc: Global, value: Value) -> Result<Value, NoMemory>
     ensures { IfOk result (λ made. tree_of made ≡ deep_sorted (tree_of value)) }
 {
@@ -75,7 +76,7 @@ fn sorted_field(alloc: Global, value: Value) -> Result<Value, NoMemory>
     }
 }
 
-/// A copy of the value with its maps in order.
+/// A copy of the value with its maps sorted.
 #[cycle(sorted)]
 fn sorted_value(alloc: Global, value: &Value) -> Result<Value, NoMemory>
     ensures { IfOk result (λ made. tree_of made ≡ deep_sorted (tree_of value.now)) }
@@ -95,7 +96,7 @@ fn sorted_value(alloc: Global, value: &Value) -> Result<Value, NoMemory>
     }
 }
 
-/// Puts copies of the pairs with their maps in order behind others.
+/// Appends copies of the pairs, with their maps sorted, to `into`.
 #[cycle(sorted)]
 fn push_pairs(alloc: Global, map: &MapValue, into: &mut Vec<Field>) -> Result<(), NoMemory>
     ensures { OnOk result (pairs_of into.new.items
@@ -110,7 +111,7 @@ fn push_pairs(alloc: Global, map: &MapValue, into: &mut Vec<Field>) -> Result<()
     Ok(())
 }
 
-/// Puts copies of the items with their maps in order behind others.
+/// Appends copies of the items, with their maps sorted, to `into`.
 #[cycle(sorted)]
 fn push_items(alloc: Global, array: &ArrayValue, into: &mut ArrayValue) -> Result<(), NoMemory>
     ensures { OnOk result (into.new ≡ into.old ++ deep_items (trees_of array.now)) }
@@ -121,7 +122,7 @@ fn push_items(alloc: Global, array: &ArrayValue, into: &mut ArrayValue) -> Resul
     Ok(())
 }
 
-/// The map of these pairs in the order of their keys.
+/// The map of these pairs, in the order of their keys.
 fn map_by_name(alloc: Global, mut pairs: Vec<Field>) -> Result<MapValue, NoMemory>
     requires { are_distinct (keys_of (pairs_of pairs.items)) ≡ true }
     ensures { IfOk result (λ made. made ≡ by_name (pairs_of pairs.items)) }
@@ -132,7 +133,7 @@ fn map_by_name(alloc: Global, mut pairs: Vec<Field>) -> Result<MapValue, NoMemor
     Ok(made)
 }
 
-/// Puts the pairs into a map without pairs.
+/// Appends the pairs to a map without pairs.
 fn put_pairs(pairs: Vec<Field>, into: &mut MapValue) -> Result<(), NoMemory>
     requires empty { into.old ≡ [] }
     requires distinct { are_distinct (keys_of (pairs_of pairs.items)) ≡ true }

@@ -1,3 +1,4 @@
+//! `unspace`: a text in place of each space in keys and values.
 ghost use Rattle.std.specs.Prelude.{◌≡◌, ◌++◌, [], true, IfOk, OnOk};
 ghost use Rattle.std.specs.List.{list_any};
 ghost use Rattle.mlr_spec.specs.Pairs.{keys_of, are_distinct};
@@ -10,7 +11,7 @@ use mlr_spec::{InferOpts, NoMemory};
 use mlr_value::{Bytes, Value, from_data};
 use std::alloc::Global;
 
-/// What `unspace` takes of a field.
+/// Where `unspace` replaces spaces.
 #[derive(Clone, Copy, Debug, PartialEq, Eq)]
 pub enum UnspacePart {
     Both,
@@ -20,7 +21,7 @@ pub enum UnspacePart {
     Values,
 }
 
-/// The verb `unspace`: a text in place of each space.
+/// The verb `unspace`, which replaces each space by a text.
 #[derive(Drop)]
 pub struct Unspace {
     pub text: Bytes,
@@ -28,9 +29,9 @@ pub struct Unspace {
 }
 
 impl Unspace {
-    /// The record with the text in place of each space. A string that is changed is inferred as data; other values stay
-    /// as they are, maps and arrays too. Of keys that become equal the first gives the place and the last the value. A
-    /// record without spaces is left as it is without memory.
+    /// The record with each space replaced by the text. The type of a string that changes is inferred as for
+    /// data; other values are unchanged, maps and arrays too. Of fields whose keys become equal, the first
+    /// gives the place and the last the value. It doesn't allocate for a record without spaces.
     pub fn take(&self, alloc: Global, from: Record) -> Result<Record, NoMemory>
         ensures { IfOk result (λ made. made ≡ unspaced self.now from) }
     {
@@ -42,7 +43,7 @@ impl Unspace {
         Ok(made)
     }
 
-    /// A copy. It takes memory for a text of more than 16 bytes.
+    /// A copy. It allocates only for a text of more than 16 bytes.
     pub fn copy(&self, alloc: Global) -> Result<Self, NoMemory>
         ensures { IfOk result (λ copy. copy ≡ self.now) }
     {
@@ -53,7 +54,7 @@ impl Unspace {
     }
 }
 
-/// Whether a record has a space in what is taken of its fields.
+/// Whether a key or a value that `unspace` takes has a space.
 fn has_spaced(part: UnspacePart, from: &Record) -> bool
     ensures found { result ≡ list_any (is_spaced part) from.now }
     ensures distinct { are_distinct (keys_of from.now) ≡ true }
@@ -67,7 +68,7 @@ fn has_spaced(part: UnspacePart, from: &Record) -> bool
     false
 }
 
-/// Whether a field has a space in what is taken of it.
+/// Whether the key or the value of a field has a space, as far as `unspace` takes it.
 fn is_spaced(part: UnspacePart, name: &[u8], value: &Value) -> bool
     ensures { result ≡ is_spaced part (name.now, tree_of value.now) }
 {
@@ -101,7 +102,7 @@ fn is_spaced_string(value: &Value) -> bool
     }
 }
 
-/// Puts the fields without their spaces into a record without fields.
+/// Sets the fields, with their spaces replaced, in a record without fields.
 fn put_unspaced(
     alloc: Global,
     unspace: &Unspace,
@@ -118,7 +119,7 @@ fn put_unspaced(
     Ok(())
 }
 
-/// The field without its spaces.
+/// The field with its spaces replaced.
 fn unspaced_field(alloc: Global, unspace: &Unspace, field: Field) -> Result<Field, NoMemory>
     ensures { IfOk result (λ made. pair_of made ≡ unspaced_field unspace.now (pair_of field)) }
 {
@@ -137,7 +138,7 @@ fn unspaced_field(alloc: Global, unspace: &Unspace, field: Field) -> Result<Fiel
     Ok(Field { name, value })
 }
 
-/// The name without its spaces.
+/// The name with its spaces replaced.
 fn unspaced_name(alloc: Global, other: &[u8], name: Bytes) -> Result<Bytes, NoMemory>
     ensures { IfOk result (λ made. made ≡ unspaced_text other.now name) }
 {
@@ -148,7 +149,7 @@ fn unspaced_name(alloc: Global, other: &[u8], name: Bytes) -> Result<Bytes, NoMe
     }
 }
 
-/// The value without its spaces.
+/// The value with its spaces replaced.
 fn unspaced_value(alloc: Global, other: &[u8], value: Value) -> Result<Value, NoMemory>
     ensures { IfOk result (λ made. tree_of made ≡ unspaced_value other.now (tree_of value)) }
 {
@@ -161,7 +162,7 @@ fn unspaced_value(alloc: Global, other: &[u8], value: Value) -> Result<Value, No
     }
 }
 
-/// The text with another in place of each space.
+/// The text with each space replaced by `other`.
 fn unspaced_text(alloc: Global, other: &[u8], text: &[u8]) -> Result<Bytes, NoMemory>
     ensures { IfOk result (λ made. made ≡ unspaced_text other.now text.now) }
 {
@@ -170,7 +171,7 @@ fn unspaced_text(alloc: Global, other: &[u8], text: &[u8]) -> Result<Bytes, NoMe
     Ok(made)
 }
 
-/// Puts the text behind `into`, with another in place of each space.
+/// Appends the text to `into`, with each space replaced by `other`.
 fn append_unspaced(other: &[u8], text: &[u8], into: &mut Bytes) -> Result<(), NoMemory>
     ensures { OnOk result (into.new ≡ into.old ++ unspaced_text other.now text.now) }
 {
@@ -180,7 +181,7 @@ fn append_unspaced(other: &[u8], text: &[u8], into: &mut Bytes) -> Result<(), No
     Ok(())
 }
 
-/// Puts the byte behind `into`, or another text in place of a space.
+/// Appends the byte to `into`, or `other` in place of a space.
 fn append_byte(other: &[u8], byte: u8, into: &mut Bytes) -> Result<(), NoMemory>
     ensures { OnOk result (into.new ≡ into.old ++ unspaced_byte other.now byte) }
 {

@@ -1,4 +1,4 @@
-//! What the functions on fields make of records, by tables.
+//! Tables of records before and after the functions on fields.
 
 use crate::{
     Renaming, Unspace, UnspacePart, all_defined, altkv, any_defined, are_distinct, drop_named,
@@ -161,7 +161,7 @@ const CHANGES: [(Change, &str, &str); 85] = [
     (Sparsify(None), "a=,b=", ""),
     (Sparsify(Some("a,b")), "a=1,b=,c=,d=4", "a=1,c=,d=4"),
     (Sparsify(Some("a,b")), "a= ,c=", "a= ,c="),
-    // The named fields come first or last.
+    // The named fields are moved to the start or to the end.
     (First("a,b"), "d=4,b=2,a=1,c=3", "a=1,b=2,d=4,c=3"),
     (Last("a,b"), "d=4,b=2,a=1,c=3", "d=4,c=3,a=1,b=2"),
     (First("b,a,b"), "a=1,b=2,c=3", "b=2,a=1,c=3"),
@@ -248,7 +248,8 @@ const CHANGES: [(Change, &str, &str); 85] = [
     (Spaces("_", UnspacePart::Both), "", ""),
 ];
 
-/// A record of a thousand fields is changed, and has so many fields then, of which this one is at this place.
+/// A change of a record with a thousand fields, the number of its fields after it, and the field at this
+/// place.
 const OF_A_THOUSAND: [(Change, usize, usize, &str); 11] = [
     (Keep("k999,k0,k500"), 3, 0, "k0"),
     (Keep("k999,k0,k500"), 3, 1, "k500"),
@@ -283,7 +284,8 @@ fn records_have_these_fields_after_a_change(rt: HostRuntime) -> Result<(), NoMem
     Ok(())
 }
 
-/// Names, a record, and whether it has all names, none beyond them, all defined, and one defined.
+/// Names, a record, and whether it has fields of all names, fields of no other names, none of the named
+/// fields empty or missing, and one of them not empty.
 const HAVINGS: [(&str, &str, [bool; 4]); 7] = [
     ("a,b", "b=2,a=1", [true, true, true, true]),
     ("a,b", "b=2,a=1,c=3", [true, false, true, true]),
@@ -311,7 +313,7 @@ const DISTINCT: [(&str, bool); 13] = [
     ("a b", true),
 ];
 
-/// Texts of options: two lie inline, and one doesn't.
+/// Texts of options: two are stored inline, and one is allocated.
 const TEXTS: [&str; 3] = ["", "_", "a text of more bytes than lie inline"];
 
 #[test]

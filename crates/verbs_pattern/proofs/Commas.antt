@@ -1,11 +1,11 @@
--- Texts with commas between them, one more at a time.
+-- Texts with commas between them, one more text at a time.
 use Rattle.std.proofs.Common.{◌≡◌, ℕ, Bool, true, false, zero, suc, ◌+◌, ◌<◌, List, [], ◌∷◌, ◌++◌, length, take, get_or, map, refl, ap, sym, ◌∙◌, append_assoc, arith}
 use Rattle.std.specs.Prelude.{nat_lt, if◌then◌else◌}
 use Rattle.std.proofs.lemmas.List.{take_more, map-append}
 use Rattle.std.proofs.lemmas.Bool.{lt-ltb}
 use Rattle.mlr_spec.specs.Json.{joined}
 
--- what stands before a text, if there is one before it
+-- the comma before a text, if another text precedes it
 abbrev pub comma : Bool → List ℕ
 comma any = if any then 44 ∷ [] else []
 
@@ -27,7 +27,7 @@ any_before f n [] below = absurd (omega (arith, below))
 any_before f zero (x ∷ xs) below = refl
 any_before f (suc n) (x ∷ xs) below = sym (lt-ltb 0 (suc n) (omega arith))
 
--- one more text behind those that were put
+-- one more text after those that were appended
 pub put_more : {A : Type 0} (f : A → List ℕ) (xs : List A) (n : ℕ) (x : A) (old now marked later : List ℕ) → n < length xs → get_or xs n x ≡ x →
     now ≡ old ++ joined (44 ∷ []) (map f (take n xs)) → marked ≡ now ++ comma (nat_lt 0 n) → later ≡ marked ++ f x →
     later ≡ old ++ joined (44 ∷ []) (map f (take (n + 1) xs))

@@ -1,4 +1,4 @@
--- What holds a pattern may go into a thread, and may be shared by threads.
+-- What contains a pattern may be moved to another thread, and may be shared by threads.
 use denote.Param.Send.{IsSend, IsSync, sendable}
 use Rattle.std.proofs.Crossing.{crosses}
 use Rattle.mlr_value.proofs.bytes.Bytes.TheSendSync as bytes
@@ -10,7 +10,7 @@ use Rattle.verbs_pattern.specs.contracts.sub.Gsub
 use Rattle.verbs_pattern.specs.contracts.sub.Sub
 use Rattle.verbs_pattern.specs.contracts.sub_fields.SubFields
 
--- into a thread
+-- moved to another thread
 SubFields-send : IsSend SubFields.the_field.row
 SubFields-send = search (names.the_send, crosses, sendable) depth 60 fits 20000
 

@@ -39,7 +39,7 @@ among-more pairs q key =
     ap (λ names. is_among names key) (map-append (λ (pair : Pair). pair.0) pairs (q ∷ []))
     ∙ list_any-append (bytes_eq key) (keys_of pairs) (q.0 ∷ [])
 
--- one more field: another of its name is no more the last
+-- appending a field removes an earlier one with its name from the last ones
 last-more : (pairs : List Pair) (q : Pair) → last_of_each (pairs ++ q ∷ []) ≡ remove_at q.0 (last_of_each pairs) ++ q ∷ []
 last-more [] q = refl
 last-more (p ∷ pairs) q =
@@ -74,7 +74,8 @@ module _ (new_name : List ℕ → List ℕ) where
   abbrev moved : List Pair → List Pair
   moved pairs = map (under_new_name new_name) pairs
 
-  -- fields with the names that were given are those that were reached, and the names that were made are given too
+  -- `given` has exactly the new names of the fields that were reached, and so, for the names of the remaining
+  -- fields, has `made`
   abbrev Given : List Pair → List (List ℕ) → Type 0
   Given before given = (key : List ℕ) → is_among given key ≡ is_among (keys_of (moved before)) key
 
@@ -93,7 +94,7 @@ module _ (new_name : List ℕ → List ℕ) where
       swapped false true = refl
       swapped false false = refl
 
-  -- a name behind a field isn't its own
+  -- a name of a later field differs from the name of this field
   following-other : (p : Pair) (todo : List Pair) (key : List ℕ) → is_among (keys_of todo) p.0 ≡ false → is_among (keys_of todo) key ≡ true → bytes_eq key p.0 ≡ false
   following-other p todo key absent among =
       elim (cases_Bool (bytes_eq key p.0)) as (λ _. bytes_eq key p.0 ≡ false) [
@@ -158,7 +159,7 @@ module _ (new_name : List ℕ → List ℕ) where
       renamed_from new_name [] [] pairs ≡ last_of_each (moved (reached new_name [] pairs))
   renamed-kept pairs distinct = renamed-on [] [] [] pairs distinct (λ key. refl) (λ key among. refl)
 
-  -- no field comes to the name of another
+  -- no field gets the name of another
   abbrev Apart : List Pair → Type 0
   Apart pairs = (name : List ℕ) → is_among (keys_of pairs) name ≡ true → is_among (keys_of pairs) (new_name name) ≡ true → new_name name ≡ name
 

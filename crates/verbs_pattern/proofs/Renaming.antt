@@ -1,4 +1,4 @@
--- One field after another is renamed, in place.
+-- Fields are renamed in place, one after another.
 use Rattle.std.proofs.Common.{◌≡◌, ℕ, zero, suc, ◌+◌, ◌<◌, ◌≤◌, Bool, true, false, not, cond, ◌||◌, List, [], ◌∷◌, ◌++◌, length, take, drop, get_or, Some, None, refl, sym, ap, ap₂, ◌∙◌, subst, arith, add-one, inl, inr}
 use Rattle.std.specs.List.{list_any, position_or_len}
 use Rattle.std.specs.Option.{is_none}
@@ -22,7 +22,7 @@ Pair = List ℕ × Tree
 same_name : (a : List ℕ) → bytes_eq a a ≡ true
 same_name a = (bytes_eq-Decides a a).1 refl
 
--- a key that isn't there takes nothing out
+-- removing a key that isn't there changes nothing
 pub removed-absent : (key : List ℕ) (pairs : List Pair) → list_any (bytes_eq key) (keys_of pairs) ≡ false → remove_at key pairs ≡ pairs
 removed-absent key [] absent = refl
 removed-absent key (p ∷ pairs) absent =
@@ -43,7 +43,7 @@ still-absent test key (p ∷ pairs) absent =
     cond_both (bytes_eq p.0 key) pairs (p ∷ remove_at key pairs) (λ l. list_any test (keys_of l) ≡ false)
     (λ _. parts.1) (λ _. or_from _ _ parts.0 (still-absent test key pairs parts.1))
 
--- what distinct keys say of those before and behind one of them
+-- with distinct keys, a key isn't among those before it or those after it
 absent-following : (key : List ℕ) (prefix : List Pair) (p : Pair) (back : List Pair) → list_any (bytes_eq key) (keys_of (prefix ++ p ∷ back)) ≡ false →
     list_any (bytes_eq key) (keys_of back) ≡ false
 absent-following key [] p back absent = (or_parts (bytes_eq key p.0) (list_any (bytes_eq key) (keys_of back)) absent).1
@@ -68,7 +68,7 @@ distinct-following (q ∷ prefix) p back distinct =
     distinct-following prefix p back
     (and_parts (not (list_any (bytes_eq q.0) (keys_of (prefix ++ p ∷ back)))) (are_distinct (keys_of (prefix ++ p ∷ back))) distinct).1
 
--- a renaming, seen from the field that is renamed
+-- renaming a field removes fields before it and after it
 removed-around : (key : List ℕ) (prefix : List Pair) (p : Pair) (back : List Pair) → are_distinct (keys_of (prefix ++ p ∷ back)) ≡ true →
     bytes_eq p.0 key ≡ false → remove_at key (prefix ++ p ∷ back) ≡ remove_at key prefix ++ p ∷ remove_at key back
 removed-around key [] p back distinct other = cond-false (bytes_eq p.0 key) back (p ∷ remove_at key back) other
@@ -108,7 +108,7 @@ renamed-around new prefix p back distinct other =
     ∙ ap (with_name p.0 new) (removed-around new prefix p back distinct other)
     ∙ named-there new (remove_at new prefix) p (remove_at new back) (still-absent (λ key. bytes_eq key p.0) new prefix (absent-before prefix p back distinct))
 
--- a list around one of its elements
+-- taking and dropping a list up to one of its elements
 take-around : {A : Type 0} (prefix : List A) (x : A) (back : List A) → take (suc (length prefix)) (prefix ++ x ∷ back) ≡ prefix ++ x ∷ []
 take-around [] x back = refl
 take-around (y ∷ prefix) x back = ap (λ l. y ∷ l) (take-around prefix x back)
@@ -142,7 +142,7 @@ renamed-at place next old new before after pair below distinct is other renamed 
     ∙ renamed-around new (take place before) p (drop (place + 1) before) (subst (λ l. are_distinct (keys_of l) ≡ true) whole distinct) (bytes_eq-swap p.0 new ∙ other) in
     (ap₂ take end made ∙ take-around prefix (new, p.1) back, ap₂ drop end made ∙ drop-around prefix (new, p.1) back)
 
--- what stands before a place when another field of the new name is taken out
+-- the fields before a place after another field with the new name is removed
 module _ (key : List ℕ) where
   abbrev has_key : Pair → Bool
   has_key pair = bytes_eq pair.0 key
@@ -206,7 +206,7 @@ module _ (rename : List ℕ → List ℕ) where
   choose : {A : Type 0} (s t u : Bool) (a a' b b' d d' : A) → s ≡ t → a ≡ a' → b ≡ b' → d ≡ d' → cond s a (cond u b d) ≡ cond t a' (cond u b' d')
   choose s t u a a' b b' d d' e f g h = λ i. cond (e i) (f i) (cond u (g i) (h i))
 
-  -- a name that was made is one whose field is taken out
+  -- a name that was made has the effect that its field is removed
   gone : (done : List Pair) (made : List (List ℕ)) (new : List ℕ) (todo : List Pair) → are_distinct (keys_of todo) ≡ true →
       renamed_from rename done (made ++ new ∷ []) todo ≡ renamed_from rename done made (remove_at new todo)
   gone done made new [] distinct = refl
@@ -230,7 +230,7 @@ module _ (rename : List ℕ → List ℕ) where
             ∙ sym (ap (renamed_from rename done made) (cond-false (bytes_eq p.0 new) todo (p ∷ remove_at new todo) off))
       ]
 
-  -- a step that renames
+  -- a step that renames a field
   pub step-renames : (place next : ℕ) (new : List ℕ) (before after : List Pair) (pair : Pair) → place < length before →
       are_distinct (keys_of before) ≡ true → new ≡ rename (get_or before place pair).0 → bytes_eq new (get_or before place pair).0 ≡ false →
       take next after ≡ remove_at new (take place before) ++ (new, (get_or before place pair).1) ∷ [] →
@@ -251,7 +251,7 @@ module _ (rename : List ℕ → List ℕ) where
         omega (arith, below, length-drop next after, ap length left, removed-length new back, length-drop (place + 1) before),
       )
 
-  -- a step that keeps the name
+  -- a step that keeps the name of a field
   pub step-keeps : (place : ℕ) (before : List Pair) (pair : Pair) → place < length before → bytes_eq (rename (get_or before place pair).0) (get_or before place pair).0 ≡ true →
       GoesOn rename place before (place + 1) before
   step-keeps place before pair below same =

@@ -1,4 +1,4 @@
--- One test after another, over a list.
+-- Tests of one element after another of a list.
 use Rattle.std.proofs.Common.{◌≡◌, ℕ, zero, suc, ◌+◌, ◌<◌, Bool, true, false, ◌&&◌, ◌||◌, List, [], ◌∷◌, length, take, get_or, Some, slice_get, ap, ◌∙◌, arith, add-one}
 use Rattle.std.specs.List.{list_all, list_any}
 use Rattle.std.proofs.lemmas.Bool.{and_from, and_parts, and_right, or_from, or_parts, or_right}
@@ -29,7 +29,7 @@ module _ {A : Type 0} (test : A → Bool) where
   broken_at (y ∷ xs) zero x below here fails = ap (λ z. test z && list_all test xs) here ∙ ap (λ t. t && list_all test xs) fails
   broken_at (y ∷ xs) (suc i) x below here fails = and_right (test y) _ (broken_at xs i x (omega (arith, below)) here fails)
 
-  -- the same where the element is known whatever stands past the end
+  -- the same if the element is known by any default past the end of the list
   pub any_passes : (xs : List A) (i : ℕ) → i < length xs → ((d : A) → test (get_or xs i d) ≡ true) → list_any test xs ≡ true
   any_passes [] i below passes = absurd (omega (arith, below))
   any_passes (y ∷ xs) zero below passes = ap (λ t. t || list_any test xs) (passes y)
@@ -46,7 +46,7 @@ module _ {A : Type 0} (test : A → Bool) where
       list_any test (take i xs) ≡ false → list_any test (take (i + 1) xs) ≡ false
   none_more xs i below fails none = ap (λ n. list_any test (take n xs)) (add-one i) ∙ none_further xs i below fails none
 
-  -- one more element that is read from a record, or one that ends the walk
+  -- one more element that is read from a record, or one that ends the loop
   module _ (xs : List A) (i : ℕ) (x : A) (read : slice_get xs i ≡ Some x) where
     pub none_so_far : test x ≡ false → list_any test (take i xs) ≡ false → list_any test (take (i + 1) xs) ≡ false
     none_so_far fails none =

@@ -1,11 +1,11 @@
--- A record in which the values of some fields are changed.
+-- A record with the values of some fields changed.
 use Rattle.std.specs.Prelude.{ℕ, List, Option, Some, None}
 use Rattle.mlr_spec.specs.Tree.{Tree}
 use Rattle.verbs_base.specs.Changing.{changed, is_taken}
 use Rattle.verbs_pattern.specs.declared.sub_fields.SubFields.{SubFields}
 use Rattle.verbs_pattern.specs.declared.sub_fields.SubFields.TheVariants.{All, Named}
 
--- the names of the fields that are changed, and none for all fields
+-- the names of the fields that are changed, or None for all fields
 abbrev pub names_of : SubFields → Option (List (List ℕ))
 names_of All = None
 names_of (Named names) = Some names

@@ -1,4 +1,4 @@
--- Which records pass by their text.
+-- The records that pass `grep`, by their text.
 use Rattle.std.specs.Prelude.{ℕ, Bool, not, List, [], ◌∷◌, if◌then◌else◌}
 use Rattle.mlr_spec.specs.Ascii.{comma, equals_sign}
 use Rattle.regex.specs.Patterns.{Re}
@@ -6,10 +6,10 @@ use Rattle.mlr_spec.specs.Tree.{Tree}
 use Rattle.text_forms.specs.Dkvp.{dkvp_text}
 use Rattle.verbs_pattern.specs.Matching.{has_match}
 
--- the fields of a record as `name=value`, with commas between them
+-- the text of a record: its fields as `name=value`, with commas between them
 abbrev pub record_text : List (List ℕ × Tree) → List ℕ
 record_text pairs = dkvp_text (comma ∷ []) (equals_sign ∷ []) pairs
 
--- the pattern matches somewhere in the record's text, or, for the others, nowhere
+-- whether a record passes: the pattern matches somewhere in its text, or with `others` nowhere
 abbrev pub passes_grep : Bool → Re → List (List ℕ × Tree) → Bool
 passes_grep others re pairs = if others then not (has_match re (record_text pairs)) else has_match re (record_text pairs)

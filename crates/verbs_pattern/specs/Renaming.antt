@@ -1,4 +1,4 @@
--- A record in which the names that patterns match are rewritten.
+-- A record whose names are rewritten by patterns.
 use Rattle.std.specs.Prelude.{ℕ, List, [], ◌∷◌, ◌++◌, if◌then◌else◌}
 use Rattle.std.specs.Str.{bytes_eq}
 use Rattle.regex.specs.Patterns.{Re}
@@ -8,8 +8,9 @@ use Rattle.mlr_event.specs.Reading.{is_among}
 use Rattle.mlr_pattern.specs.declared.which.Which.{Which}
 use Rattle.mlr_pattern.specs.Replacing.{matches_of, replaced}
 
--- The fields from left to right, behind those that are done: a field keeps its place under its new name, and another field
--- of that name is taken out. So a later field with a name that was made is gone; and a name that was made isn't made anew.
+-- The fields from left to right, after those that are done. Each field keeps its place and gets its new name,
+-- and another field with that name is removed. So a later field whose name another field got (`made`) is
+-- dropped, and isn't renamed itself.
 abbrev pub renamed_from : (List ℕ → List ℕ) → List (List ℕ × Tree) → List (List ℕ) → List (List ℕ × Tree) → List (List ℕ × Tree)
 renamed_from new_name done made [] = done
 renamed_from new_name done made (pair ∷ todo) =
@@ -17,11 +18,11 @@ renamed_from new_name done made (pair ∷ todo) =
     else if bytes_eq (new_name pair.0) pair.0 then renamed_from new_name (done ++ pair ∷ []) made todo
     else renamed_from new_name (remove_at (new_name pair.0) done ++ (new_name pair.0, pair.1) ∷ []) (new_name pair.0 ∷ made) todo
 
--- by one pattern: its matches in the names are replaced
+-- renaming by one pattern, which replaces its matches in the names
 abbrev pub renamed_by : Which → Re → List ℕ → List (List ℕ × Tree) → List (List ℕ × Tree)
 renamed_by which re by pairs = renamed_from (λ name. replaced name by (matches_of which re name)) [] [] pairs
 
--- by several patterns in turn, each with what replaces its matches
+-- renaming by several patterns in turn, each with its replacement
 abbrev pub renamed_by_each : Which → List (Re × List ℕ) → List (List ℕ × Tree) → List (List ℕ × Tree)
 renamed_by_each which [] pairs = pairs
 renamed_by_each which (rule ∷ rules) pairs = renamed_by_each which rules (renamed_by which rule.0 rule.1 pairs)

@@ -5,6 +5,6 @@ use Rattle.regex.specs.Patterns.{Re}
 use Rattle.regex.specs.Bytes.{regex_pattern}
 use Rattle.verbs_pattern.specs.declared.rename_patterns.RenamePatterns.{RenamePatterns}
 
--- the patterns, as `regex` reads them, each with what replaces its matches
+-- the patterns, as compiled by `regex`, each with its replacement
 abbrev pub rules_in : RenamePatterns → List (Re × List ℕ)
 rules_in options = map (λ rule. (regex_pattern (arc_value rule.0), rule.1)) options.pairs.items

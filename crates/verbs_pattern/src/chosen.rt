@@ -1,3 +1,4 @@
+//! The fields that `sub`, `gsub` and `ssub` change, by their names.
 ghost use Rattle.std.specs.Prelude.{◌≡◌, IfOk};
 ghost use Rattle.std.specs.Option.{option_map};
 ghost use Rattle.verbs_pattern.specs.Changing.{names_of};
@@ -8,7 +9,7 @@ use mlr_spec::NoMemory;
 use std::alloc::Global;
 
 impl SubFields {
-    /// A copy. It takes memory for the names.
+    /// A copy. It allocates for the names.
     pub fn copy(&self, _: Global) -> Result<Self, NoMemory>
         ensures { IfOk result (λ copy. copy ≡ self.now) }
     {
@@ -19,7 +20,7 @@ impl SubFields {
     }
 }
 
-/// The names of the fields that are changed, and none for all fields.
+/// The names of the fields that are changed, or None for all fields.
 pub(crate) fn names_of(fields: &SubFields) -> Option<&Names>
     ensures { option_map (λ names. names.now) result ≡ names_of fields.now }
 {

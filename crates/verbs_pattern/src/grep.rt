@@ -1,3 +1,4 @@
+//! `grep`: the records whose texts match a pattern.
 ghost use Rattle.std.specs.Prelude.{◌≡◌, ◌++◌, ◌∷◌, [], is_some, if◌then◌else◌, IfOk, OnOk};
 ghost use Rattle.std.specs.Arc.{arc_value};
 ghost use Rattle.regex.specs.Bytes.{regex_pattern};
@@ -14,18 +15,19 @@ use std::alloc::Global;
 use std::sync::Arc;
 use text_forms::append_shown;
 
-/// `grep`: passes the records whose text matches. A record's text is its line in DKVP with `,` and `=`.
+/// `grep`: passes the records whose text matches a pattern. A record's text is its line in DKVP with `,` and
+/// `=`.
 #[derive(Drop)]
 pub struct Grep {
-    /// `-i`: letters match in either case. The pattern was read so already.
+    /// `-i`: the case of letters is ignored. The pattern was compiled with it already.
     pub either_case: bool,
-    /// `-v`: passes the other records.
+    /// `-v`: passes the records that don't match.
     pub others: bool,
     pub pattern: Arc<Pattern>,
 }
 
 impl Grep {
-    /// Whether the record passes. It takes memory for its text and for one matcher.
+    /// Whether the record passes. It allocates its text and one matcher.
     pub fn passes(&self, alloc: Global, fields: &Record) -> Result<bool, NoMemory>
         ensures { IfOk result (λ passes. passes
             ≡ passes_grep self.now.others (regex_pattern (arc_value self.now.pattern)) fields.now) }
@@ -34,7 +36,7 @@ impl Grep {
         Ok(if self.others { !found } else { found })
     }
 
-    /// A copy, which shares the pattern. It takes no memory.
+    /// A copy, which shares the pattern. It doesn't allocate.
     pub fn copy(&self, _: Global) -> Result<Self, NoMemory>
         ensures either_case { IfOk result (λ copy. copy.either_case ≡ self.now.either_case) }
         ensures others { IfOk result (λ copy. copy.others ≡ self.now.others) }
@@ -58,7 +60,7 @@ fn text_matches(alloc: Global, pattern: &Pattern, fields: &Record) -> Result<boo
     matches(alloc, pattern, text.as_slice())
 }
 
-/// Puts the text of a record behind `out`.
+/// Appends the text of a record to `out`.
 pub(crate) fn append_dkvp(fields: &Record, out: &mut Bytes) -> Result<(), NoMemory>
     ensures { OnOk result (out.new ≡ out.old ++ record_text fields.now) }
 {
@@ -70,7 +72,7 @@ pub(crate) fn append_dkvp(fields: &Record, out: &mut Bytes) -> Result<(), NoMemo
     Ok(())
 }
 
-/// A comma, if there is a field before.
+/// Appends a comma, if a field precedes.
 fn append_comma(any: bool, out: &mut Bytes) -> Result<(), NoMemory>
     ensures { OnOk result (out.new ≡ out.old ++ (if any then 44 ∷ [] else [])) }
 {

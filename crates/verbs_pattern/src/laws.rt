@@ -1,3 +1,4 @@
+//! What `rename -r` by one pattern gives, for a whole record.
 ghost use Rattle.std.specs.Prelude.{◌≡◌, ℕ, true, List, [], map};
 ghost use Rattle.mlr_event.specs.Reading.{is_among};
 ghost use Rattle.mlr_spec.specs.Pairs.{are_distinct, keys_of};
@@ -5,10 +6,11 @@ ghost use Rattle.mlr_spec.specs.Tree.{Tree};
 ghost use Rattle.verbs_pattern.specs.Renamed.{last_of_each, reached, under_new_name};
 ghost use Rattle.verbs_pattern.specs.Renaming.{renamed_from};
 
-/// What `rename -r` by one pattern comes to on a whole record, whose names are distinct. Each field that is reached has its
-/// new name, and of several that come to one name the last stays, in its place; a field whose name one before it came to
-/// is not reached. Where no field comes to the name of another, all are reached; and where their new names are distinct
-/// too, all stay. It does nothing.
+/// What `rename -r` by one pattern gives for a whole record with distinct names. Each field that is reached
+/// gets its new name, and of fields that get the same name only the last is kept, in its place; a field isn't
+/// reached if an earlier one got its name. If no field gets the name of another, all are reached; and if the
+/// new names are distinct too, all are kept. The function does nothing: its clauses are laws of the
+/// definitions.
 pub fn renamed_law()
     ensures kept { (new_name : List ℕ → List ℕ) (fields : List (List ℕ × Tree))
         → are_distinct (keys_of fields) ≡ true

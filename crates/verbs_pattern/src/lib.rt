@@ -1,4 +1,4 @@
-//! What the verbs with patterns make of a record: `sub`, `gsub`, `ssub`, `grep`, and what patterns decide in `cut -r`,
+//! The verbs with patterns on one record: `sub`, `gsub`, `ssub`, `grep`, and the patterns of `cut -r`,
 //! `having-fields` and `rename -r`. The fields of a verb's struct are its words on the command line.
 #![tactic(auto)]
 

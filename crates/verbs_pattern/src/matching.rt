@@ -1,3 +1,4 @@
+//! `cut -r` and `having-fields` with patterns: names of fields that match.
 ghost use Rattle.std.specs.Prelude.{◌≡◌, ◌<◌, ◌++◌, ◌∷◌, [], length, map, slice_index_or, IfOk, OnOk};
 ghost use Rattle.std.specs.Arc.{arc_value};
 ghost use Rattle.std.specs.List.{list_all};
@@ -13,8 +14,8 @@ use mlr_spec::NoMemory;
 use std::alloc::Global;
 use std::sync::Arc;
 
-/// `cut -r`: the fields whose names one of the patterns matches, or with `complement` the others. It takes memory for one
-/// matcher a pattern, and for the list of the fields.
+/// `cut -r`: the fields whose names match one of the patterns, or with `complement` the others. It allocates
+/// one matcher for each pattern, and the list of the fields.
 pub fn keep_matching(
     alloc: Global,
     patterns: &Patterns,
@@ -95,8 +96,8 @@ fn is_matched_by(matchers: &mut [Matcher<'_>], place: usize, text: &[u8]) -> boo
     matchers[place].is_match(text)
 }
 
-/// `having-fields --all-matching`: whether the record has a field, and the pattern matches all names. It takes memory for
-/// one matcher.
+/// `having-fields --all-matching`: whether the record has a field and all names match the pattern. It
+/// allocates one matcher.
 pub fn all_names_match(alloc: Global, pattern: &Pattern, fields: &Record) -> Result<bool, NoMemory>
     ensures { IfOk result (λ all. all ≡ all_names_match (regex_pattern pattern.now) fields.now) }
 {
@@ -119,7 +120,7 @@ fn matches_all_names(matcher: &mut Matcher<'_>, fields: &Record) -> bool
     true
 }
 
-/// `having-fields --any-matching`: whether the pattern matches one name. It takes memory for one matcher.
+/// `having-fields --any-matching`: whether a name matches the pattern. It allocates one matcher.
 pub fn any_name_matches(alloc: Global, pattern: &Pattern, fields: &Record) -> Result<bool, NoMemory>
     ensures { IfOk result (λ any. any ≡ any_name_matches (regex_pattern pattern.now) fields.now) }
 {

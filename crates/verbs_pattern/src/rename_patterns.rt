@@ -1,3 +1,4 @@
+//! `rename -r` and `rename -g`: names rewritten by patterns.
 ghost use Rattle.std.specs.Prelude.{◌≡◌, ◌+◌, ◌^◌, ◌<◌, ℕ, true, false, List, length, map, take, slice_index_or, IfOk, OnOk, MatchOption};
 ghost use Rattle.std.specs.Arc.{arc_value};
 ghost use Rattle.std.specs.Str.{bytes_eq};
@@ -15,18 +16,18 @@ use mlr_value::Bytes;
 use std::alloc::Global;
 use std::sync::Arc;
 
-/// `rename -r` and `rename -g`: the names in which a pattern matches are rewritten. Each pattern has what replaces its
-/// matches, where `\0` to `\9` stand for the match and its groups.
+/// `rename -r` and `rename -g`: rewrites the names that match a pattern. Each pattern has a replacement, in
+/// which `\0` to `\9` are the texts of the match and of its groups.
 #[derive(Drop)]
 pub struct RenamePatterns {
     pub pairs: Vec<(Arc<Pattern>, Bytes)>,
-    /// `-r`: the first match; `-g`: all matches.
+    /// Whether the first match is replaced, with `-r`, or all matches, with `-g`.
     pub which: Which,
 }
 
 impl RenamePatterns {
-    /// The record with its fields renamed in place, by one pattern after another. It takes memory for one matcher a
-    /// pattern, and for names that change.
+    /// The record with its fields renamed in place, by one pattern after another. It allocates one matcher
+    /// for each pattern, and names that change.
     pub fn take(&self, alloc: Global, mut fields: Record) -> Result<Record, NoMemory>
         ensures { IfOk result (λ made. made ≡ renamed_by_each self.now.which
             (map (λ rule. (regex_pattern (arc_value rule.0), rule.1)) self.now.pairs.items)
@@ -36,7 +37,7 @@ impl RenamePatterns {
         Ok(fields)
     }
 
-    /// A copy, which shares the patterns. It takes memory for the list, and for texts of more than 16 bytes.
+    /// A copy, which shares the patterns. It allocates the list, and texts of more than 16 bytes.
     pub fn copy(&self, alloc: Global) -> Result<Self, NoMemory>
         ensures rules { IfOk result (λ copy. rules_in copy ≡ rules_in self.now) }
         ensures which { IfOk result (λ copy. copy.which ≡ self.now.which) }
@@ -100,7 +101,7 @@ fn rename_all(
     Ok(())
 }
 
-/// Renames the field at this place, if the pattern matches its name, and answers the place of the next one.
+/// Renames the field at this place if the pattern changes its name, and returns the place of the next field.
 fn rename_at(
     alloc: Global,
     matcher: &mut Matcher<'_>,
@@ -123,7 +124,7 @@ fn rename_at(
     }
 }
 
-/// The name that the pattern gives, and none where it is the name itself.
+/// The name that the pattern gives, or None if the name doesn't change.
 fn changed_name(
     alloc: Global,
     matcher: &mut Matcher<'_>,
@@ -146,7 +147,7 @@ fn changed_name(
     Ok(Some(new))
 }
 
-/// Gives the field at this place another name, and answers the place of the next field.
+/// Sets the name of the field at this place, and returns the place of the next field.
 fn rename_to(
     alloc: Global,
     place: usize,
@@ -166,7 +167,7 @@ fn rename_to(
     Ok(next)
 }
 
-/// The place behind this one, once another field of the new name is taken out.
+/// The place after this one, once another field with the new name is removed.
 fn place_after(fields: &Record, place: usize, new: &[u8]) -> usize
     requires within { place < length fields.now }
     requires room { place + 1 < 2 ^ 64 }

@@ -1,3 +1,4 @@
+//! `ssub`: replaces a plain text in values.
 ghost use Rattle.std.specs.Prelude.{◌≡◌, IfOk};
 ghost use Rattle.mlr_pattern.specs.Values.{ssub_of};
 ghost use Rattle.verbs_pattern.specs.Changing.{changed_fields};
@@ -11,7 +12,8 @@ use mlr_value::{Bytes, Value};
 use std::alloc::Global;
 use verbs_base::{Change, change_record, is_taken};
 
-/// `ssub`: in the values of fields the first place of a plain text is replaced. No byte has a meaning of its own.
+/// `ssub`: replaces the first occurrence of a plain text in the values of fields. No byte of the text is
+/// special.
 #[derive(Drop)]
 pub struct Ssub {
     pub fields: SubFields,
@@ -20,7 +22,7 @@ pub struct Ssub {
 }
 
 impl Ssub {
-    /// The record with these values changed in place. It takes memory for texts that change.
+    /// The record with these values changed in place. It allocates for texts that change.
     pub fn take(&self, alloc: Global, fields: Record) -> Result<Record, NoMemory>
         ensures { IfOk result (λ made. made ≡ changed_fields self.now.fields
             (ssub_of self.now.old self.now.by) fields) }
@@ -28,7 +30,7 @@ impl Ssub {
         change_record(self, alloc, fields)
     }
 
-    /// A copy. It takes memory for the names, and for texts of more than 16 bytes.
+    /// A copy. It allocates for the names, and for texts of more than 16 bytes.
     pub fn copy(&self, alloc: Global) -> Result<Self, NoMemory>
         ensures { IfOk result (λ copy. copy ≡ self.now) }
     {

@@ -1,3 +1,4 @@
+//! `sub` and `gsub`: replace matches of a pattern in values.
 ghost use Rattle.std.specs.Prelude.{◌≡◌, IfOk};
 ghost use Rattle.std.specs.Arc.{arc_value};
 ghost use Rattle.regex.specs.Bytes.{regex_pattern};
@@ -15,8 +16,8 @@ use std::alloc::Global;
 use std::sync::Arc;
 use verbs_base::{Change, change_from, first_taken, is_taken};
 
-/// `sub`: in the values of fields the first match of a pattern is replaced. In `by`, `\0` to `\9` stand for the match and
-/// its groups.
+/// `sub`: replaces the first match of a pattern in the values of fields. In `by`, `\0` to `\9` are the texts
+/// of the match and of its groups.
 #[derive(Drop)]
 pub struct Sub {
     pub fields: SubFields,
@@ -25,8 +26,8 @@ pub struct Sub {
 }
 
 impl Sub {
-    /// The record with these values changed in place. It takes memory for one matcher, where the record has such a field,
-    /// and for texts that change.
+    /// The record with these values changed in place. It allocates one matcher if the record has such a
+    /// field, and texts that change.
     pub fn take(&self, alloc: Global, fields: Record) -> Result<Record, NoMemory>
         ensures { IfOk result (λ made. made ≡ changed_fields self.now.fields
             (sub_of Which.First (regex_pattern (arc_value self.now.pattern)) self.now.by) fields) }
@@ -35,7 +36,7 @@ impl Sub {
         sub_fields(alloc, &self.fields, &self.pattern, by, Which::First, fields)
     }
 
-    /// A copy, which shares the pattern. It takes memory for the names, and for a text of more than 16 bytes.
+    /// A copy, which shares the pattern. It allocates for the names, and for a text of more than 16 bytes.
     pub fn copy(&self, alloc: Global) -> Result<Self, NoMemory>
         ensures fields { IfOk result (λ copy. copy.fields ≡ self.now.fields) }
         ensures pattern { IfOk result (λ copy. regex_pattern (arc_value copy.pattern)
@@ -50,7 +51,7 @@ impl Sub {
     }
 }
 
-/// `gsub`: as `Sub`, but all matches are replaced.
+/// `gsub`: as `Sub`, but replaces all matches.
 #[derive(Drop)]
 pub struct Gsub {
     pub fields: SubFields,
@@ -59,8 +60,8 @@ pub struct Gsub {
 }
 
 impl Gsub {
-    /// The record with these values changed in place. It takes memory for one matcher, where the record has such a field,
-    /// and for texts that change.
+    /// The record with these values changed in place. It allocates one matcher if the record has such a
+    /// field, and texts that change.
     pub fn take(&self, alloc: Global, fields: Record) -> Result<Record, NoMemory>
         ensures { IfOk result (λ made. made ≡ changed_fields self.now.fields
             (sub_of Which.All (regex_pattern (arc_value self.now.pattern)) self.now.by) fields) }
@@ -69,7 +70,7 @@ impl Gsub {
         sub_fields(alloc, &self.fields, &self.pattern, by, Which::All, fields)
     }
 
-    /// A copy, which shares the pattern. It takes memory for the names, and for a text of more than 16 bytes.
+    /// A copy, which shares the pattern. It allocates for the names, and for a text of more than 16 bytes.
     pub fn copy(&self, alloc: Global) -> Result<Self, NoMemory>
         ensures fields { IfOk result (λ copy. copy.fields ≡ self.now.fields) }
         ensures pattern { IfOk result (λ copy. regex_pattern (arc_value copy.pattern)
@@ -84,7 +85,8 @@ impl Gsub {
     }
 }
 
-/// The record with the values of these fields changed. It makes one matcher, and only where the record has such a field.
+/// The record with the values of these fields changed. It makes one matcher, and only if the record has such
+/// a field.
 fn sub_fields(
     alloc: Global,
     fields: &SubFields,
@@ -111,7 +113,7 @@ fn sub_fields(
     change_from(change, alloc, first, from)
 }
 
-/// `sub` or `gsub` at work on the values of one record.
+/// The change of values by `sub` or `gsub`, for one record.
 #[derive(Drop)]
 struct Substitution<'s> {
     names: Option<&'s Names>,

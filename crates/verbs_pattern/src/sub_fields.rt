@@ -1,10 +1,11 @@
+//! The options of `sub`, `gsub` and `ssub` that choose the fields.
 use mlr_event::Names;
 
-/// Which fields `sub`, `gsub` and `ssub` change.
+/// The fields that `sub`, `gsub` and `ssub` change.
 #[derive(Drop)]
 pub enum SubFields {
-    /// `-a`: all.
+    /// `-a`: all fields.
     All,
-    /// `-f`: those of these names.
+    /// `-f`: the fields with these names.
     Named(Names),
 }

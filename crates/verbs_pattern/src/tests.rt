@@ -40,7 +40,7 @@ fn pattern_of(alloc: Global, text: &[u8]) -> Result<Arc<Pattern>, Fail> {
     }
 }
 
-/// The names of fields; none represents all fields.
+/// The names of fields, or None for all fields.
 type Fields = Option<&'static [&'static [u8]]>;
 
 fn fields_of(alloc: Global, fields: Fields) -> Result<SubFields, NoMemory> {
@@ -62,7 +62,7 @@ fn sub_of(alloc: Global, fields: Fields, pattern: &[u8], by: &[u8]) -> Result<Su
     })
 }
 
-/// Patterns, and what replaces the matches of each.
+/// Patterns with their replacements.
 type Pairs = &'static [(&'static [u8], &'static [u8])];
 
 fn rename_of(alloc: Global, which: Which, pairs: Pairs) -> Result<RenamePatterns, Fail> {
@@ -154,7 +154,7 @@ type Row = (Change, &'static [u8]);
 
 const SOME: &str = "a=5,b=xyx,cx=x,d=";
 
-/// What becomes of the record `SOME`.
+/// The record `SOME` after each change.
 const OF_SOME: [Row; 22] = [
     (Change::Sub(None), b"a=5,b=<x>yx,cx=<x>,d="),
     (Change::Gsub(None), b"a=5,b=<x>y<x>,cx=<x>,d="),
@@ -180,7 +180,7 @@ const OF_SOME: [Row; 22] = [
     (Change::Drop(&[b"z", b"A"]), b"a=5,b=xyx,cx=x,d="),
 ];
 
-/// What becomes of the record `ab=1,cbb=3`, whose names are rewritten.
+/// The record `ab=1,cbb=3`, whose names are rewritten, after each change.
 const OF_NAMED: [Row; 12] = [
     (Change::RenameFirst(&[(b"b", b"c")]), b"ac=1,ccb=3"),
     (Change::RenameAll(&[(b"b", b"c")]), b"ac=1,ccc=3"),

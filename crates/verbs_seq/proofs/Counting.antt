@@ -1,4 +1,4 @@
--- The numbers of `seqgen` lie between its start and its stop.
+-- The numbers of `seqgen` are between its start and its stop.
 use Rattle.std.proofs.Common.{◌≡◌, ◌≢◌, ℕ, zero, suc, ◌+◌, ◌*◌, ◌/◌, ◌^◌, ◌<◌, ◌≤◌, Bool, true, false, if◌then◌else◌, ℤ, pos, negsuc, neg_ℤ, refl, sym, ap, ap₂, ◌∙◌, ◌-◌, to_z, of_z, arith, inl, inr, w64, FitsSigned, subst}
 use Rattle.std.specs.Prelude.{◌+ℤ◌, ◌-ℤ◌, ◌*ℤ◌, ◌≤ℤ◌, int_le, int_lt, unsigned_abs}
 use Rattle.std.specs.Int.{w128}
@@ -20,14 +20,14 @@ ordered a b h = grind (arith, ints)
 distance : (a b : ℤ) → a ≤ℤ b → pos (unsigned_abs (b -ℤ a)) ≡ b -ℤ a
 distance a b h = not-negative (b -ℤ a) (omega (arith, ints))
 
--- so far a place goes
+-- the steps to a place aren't longer than the whole distance
 reach : (i p d : ℕ) → i < d / p + 1 → i * p ≤ d
 reach i p d below =
     let e : d / p * p ≤ d = div-mul-le_self d p in
     let g : i * p ≤ d / p * p = mul-le-mul_right p (let h : i ≤ d / p = omega arith in h) in
     omega arith
 
--- behind a number and before another, both of 64 bits
+-- a number between two numbers of 64 bits has 64 bits
 between-up : (start stop : ℤ) (k : ℕ) → start ≤ℤ stop → k ≤ unsigned_abs (stop -ℤ start) → FitsSigned w64 start → FitsSigned w64 stop → FitsSigned w64 (start +ℤ pos k)
 between-up start stop k le near first last =
     let d = distance start stop le in
@@ -75,7 +75,7 @@ number-fits start stop (negsuc q) i below first last =
 pub fits-wider : (z : ℤ) → FitsSigned w64 z → FitsSigned w128 z
 fits-wider z h = omega (arith, ints)
 
--- the number, as it is computed with 128 bits
+-- the number, computed with 128 bits
 pub is-number : (start step : ℤ) (i : ℕ) → FitsSigned w64 start → FitsSigned w64 step → i < 2 ^ 64 → (a b d : ℤ) → a ≡ to_z w64 (of_z w64 start) → b ≡ pos i → d ≡ to_z w64 (of_z w64 step)
     → to_z w128 (of_z w128 a) +ℤ to_z w128 (of_z w128 (to_z w128 (of_z w128 b) *ℤ to_z w128 (of_z w128 d))) ≡ number_from start step i
 is-number start step i f g small a b d is is_2 is_3 =
@@ -90,7 +90,7 @@ is-number start step i f g small a b d is is_2 is_3 =
     abs-of (pos n) h = omega (arith, ints)
     abs-of (negsuc n) h = omega (arith, ints)
 
--- a number that fits is what the conversion gives
+-- the conversion returns a number that fits
 pub converted : {E : Type 0} (r : Result ℤ E) (number sum other got : ℤ) → sum ≡ number → FitsSigned w64 number → OkIff r (FitsSigned w64 sum) sum → got ≡ result_unwrap_or r other
     → to_z w64 (of_z w64 got) ≡ number
 converted (Ok x) number sum other got is fits ok gives = ap (λ z. to_z w64 (of_z w64 z)) (gives ∙ ok.1 ∙ is) ∙ to_z-of_z fits

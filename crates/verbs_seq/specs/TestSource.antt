@@ -1,4 +1,4 @@
--- A source that may be asked for more, as tests ask it.
+-- A source that may be asked for more records, as tests do.
 use Rattle.std.specs.Prelude.{ℕ}
 use Rattle.verbs_seq.specs.declared.source.SeqSource.{SeqSource}
 use Rattle.verbs_seq.specs.declared.seq_spec.SeqSpec.{SeqSpec}

@@ -1,4 +1,5 @@
-//! The verb `seqgen`, which reads no input: `SeqSource` gives records that count from one number to another.
+//! The verb `seqgen`, which reads no input: `SeqSource` gives records with the numbers from a start to a
+//! stop.
 #![tactic(auto)]
 
 mod seq_spec;

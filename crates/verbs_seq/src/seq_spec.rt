@@ -1,3 +1,4 @@
+//! The options of `seqgen`.
 ghost use Rattle.std.specs.Prelude.{◌≡◌, ◌≢◌, ◌↔◌, ◌/◌, pos, ◌-ℤ◌, unsigned_abs, IfOk, IsTrue};
 ghost use Rattle.verbs_seq.specs.Seq.{IsSoundSeq, begins};
 
@@ -5,11 +6,11 @@ use mlr_spec::NoMemory;
 use mlr_value::Bytes;
 use std::alloc::Global;
 
-/// How many records there may be.
+/// The greatest number of records.
 const MOST_RECORDS: u64 = 1 << 61;
 
-/// The options of `seqgen`: the name of the field, and the numbers from `start` on in steps, up to `stop` or, where the
-/// step is below 0, down to it.
+/// The options of `seqgen`: the name of the field, and the numbers from `start` by `step` up to `stop`, or
+/// down to it if the step is negative.
 #[derive(Drop)]
 pub struct SeqSpec {
     pub field: Bytes,
@@ -19,14 +20,14 @@ pub struct SeqSpec {
 }
 
 impl SeqSpec {
-    /// Whether a source may count so: the step isn't 0, and there are at most 2^61 records.
+    /// Whether a source may count with these options: the step isn't 0, and there are at most 2^61 records.
     pub fn is_sound(&self) -> bool
         ensures { IsTrue result ↔ IsSoundSeq self.now }
     {
         self.step != 0 && (!self.begins() || self.steps() < MOST_RECORDS)
     }
 
-    /// A copy. It takes memory for a name with more than 16 bytes.
+    /// A copy. It allocates only for a name of more than 16 bytes.
     pub fn copy(&self, alloc: Global) -> Result<Self, NoMemory>
         ensures { IfOk result (λ copy. copy ≡ self.now) }
     {
@@ -38,7 +39,7 @@ impl SeqSpec {
         })
     }
 
-    /// Whether the start isn't beyond the stop.
+    /// Whether the start isn't past the stop already.
     pub(crate) fn begins(&self) -> bool
         ensures { result ≡ begins self.now.start self.now.stop self.now.step }
     {
@@ -49,7 +50,7 @@ impl SeqSpec {
         }
     }
 
-    /// How many whole steps lie between the start and the stop.
+    /// The number of whole steps between the start and the stop.
     pub(crate) fn steps(&self) -> u64
         requires { self.now.step ≢ pos 0 }
         ensures { result ≡ unsigned_abs (self.now.stop -ℤ self.now.start) / unsigned_abs

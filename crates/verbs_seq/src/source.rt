@@ -1,3 +1,4 @@
+//! `seqgen` as a source of events.
 ghost use Rattle.std.specs.Prelude.{◌≡◌, ◌+◌, ◌-◌, ◌^◌, ◌<◌, ◌≤◌, ◌++◌, ◌∷◌, [], ℕ, min, nat_lt, IfOk, OnOk};
 ghost use Rattle.verbs_seq.specs.Seq.{IsSoundSeq, count_between, number_from, seq_context, seq_count, seq_event, seq_events};
 ghost use Rattle.verbs_seq.specs.Represents.{RepresentsAt};
@@ -10,19 +11,19 @@ use mlr_spec::NoMemory;
 use mlr_value::{Bytes, IntValue, Value};
 use std::alloc::Global;
 
-/// The verb `seqgen`, which reads no input: it gives records that count from one number to another.
+/// The verb `seqgen`, which reads no input: it gives records with the numbers from a start to a stop.
 #[derive(Drop)]
 pub struct SeqSource {
     alloc: Global,
     seq: SeqSpec,
-    /// How many records there are.
+    /// The number of records in all.
     count: u64,
-    /// How many were given.
+    /// The number of records given so far.
     given: u64,
 }
 
 impl SeqSource {
-    /// A source that has given nothing. It takes no memory.
+    /// A source that has given no records. It doesn't allocate.
     pub fn new(alloc: Global, seq: SeqSpec) -> Result<Self, NoMemory>
         requires { IsSoundSeq seq }
         ensures { IfOk result (λ made. RepresentsAt seq 0 made) }
@@ -36,8 +37,8 @@ impl SeqSource {
         })
     }
 
-    /// Puts the next `max` records behind `out`, or all that remain if they are fewer, and says whether more remain. It
-    /// takes memory for each record.
+    /// Appends the next `max` records to `out`, or all the remaining ones if they are fewer, and returns
+    /// whether more remain. It allocates for each record.
     pub fn fill(&mut self, max: u64, out: &mut Events) -> Result<bool, NoMemory>
         requires some { 0 < max }
         requires represents { (seq : Options) × (given : ℕ) × IsSoundSeq seq
@@ -57,7 +58,7 @@ impl SeqSource {
         Ok(self.given < self.count)
     }
 
-    /// The context of the last record that was given, or the zero context. It takes no memory.
+    /// The context of the last record that was given, or the zero context. It doesn't allocate.
     pub fn ctx(&self) -> Ctx
         ensures { (seq : Options) (given : ℕ) → RepresentsAt seq given self.now
             → result ≡ seq_context given }
@@ -70,7 +71,7 @@ impl SeqSource {
     }
 }
 
-/// How many numbers there are.
+/// The number of records in all.
 fn count_of(seq: &SeqSpec) -> u64
     requires { IsSoundSeq seq.now }
     ensures { result ≡ seq_count seq.now }
@@ -78,7 +79,7 @@ fn count_of(seq: &SeqSpec) -> u64
     if seq.begins() { seq.steps() + 1 } else { 0 }
 }
 
-/// Puts so many records behind `out`, from a place on.
+/// Appends this many records to `out`, from a place on.
 fn push_numbers(
     alloc: Global,
     seq: &SeqSpec,
@@ -96,7 +97,7 @@ fn push_numbers(
     Ok(())
 }
 
-/// Puts the record at a place behind `out`.
+/// Appends the record at a place to `out`.
 fn push_number(alloc: Global, seq: &SeqSpec, place: u64, out: &mut Events) -> Result<(), NoMemory>
     requires few { seq_count seq.now ≤ 2 ^ 61 }
     requires within { place < seq_count seq.now }
@@ -116,7 +117,7 @@ fn push_number(alloc: Global, seq: &SeqSpec, place: u64, out: &mut Events) -> Re
     out.push(Event::Rec(fields, ctx))
 }
 
-/// The number at a place. It lies between the start and the stop.
+/// The number at a place. It is between the start and the stop.
 fn number_at(start: i64, stop: i64, step: i64, place: u64) -> i64
     requires { place < count_between start stop step }
     ensures { result ≡ number_from start step place }

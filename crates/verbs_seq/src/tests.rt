@@ -1,5 +1,5 @@
-//! `seqgen`: the numbers from one to another, in portions. Miller 6.6 gives the same, but at the ends of 64 bits, where it
-//! doesn't end; measured, not proved.
+//! `seqgen`: the numbers from a start to a stop, in portions. Miller 6.6 gives the same, except at the ends
+//! of the 64-bit range, where it doesn't end; this is measured, not proved.
 ghost use Rattle.std.specs.Prelude.{◌<◌, OnOk};
 ghost use Rattle.verbs_seq.specs.Seq.{IsSoundSeq};
 ghost use Rattle.verbs_seq.specs.TestSource.{CanFill};
@@ -64,7 +64,8 @@ fn number_of(event: Option<&Event>) -> Option<i64> {
 /// A start, a stop and a step, the first nine numbers, and whether more remain after them.
 type Row = ((i64, i64, i64), &'static [i64], bool);
 
-/// Numbers upwards, downwards, in steps that miss the stop, one alone, none, many, and as far as 64 bits reach.
+/// Numbers upwards, downwards, in steps that miss the stop, a single one, none, many, and up to the limits of
+/// 64 bits.
 const COUNTED: [Row; 12] = [
     ((1, 3, 1), &[1, 2, 3], false),
     ((3, 1, -1), &[3, 2, 1], false),
@@ -87,7 +88,7 @@ const FOURS: Row = (
     false,
 );
 
-/// Checks the first numbers, so many at a time, and that each record is numbered by its place.
+/// Checks the first numbers, read at most `max` at a time, and that each record is numbered by its place.
 fn check_row(rt: &impl Abort, alloc: Global, row: &Row, max: u64) -> Result<(), NoMemory> {
     let ((start, stop, step), numbers, more) = *row;
     let seq = counting(alloc, start, stop, step)?.copy(alloc)?;

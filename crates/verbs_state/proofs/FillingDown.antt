@@ -1,4 +1,4 @@
--- Fields that are filled one after another with the values that stood before them.
+-- Fields filled one after another with the last values of earlier records.
 use Rattle.std.proofs.Common.{◌≡◌, ℕ, ◌+◌, ◌<◌, ◌≤◌, Bool, true, false, cond, not, ◌&&◌, List, [], ◌∷◌, ◌++◌, map, length, replicate, take, drop, set, get_or, Option, Some, None, refl, ap, ap₂, sym, subst, inl, inr, ◌∙◌, arith}
 use Rattle.std.specs.List.{filter_map, fold}
 use Rattle.std.specs.Option.{option_map, option_or}
@@ -25,7 +25,7 @@ last-found h xs x = elim (cases_Option (h x)) as (λ _. last (xs ++ filter_map h
   | inr found ↦ rw found.1 (last-push xs found.0)
 ]
 
--- what stands in the last of more records, or else before
+-- the last value with one more record: the value in that record, or else the last before
 pub last_carried-push : (blank : Bool) (name : List ℕ) (before : List Fields) (fields : Fields)
     → last_carried blank name (before ++ fields ∷ []) ≡ option_or (carried blank name fields) (last_carried blank name before)
 last_carried-push blank name before fields =
@@ -48,19 +48,19 @@ value_at-put-other key other value (p ∷ pairs) apart =
       | inr there ↦ rw there (ap (λ left. cond (bytes_eq p.0 other) (Some p.1) left) (value_at-put-other key other value pairs apart))
     ]
 
--- a value that is there again, or for want of one that stands
+-- a kept value that is found again, or that fills an absent one
 again : (t : Bool) (value : Tree) → option_or (cond t None (Some value)) (Some value) ≡ Some value
 again true value = refl
 again false value = refl
 
--- the definitions over what is found
+-- the definitions for a value that was looked up
 abbrev stood : Bool → Option Tree → Option Tree
 stood blank found = elim found [ Some value ↦ cond (blank && is_empty value) None (Some value) | None ↦ None ]
 
 abbrev filled_with : Option Tree → Bool → List ℕ → Fields → Fields
 filled_with kept wants name fields = elim kept [ Some value ↦ cond wants (put_at name value fields) fields | None ↦ fields ]
 
--- a field that wants a value has none that stands
+-- a field that is to be filled has no value for later records
 none-carried : (blank : Bool) (name : List ℕ) (fields : Fields) → is_wanting blank name fields ≡ true → carried blank name fields ≡ None
 none-carried blank name fields wants = by_found (value_at name fields) wants
   where
@@ -69,7 +69,7 @@ none-carried blank name fields wants = by_found (value_at name fields) wants
     by_found (Some value) wants = rw wants refl
 
 module _ (blank : Bool) (before : List Fields) where
-  -- what will stand last under a name, as a record shows it that is filled in part
+  -- the last value of a field after a record that is partly filled
   abbrev represents_next : Fields → List ℕ → Option Tree
   represents_next fields name = option_or (carried blank name fields) (last_carried blank name before)
 
@@ -87,7 +87,7 @@ module _ (blank : Bool) (before : List Fields) where
     | inr apart ↦ ap (λ found. option_or (stood blank found) (last_carried blank other before)) (value_at-put-other name other value fields apart)
   ]
 
-  -- filling a field leaves what will stand last under each name
+  -- filling a field doesn't change the last values of any field
   pub represents-filled : (name : List ℕ) (fields : Fields) (other : List ℕ)
       → option_or (carried blank other (filled blank before fields name)) (last_carried blank other before) ≡ option_or (carried blank other fields) (last_carried blank other before)
   represents-filled name fields other = elim (cases_Option (last_carried blank name before)) as (λ _. represents_next (filled blank before fields name) other ≡ represents_next fields other) [
@@ -102,7 +102,7 @@ module _ (blank : Bool) (before : List Fields) where
         ]
   ]
 
--- the first names of those that are to be filled are done
+-- the state after the first `place` of the names were filled
 pub record Filling (options : FillDown) (before : List Fields) (first : Fields) (place : ℕ) (kept : List (Option Value)) (fields : Fields) : Type 0 where
   pub filled : fields ≡ fold (filled options.blank before) first (take place options.names)
   pub done : map (option_map tree_of) (take place kept) ≡ map (λ name. last_carried options.blank name (before ++ first ∷ [])) (take place options.names)
@@ -164,7 +164,7 @@ module _ (options : FillDown) (before : List Fields) (first : Fields) where
         ap (map (option_map tree_of)) (sym all) ∙ so_far.done ∙ ap (map (λ name. last_carried options.blank name (before ++ first ∷ []))) names,
       )
 
--- before all records nothing is kept
+-- before the first record no value is kept
 pub keeps-none : (options : FillDown) (names : List (List ℕ)) → map (option_map tree_of) (replicate (length names) None) ≡ map (λ name. last_carried options.blank name []) names
 keeps-none options [] = refl
 keeps-none options (name ∷ names) = ap (λ kept. None ∷ kept) (keeps-none options names)

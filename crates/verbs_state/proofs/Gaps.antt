@@ -1,4 +1,4 @@
--- Gaps where the keys of the grouping texts differ.
+-- Gaps between records with different keys.
 use Rattle.std.proofs.Common.{◌≡◌, ℕ, ◌<◌, not, List, [], ◌∷◌, ◌++◌, Option, Some, None, ap, ap₂, sym, subst, ◌∙◌, arith}
 use Rattle.std.specs.Option.{unwrap_or}
 use Rattle.std.specs.Str.{bytes_eq}
@@ -10,7 +10,7 @@ use Rattle.verbs_state.specs.Gaps.{IsLastKey, RepresentsAfter, is_apart}
 use Rattle.verbs_state.specs.Streaming.{Fields, last}
 use Rattle.verbs_state.proofs.Lasts.{last-push}
 
--- a key of the last record's texts, if there is one
+-- a key of the last record's texts, if there is a last record
 abbrev IsKeyOf : List (List ℕ) → List ℕ → Option Fields → Type 0
 IsKeyOf names key end = elim end [ Some earlier ↦ key ≡ key_of (texts_of names earlier) | None ↦ Unit {0} ]
 
@@ -18,7 +18,7 @@ module _ (names : List (List ℕ)) (fields : Fields) (key : List ℕ) (is : key 
   pub last_key-push : (before : List Fields) → IsLastKey (gap.Groups names) key (before ++ fields ∷ [])
   last_key-push before = subst (IsKeyOf names key) (sym (last-push before fields)) is
 
-  -- behind a record there is a gap where the key changes
+  -- after a record there is a gap if the key changes
   pub apart-changed : (before : List Fields) (count : ℕ) (old : List ℕ) → RepresentsAfter (gap.Groups names) count old before → 0 < count
       → not (bytes_eq old key) ≡ is_apart (gap.Groups names) before fields
   apart-changed [] count old represents some = absurd (omega (arith, represents.1))

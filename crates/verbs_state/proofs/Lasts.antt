@@ -1,4 +1,4 @@
--- The last of a list.
+-- The last element of a list.
 use Rattle.std.proofs.Common.{◌≡◌, List, [], ◌∷◌, ◌++◌, Some, refl, ap}
 use Rattle.std.specs.Option.{unwrap_or}
 use Rattle.verbs_state.specs.Streaming.{last}

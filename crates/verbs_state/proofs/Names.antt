@@ -1,4 +1,4 @@
--- The names of a record's fields, in its order and in byte order.
+-- The names of a record's fields, in the record's order and sorted.
 use Rattle.std.proofs.Common.{Bor, ◌≡◌, ℕ, ◌+◌, ◌<◌, Bool, true, false, cond, not, ◌||◌, List, [], ◌∷◌, ◌++◌, map, length, drop, take, get_or, Option, Some, None, slice_get, refl, ap, ap₂, sym, ◌∙◌, append_assoc, arith}
 use Rattle.std.specs.List.{filter, filter_map, list_any}
 use Rattle.std.specs.Option.{option_map}
@@ -18,7 +18,7 @@ use Rattle.verbs_fields.specs.Sorting.{by_name, insert_by_name, is_before}
 use Rattle.verbs_state.specs.Regularizing.{sorted_names}
 use Rattle.verbs_state.specs.Streaming.{Fields}
 
--- one more name of those that are taken in turn
+-- one more name after those that were taken
 pub names-more : (into after : List (List ℕ)) (pairs : Fields) (place : ℕ) (entry : List ℕ × Tree) → slice_get pairs place ≡ Some entry → after ≡ into ++ entry.0 ∷ [] → into ++ keys_of (drop place pairs) ≡ keys_of pairs
     → after ++ keys_of (drop (place + 1) pairs) ≡ keys_of pairs
 names-more into after pairs place entry at pushed so_far =
@@ -27,7 +27,7 @@ names-more into after pairs place entry at pushed so_far =
     ∙ sym (ap (λ left. into ++ keys_of left) (drop-more pairs place entry at))
     ∙ so_far
 
--- one more name that is that of the field at its place
+-- one more name that is the name of the field at its place
 pub names-same : (names : List (List ℕ)) (pairs : Fields) (place : ℕ) (name : List ℕ) (entry : List ℕ × Tree) → place < length names → length names ≡ length pairs → name ≡ get_or names place name → slice_get pairs place ≡ Some entry
     → false ≡ not (bytes_eq name entry.0) → take place names ≡ take place (keys_of pairs) → take (place + 1) names ≡ take (place + 1) (keys_of pairs)
 names-same names pairs place name entry below count is at same so_far =
@@ -40,7 +40,7 @@ names-same names pairs place name entry below count is at same so_far =
     equal true same = refl
     equal false same = same
 
--- a name among others in byte order
+-- a name inserted into sorted names
 insert_name : List ℕ → List (List ℕ) → List (List ℕ)
 insert_name name [] = name ∷ []
 insert_name name (other ∷ names) = cond (is_before other name) (other ∷ insert_name name names) (name ∷ other ∷ names)
@@ -67,7 +67,7 @@ keys-bare : (names : List (List ℕ)) → keys_of (map (λ name. (name, absent))
 keys-bare [] = refl
 keys-bare (name ∷ names) = ap (λ more. name ∷ more) (keys-bare names)
 
--- the order of the names is that of the fields
+-- the names sorted are the names of the sorted fields
 pub sorted_names-keys : (pairs : Fields) → sorted_names (keys_of pairs) ≡ keys_of (by_name pairs)
 sorted_names-keys pairs =
     keys-by_name (map (λ name. (name, absent)) (keys_of pairs)) ∙ ap names_sorted (keys-bare (keys_of pairs)) ∙ sym (keys-by_name pairs)
@@ -85,7 +85,7 @@ once-distinct (name ∷ names) distinct =
     ap (λ more. name ∷ filter (λ other. not (bytes_eq name other)) more) (once-distinct names parts.1)
     ∙ ap (λ more. name ∷ more) (filter-others name names (not-true _ parts.0))
 
--- a field before others isn't found under other names
+-- looking up other names in a record doesn't find its first field
 named-later : (pair : List ℕ × Tree) (pairs : Fields) (names : List (List ℕ)) → list_any (bytes_eq pair.0) names ≡ false → filter_map (named (pair ∷ pairs)) names ≡ filter_map (named pairs) names
 named-later pair pairs [] none = refl
 named-later pair pairs (n ∷ names) none =
@@ -98,11 +98,11 @@ named-own (pair ∷ pairs) distinct =
     let parts = and_parts (not (list_any (bytes_eq pair.0) (keys_of pairs))) (are_distinct (keys_of pairs)) distinct in
     rw ((bytes_eq-Decides pair.0 pair.0).1 refl) (ap (λ more. pair ∷ more) (named-later pair pairs (keys_of pairs) (not-true _ parts.0) ∙ named-own pairs parts.1))
 
--- fields in the order that they have
+-- a record's fields, picked by their own names
 pub picked-own : (pairs : Fields) → are_distinct (keys_of pairs) ≡ true → picked (keys_of pairs) pairs ≡ pairs
 picked-own pairs distinct = ap (filter_map (named pairs)) (once-distinct (keys_of pairs) distinct) ∙ named-own pairs distinct
 
--- texts of which no two are equal, with one more that isn't among them
+-- distinct texts with one more that isn't among them are distinct
 pub distinct-push : (texts : List (List ℕ)) (text : List ℕ) → are_distinct texts ≡ true → is_among texts text ≡ false → are_distinct (texts ++ text ∷ []) ≡ true
 distinct-push [] text distinct new = refl
 distinct-push (first ∷ texts) text distinct new =
@@ -114,7 +114,7 @@ distinct-push (first ∷ texts) text distinct new =
     any-push [] none other = or_from _ _ other refl
     any-push (n ∷ more) none other = let sides = or_parts (bytes_eq first n) (list_any (bytes_eq first) more) none in or_from _ _ sides.0 (any-push more sides.1 other)
 
--- names that are borrowed, as a sort takes them
+-- borrowed names, as sorting takes them
 abbrev pub bare : Bor (List ℕ) → List ℕ × Tree
 bare name = (name.now, absent)
 

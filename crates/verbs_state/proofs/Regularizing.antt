@@ -1,4 +1,4 @@
--- Sets of keys with the orders in which they came first.
+-- Sets of names with the orders of their first records.
 use Rattle.std.proofs.Common.{◌≡◌, ℕ, zero, suc, ◌<◌, ◌≤◌, Bool, true, false, not, List, [], ◌∷◌, ◌++◌, map, length, length-append, get_or, cond, Option, Some, None, slice_get, refl, ap, ap₂, sym, subst, inl, inr, ◌∙◌, arith}
 use Rattle.std.specs.List.{find, list_any}
 use Rattle.std.specs.Option.{option_map, option_or}
@@ -19,7 +19,7 @@ use Rattle.verbs_state.specs.Regularizing.{KeepsFirsts, has_keys_of, regular, so
 use Rattle.verbs_state.specs.Streaming.{Fields}
 use Rattle.verbs_state.proofs.Names.{distinct-push, picked-own, sorted_names-keys}
 
--- the key of a record's set
+-- the key of a record's set of names
 abbrev pub set_key : Fields → List ℕ
 set_key fields = key_of (keys_of (by_name fields))
 
@@ -32,7 +32,7 @@ key-same fields other is = (bytes_eq-Decides (set_key fields) (set_key other)).0
 same-from : (fields other : Fields) → set_key fields ≡ set_key other → has_keys_of fields other ≡ true
 same-from fields other is = same-key fields other ∙ (bytes_eq-Decides (set_key fields) (set_key other)).1 is
 
--- what is found depends on the key alone
+-- the record that is found depends only on the key
 find-key : (fields other : Fields) (records : List Fields) → set_key fields ≡ set_key other → find (has_keys_of fields) records ≡ find (has_keys_of other) records
 find-key fields other [] is = refl
 find-key fields other (r ∷ records) is =
@@ -44,7 +44,7 @@ among-at [] place text at = absurd (let e : None ≡ Some text = at in cc)
 among-at (t ∷ texts) zero text at = or_left _ _ ((bytes_eq-Decides text t).1 (let e : Some t ≡ Some text = at in cc))
 among-at (t ∷ texts) (suc place) text at = or_right _ _ (among-at texts place text at)
 
--- the one record with a key is found
+-- the only record with a key is the one that is found
 found-at : (firsts : List Fields) (place : ℕ) (first fields : Fields) → are_distinct (map set_key firsts) ≡ true → slice_get firsts place ≡ Some first → set_key fields ≡ set_key first → find (has_keys_of fields) firsts ≡ Some first
 found-at [] place first fields distinct at is = absurd (let e : None ≡ Some first = at in cc)
 found-at (r ∷ firsts) zero first fields distinct at is =
@@ -92,7 +92,7 @@ entered-before sets key place early at = elim (cases_Bool (is_among sets key)) a
       absurd (true≢false (sym (among-at sets place key own) ∙ new))
 ]
 
--- the order of a record for which this was found
+-- a record in the order of the record that was found, if any
 abbrev ordered : Option Fields → Fields → Fields
 ordered found fields = elim found [ Some first ↦ picked (keys_of first) fields | None ↦ fields ]
 
@@ -101,7 +101,7 @@ option_or-none None = refl
 option_or-none (Some x) = refl
 
 module _ (sets : List (List ℕ)) (orders : List (List (List ℕ))) (before : List Fields) (fields : Fields) (keeps : KeepsFirsts sets orders before) where
-  -- the record at a place
+  -- the first record of the set at a place
   first-at : (place : ℕ) → slice_get sets place ≡ Some (set_key fields) → (first : Fields) × (slice_get keeps.0 place ≡ Some first) × (set_key fields ≡ set_key first)
   first-at place at =
       let keys : option_map set_key (slice_get keeps.0 place) ≡ Some (set_key fields) = sym (slice_get-map set_key keeps.0 place) ∙ ap (λ x. slice_get x place) (sym keeps.2) ∙ at in
@@ -113,7 +113,7 @@ module _ (sets : List (List ℕ)) (orders : List (List (List ℕ))) (before : Li
   distinct-firsts : are_distinct (map set_key keeps.0) ≡ true
   distinct-firsts = ap are_distinct (sym keeps.2) ∙ keeps.1
 
-  -- a set that is there has the order of its first record
+  -- a known set has the order of its first record
   pub known-regular : (place : ℕ) → slice_get sets place ≡ Some (set_key fields) → (order : List (List ℕ)) → regular before fields ≡ picked (get_or orders place order) fields
   known-regular place at order =
       let first = first-at place at in
@@ -142,7 +142,7 @@ module _ (sets : List (List ℕ)) (orders : List (List (List ℕ))) (before : Li
   )
 
   module _ (new : is_among sets (set_key fields) ≡ false) where
-    -- a new set takes the order of this record, which stays as it is
+    -- a new set has the order of this record, which is unchanged
     pub new-regular : regular before fields ≡ fields
     new-regular = ap (λ f. ordered f fields) (keeps.4 fields ∙ none-among keeps.0 fields (ap (λ x. is_among x (set_key fields)) (sym keeps.2) ∙ new))
 
@@ -158,7 +158,7 @@ module _ (sets : List (List ℕ)) (orders : List (List (List ℕ))) (before : Li
           ∙ sym (find-append (has_keys_of other) keeps.0 (fields ∷ [])),
     )
 
-  -- an order that is that of the record tells its set
+  -- an order that equals the record's order is that of its set
   pub set-at : (place : ℕ) → slice_get orders place ≡ Some (keys_of fields) → slice_get sets place ≡ Some (set_key fields)
   set-at place at =
       let names : option_map keys_of (slice_get keeps.0 place) ≡ Some (keys_of fields) = sym (slice_get-map keys_of keeps.0 place) ∙ ap (λ x. slice_get x place) (sym keeps.3) ∙ at in
@@ -177,13 +177,13 @@ module _ (sets : List (List ℕ)) (orders : List (List (List ℕ))) (before : Li
     there : slice_get (entered sets (set_key fields)) place ≡ Some (set_key fields)
     there = ap (λ k. slice_get (entered sets k) place) (sym is) ∙ ap (λ x. slice_get x place) (sym entered_is) ∙ at ∙ ap Some is
 
-    -- a key at a later place is new
+    -- a key whose place is after all orders is new
     pub entered-new : length orders ≤ place → (is_among sets (set_key fields) ≡ false) × (after ≡ sets ++ set_key fields ∷ []) × (place ≡ length orders)
     entered-new late =
         let last = entered-last sets (set_key fields) place (omega (arith, count, late)) there in
         (last.0, entered_is ∙ ap (entered sets) is ∙ last.1, omega (arith, count, last.2))
 
-    -- one at an earlier place is known
+    -- a key at an earlier place is known
     pub entered-known : place < length orders → (after ≡ sets) × (slice_get sets place ≡ Some (set_key fields))
     entered-known early =
         let known = entered-before sets (set_key fields) place (omega (arith, count, early)) there in

@@ -1,4 +1,4 @@
--- What the verbs that count records give.
+-- The verbs that count records: `cat`, `decimate` and `head`.
 use Rattle.std.specs.Prelude.{ℕ, pos, ◌<◌, ◌+◌, ◌%◌, nat_eq, nat_le, nat_lt, Bool, false, ◌&&◌, if◌then◌else◌, List, [], ◌∷◌, length, Option, Some, None, is_none}
 use Rattle.std.specs.Option.{unwrap_or}
 use Rattle.mlr_spec.specs.Tree.{int}
@@ -9,11 +9,12 @@ use Rattle.verbs_state.specs.declared.options.Decimate.{Decimate}
 use Rattle.verbs_state.specs.declared.options.Head.{Head}
 use Rattle.verbs_state.specs.Streaming.{Fields, Streaming}
 
--- how many records came before in a record's group, where no names make one group of all; none if it lacks a field
+-- The number of earlier records in a record's group, or none if the record has not all the grouping fields.
+-- Without grouping fields all records are one group.
 abbrev pub earlier : Option (List (List ℕ)) → List Fields → Fields → Option ℕ
 earlier groups before fields = tally (unwrap_or groups []) before fields
 
--- `cat`: each record, with its number from 1 first if that is asked
+-- `cat`: a record, with its number from 1 as its first field if the options ask for it
 abbrev pub numbered : Cat → ℕ → Fields → Fields
 numbered options n fields = if options.number then (options.name, int (pos (capped (n + 1))) []) ∷ remove_at options.name fields else fields
 
@@ -23,7 +24,7 @@ cat_gives options before fields = elim (earlier options.groups before fields) [ 
 abbrev pub cat : Cat → Streaming
 cat options = record { gives = cat_gives options; closed = λ before. false }
 
--- `decimate`: of each k records the last, or the first; k is at least 1
+-- `decimate`: of each `count` records the last passes, or the first; `count` is at least 1
 abbrev pub is_kept : Decimate → ℕ → Bool
 is_kept options n = nat_eq ((if options.first then n else capped (n + 1)) % options.count) 0
 
@@ -36,7 +37,8 @@ decimate_gives options before fields = elim (earlier options.groups before field
 abbrev pub decimate : Decimate → Streaming
 decimate options = record { gives = decimate_gives options; closed = λ before. false }
 
--- `head`: the first k records of each group; without groups it is closed once there were so many
+-- `head`: the first `count` records of each group pass. Without groups the verb is closed after `count`
+-- records.
 abbrev pub head_gives : Head → List Fields → Fields → List Fields
 head_gives options before fields = elim (earlier options.groups before fields) [ Some n ↦ (if nat_lt n options.count then fields ∷ [] else []) | None ↦ [] ]
 

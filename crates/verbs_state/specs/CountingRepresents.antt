@@ -1,4 +1,5 @@
--- How far the verbs that count have come, and that `head` gives nothing once it is closed.
+-- The records that the counting verbs were given, by their state; and that a closed `head` gives nothing
+-- more.
 use Rattle.std.proofs.Common.{◌≡◌, ℕ, ◌+◌, ◌^◌, ◌<◌, ◌≤◌, min, nat_le, nat_lt, Bool, true, false, ◌&&◌, if◌then◌else◌, List, [], ◌∷◌, ◌++◌, length, Option, Some, None, cond, refl, ap, sym, ◌∙◌, subst, arith}
 use Rattle.std.specs.Prelude.{is_none}
 use Rattle.std.specs.Option.{unwrap_or}
@@ -23,7 +24,7 @@ DecimateRepresents verb before = IsSoundDecimate verb.options × TalliesOf (unwr
 abbrev pub HeadRepresents : HeadVerb → List Fields → Type 0
 HeadRepresents verb before = TalliesOf (unwrap_or verb.options.groups []) before verb.tallies × (verb.given ≡ capped (length before))
 
--- without names all records are one group
+-- without grouping fields all records are one group
 one-group : (records : List Fields) → members [] [] records ≡ records
 one-group [] = refl
 one-group (fields ∷ records) = ap (λ more. fields ∷ more) (one-group records)
@@ -41,7 +42,7 @@ beyond count m n le is = grind (arith)
 abbrev passed : ℕ → Fields → Option ℕ → List Fields
 passed count fields o = elim o [ Some n ↦ (if nat_lt n count then fields ∷ [] else []) | None ↦ [] ]
 
--- closed, it gives nothing more
+-- a closed `head` gives nothing more
 pub head-shuts : (options : Head) → StaysShut (head options)
 head-shuts options before following fields is =
     let parts = and_parts (is_none options.groups) (nat_le options.count (capped (length before))) is in

@@ -1,4 +1,4 @@
--- `fill-down`: fields take the last values that stood there.
+-- `fill-down`: fields get the last values that earlier records have in them.
 use Rattle.std.specs.Prelude.{◌≡◌, ℕ, Bool, false, not, ◌&&◌, if◌then◌else◌, List, [], ◌∷◌, map, Option, Some, None}
 use Rattle.std.specs.List.{filter_map, fold}
 use Rattle.std.specs.Option.{option_map}
@@ -10,15 +10,15 @@ use Rattle.verbs_fields.specs.Choosing.{is_empty}
 use Rattle.verbs_state.specs.declared.options.FillDown.{FillDown}
 use Rattle.verbs_state.specs.Streaming.{Fields, Streaming, last}
 
--- the value under a name that a later record may take: with `-a` none that is empty, since an empty field is filled
--- itself, and what it is filled with stands in an earlier record
+-- The value of a field in a record, which later records may get. With `-a` an empty value doesn't count: the
+-- empty field itself is filled with a value from an earlier record.
 abbrev pub carried : Bool → List ℕ → Fields → Option Tree
 carried blank name fields = elim (value_at name fields) [
   | Some value ↦ (if blank && is_empty value then None else Some value)
   | None ↦ None
 ]
 
--- the last value that stood there
+-- the last value that records have in the field
 abbrev pub last_carried : Bool → List ℕ → List Fields → Option Tree
 last_carried blank name before = last (filter_map (carried blank name) before)
 
@@ -26,7 +26,7 @@ last_carried blank name before = last (filter_map (carried blank name) before)
 abbrev pub is_wanting : Bool → List ℕ → Fields → Bool
 is_wanting blank name fields = elim (value_at name fields) [ Some value ↦ blank && is_empty value | None ↦ not blank ]
 
--- one field filled, in its place or last
+-- a record with one field filled, in its place or, if it is absent, at the end
 abbrev pub filled : Bool → List Fields → Fields → List ℕ → Fields
 filled blank before fields name = elim (last_carried blank name before) [
   | Some value ↦ (if is_wanting blank name fields then put_at name value fields else fields)
@@ -39,6 +39,6 @@ fill_down_gives options before fields = fold (filled options.blank before) field
 abbrev pub fill_down : FillDown → Streaming
 fill_down options = record { gives = fill_down_gives options; closed = λ before. false }
 
--- what is kept: for each name the last value that stood there
+-- the kept values: for each name the last value of the field
 abbrev pub KeepsLast : FillDown → List (Option Value) → List Fields → Type 0
 KeepsLast options kept before = map (option_map tree_of) kept ≡ map (λ name. last_carried options.blank name before) options.names

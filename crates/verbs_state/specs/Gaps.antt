@@ -7,7 +7,7 @@ use Rattle.verbs_state.specs.declared.options.Gap.{Gap}
 use Rattle.verbs_state.specs.declared.options.Gap.TheVariants as gap
 use Rattle.verbs_state.specs.Streaming.{Fields, Streaming, last}
 
--- whether a gap stands before a record: behind each k records, or where the grouping texts change
+-- whether a gap precedes a record: after each `count` records, or if the texts of the grouping fields change
 abbrev pub is_apart : Gap → List Fields → Fields → Bool
 is_apart (gap.Count count) before fields = nat_lt 0 (length before) && nat_eq (capped (length before) % count) 0
 is_apart (gap.Groups names) before fields = elim (last before) [ Some earlier ↦ not (texts_eq (texts_of names earlier) (texts_of names fields)) | None ↦ false ]
@@ -18,16 +18,16 @@ gap_gives options before fields = if is_apart options before fields then [] ∷ 
 abbrev pub gap_of : Gap → Streaming
 gap_of options = record { gives = gap_gives options; closed = λ before. false }
 
--- a count is at least 1
+-- the count is at least 1
 abbrev pub IsSoundGap : Gap → Type 0
 IsSoundGap (gap.Count count) = 1 ≤ count
 IsSoundGap (gap.Groups names) = Unit {0}
 
--- the key of the last record's texts
+-- the key of the last record's grouping texts
 abbrev pub IsLastKey : Gap → List ℕ → List Fields → Type 0
 IsLastKey (gap.Count count) key before = Unit {0}
 IsLastKey (gap.Groups names) key before = elim (last before) [ Some earlier ↦ key ≡ key_of (texts_of names earlier) | None ↦ Unit {0} ]
 
--- what is kept: the count of the records, and the key of the last
+-- the state: the number of the records, and the key of the last record
 abbrev pub RepresentsAfter : Gap → ℕ → List ℕ → List Fields → Type 0
 RepresentsAfter options count key before = IsSoundGap options × (count ≡ capped (length before)) × IsLastKey options key before

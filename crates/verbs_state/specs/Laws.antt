@@ -1,4 +1,4 @@
--- A streaming verb meets the laws of a verb.
+-- A streaming verb satisfies the laws of verbs.
 use Rattle.std.proofs.Common.{◌≡◌, Bool, true, false, List, [], ◌∷◌, ◌++◌, refl, ap, sym, ◌∙◌}
 use Rattle.std.specs.List.{list_all}
 use Rattle.std.proofs.lemmas.Grind.{flat_map-append}
@@ -7,7 +7,7 @@ use Rattle.mlr_event.specs.Parts.{records-part}
 use Rattle.mlr_event.specs.Verb.{IsQuiet, KeepsOrder, StaysClosed, is_record}
 use Rattle.verbs_state.specs.Streaming.{Fields, StaysShut, Streaming, each, record_in, records_in, rows, verb_of}
 
--- such a verb gives records alone, and once it is closed nothing
+-- a streaming verb gives only records
 pub rows-records : (ctx : Ctx) (records : List Fields) → list_all is_record (rows ctx records) ≡ true
 rows-records ctx [] = refl
 rows-records ctx (fields ∷ records) = rows-records ctx records

@@ -1,4 +1,4 @@
--- `regularize`: records with the same keys take one order.
+-- `regularize`: records with the same names get the same order of fields.
 use Rattle.std.specs.Prelude.{◌≡◌, ℕ, Bool, true, false, List, [], ◌∷◌, map, Some, None}
 use Rattle.std.specs.List.{find}
 use Rattle.mlr_spec.specs.Tree.{Tree, absent}
@@ -9,22 +9,23 @@ use Rattle.verbs_fields.specs.Choosing.{picked}
 use Rattle.verbs_fields.specs.Sorting.{by_name}
 use Rattle.verbs_state.specs.Streaming.{Fields, Streaming}
 
--- whether two records have the same set of keys: in byte order they are the same
+-- whether two records have the same names, in any order
 abbrev pub has_keys_of : Fields → Fields → Bool
 has_keys_of fields other = texts_eq (keys_of (by_name fields)) (keys_of (by_name other))
 
--- the fields in the order of the first record with these keys
+-- the fields in the order of the first record with the same names
 abbrev pub regular : List Fields → Fields → Fields
 regular before fields = elim (find (has_keys_of fields) before) [ Some first ↦ picked (keys_of first) fields | None ↦ fields ]
 
 abbrev pub regularize : Streaming
 regularize = record { gives = λ before fields. regular before fields ∷ []; closed = λ before. false }
 
--- names in byte order
+-- names sorted by their bytes
 abbrev pub sorted_names : List (List ℕ) → List (List ℕ)
 sorted_names names = keys_of (by_name (map (λ name. (name, absent)) names))
 
--- the sets of keys that came, by their keys, and of each set the order of its first record
+-- the state: the sets of names so far, by their keys, and for each set the order of the names in its first
+-- record
 abbrev pub KeepsFirsts : List (List ℕ) → List (List (List ℕ)) → List Fields → Type 0
 KeepsFirsts sets orders before =
     (firsts : List Fields)

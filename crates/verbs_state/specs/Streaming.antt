@@ -1,4 +1,5 @@
--- Verbs that give records for each record, by the records before it, and nothing at the end.
+-- Streaming verbs: they give records for each record, which depend on the records before it, and nothing at
+-- the end.
 use Rattle.std.specs.Prelude.{◌≡◌, ℕ, Bool, true, false, List, [], ◌∷◌, ◌++◌, map, Option, Some, None}
 use Rattle.std.specs.List.{flat_map}
 use Rattle.std.specs.Option.{unwrap_or}
@@ -8,7 +9,7 @@ use Rattle.mlr_event.specs.declared.event.Event.{Event}
 use Rattle.mlr_event.specs.declared.event.Event.TheVariants as event
 use Rattle.mlr_event.specs.Verb.{Verb}
 
--- the last of a list, if it has one
+-- the last element of a list, if it has one
 abbrev pub last : {A : Type 0} → List A → Option A
 last [] = None
 last (x ∷ xs) = Some (unwrap_or (last xs) x)
@@ -17,12 +18,13 @@ last (x ∷ xs) = Some (unwrap_or (last xs) x)
 abbrev pub Fields : Type 0
 Fields = List (List ℕ × Tree)
 
--- what a record gives after others, and whether more records give nothing after them
+-- the records that a verb gives for a record after others, and whether it gives nothing for any record after
+-- some records
 pub record Streaming : Type 0 where
   pub gives : List Fields → Fields → List Fields
   pub closed : List Fields → Bool
 
--- the records among events
+-- the record in an event, if there is one
 abbrev pub record_in : Event → List Fields
 record_in (event.Rec fields ctx) = fields ∷ []
 record_in (event.Text text) = []
@@ -33,11 +35,11 @@ record_in (event.Fault fault) = []
 abbrev pub records_in : List Event → List Fields
 records_in events = flat_map record_in events
 
--- records with the context of the one that gave them
+-- records with the context of the record that gave them
 abbrev pub rows : Ctx → List Fields → List Event
 rows ctx records = map (λ fields. event.Rec fields ctx) records
 
--- such a verb over events
+-- a streaming verb as a verb over events
 abbrev pub verb_of : Streaming → Verb
 verb_of streaming = record {
   first = [];
@@ -47,10 +49,10 @@ verb_of streaming = record {
   effects = false;
 }
 
--- a verb that is closed gives nothing more
+-- a closed verb gives nothing more
 abbrev pub StaysShut : Streaming → Type 0
 StaysShut streaming = (before following : List Fields) (fields : Fields) → streaming.closed before ≡ true → streaming.gives (before ++ following) fields ≡ []
 
--- a verb that keeps no state, and never closes
+-- a verb that keeps no state and never closes
 abbrev pub each : (Fields → List Fields) → Streaming
 each gives = record { gives = λ before fields. gives fields; closed = λ before. false }

@@ -1,3 +1,4 @@
+//! Copies of the options of verbs that keep state.
 ghost use Rattle.std.specs.Prelude.{◌≡◌, IfOk};
 
 use crate::options::{Cat, Decimate, FillDown, Gap, Head};
@@ -7,7 +8,7 @@ use mlr_value::Bytes;
 use std::alloc::Global;
 
 impl Cat {
-    /// A copy. It takes memory for a name of more than 16 bytes, and for the names of the groups.
+    /// A copy. It allocates for a name of more than 16 bytes, and for the names of the grouping fields.
     pub fn copy(&self, alloc: Global) -> Result<Self, NoMemory>
         ensures { IfOk result (λ copy. copy ≡ self.now) }
     {
@@ -20,7 +21,7 @@ impl Cat {
 }
 
 impl Decimate {
-    /// A copy. It takes memory for the names of the groups.
+    /// A copy. It allocates for the names of the grouping fields.
     pub fn copy(&self, _: Global) -> Result<Self, NoMemory>
         ensures { IfOk result (λ copy. copy ≡ self.now) }
     {
@@ -33,7 +34,7 @@ impl Decimate {
 }
 
 impl FillDown {
-    /// A copy. It takes memory for the names.
+    /// A copy. It allocates for the names.
     pub fn copy(&self, _: Global) -> Result<Self, NoMemory>
         ensures { IfOk result (λ copy. copy ≡ self.now) }
     {
@@ -45,7 +46,7 @@ impl FillDown {
 }
 
 impl Gap {
-    /// A copy. It takes memory for the names of the groups.
+    /// A copy. It allocates for the names of the grouping fields.
     pub fn copy(&self, _: Global) -> Result<Self, NoMemory>
         ensures { IfOk result (λ copy. copy ≡ self.now) }
     {
@@ -57,7 +58,7 @@ impl Gap {
 }
 
 impl Head {
-    /// A copy. It takes memory for the names of the groups.
+    /// A copy. It allocates for the names of the grouping fields.
     pub fn copy(&self, _: Global) -> Result<Self, NoMemory>
         ensures { IfOk result (λ copy. copy ≡ self.now) }
     {

@@ -1,3 +1,4 @@
+//! `cat`, `decimate` and `head`: the verbs that count records.
 ghost use Rattle.std.specs.Prelude.{◌≡◌, [], IfOk};
 ghost use Rattle.std.specs.Option.{unwrap_or};
 ghost use Rattle.verbs_state.specs.Counting.{IsSoundDecimate, cat, decimate, head, is_kept, numbered};
@@ -31,12 +32,12 @@ pub struct DecimateVerb {
 pub struct HeadVerb {
     options: Head,
     tallies: Tallies,
-    /// How many records it was given.
+    /// The number of records that it was given.
     given: u64,
 }
 
 impl CatVerb {
-    /// The verb of these options, which was given nothing.
+    /// The verb with these options, before the first record.
     pub fn new(alloc: Global, options: Cat) -> Result<Self, NoMemory>
         ensures meaning { IfOk result (λ made. ⟦<CatVerb as Stream>⟧.meaning made ≡ cat options) }
         ensures represents { IfOk result (λ made. ⟦<CatVerb as Stream>⟧.represents made []) }
@@ -51,7 +52,7 @@ impl CatVerb {
 }
 
 impl DecimateVerb {
-    /// The verb of these options, which was given nothing.
+    /// The verb with these options, before the first record.
     pub fn new(alloc: Global, options: Decimate) -> Result<Self, NoMemory>
         requires { IsSoundDecimate options }
         ensures meaning { IfOk result (λ made. ⟦<DecimateVerb as Stream>⟧.meaning made
@@ -67,7 +68,7 @@ impl DecimateVerb {
 }
 
 impl HeadVerb {
-    /// The verb of these options, which was given nothing.
+    /// The verb with these options, before the first record.
     pub fn new(alloc: Global, options: Head) -> Result<Self, NoMemory>
         ensures meaning { IfOk result (λ made. ⟦<HeadVerb as Stream>⟧.meaning made ≡ head options) }
         ensures represents { IfOk result (λ made. ⟦<HeadVerb as Stream>⟧.represents made []) }
@@ -153,7 +154,7 @@ impl Stream for HeadVerb {
     }
 }
 
-/// The names of the grouping fields, and none where all records are one group.
+/// The names of the grouping fields, or no names if all records are one group.
 fn grouping_names(alloc: Global, groups: &Option<Names>) -> Result<Names, NoMemory>
     ensures { IfOk result (λ names. names ≡ unwrap_or groups.now []) }
 {
@@ -163,7 +164,7 @@ fn grouping_names(alloc: Global, groups: &Option<Names>) -> Result<Names, NoMemo
     }
 }
 
-/// The record with its number first, if that is asked.
+/// The record with its number as the first field, if the options ask for numbers.
 fn number(alloc: Global, options: &Cat, earlier: u64, fields: Record) -> Result<Record, NoMemory>
     ensures { IfOk result (λ made. made ≡ numbered options.now earlier fields) }
 {
@@ -178,7 +179,7 @@ fn number(alloc: Global, options: &Cat, earlier: u64, fields: Record) -> Result<
     Ok(made)
 }
 
-/// Whether the record behind so many of its group passes.
+/// Whether a record passes that follows `earlier` others of its group.
 fn is_kept(options: &Decimate, earlier: u64) -> bool
     requires { IsSoundDecimate options.now }
     ensures { result ≡ is_kept options.now earlier }

@@ -1,3 +1,4 @@
+//! `fill-down`: fields filled with the last values of earlier records.
 ghost use Rattle.std.specs.Prelude.{◌≡◌, ◌++◌, ◌∷◌, [], List, None, Some, true, IfOk, OnOk, length, map, replicate, vec_len};
 ghost use Rattle.std.specs.List.{fold};
 ghost use Rattle.std.specs.Option.{option_map, option_or};
@@ -14,7 +15,7 @@ use mlr_value::Value;
 use std::alloc::Global;
 use std::mem::replace;
 
-/// `fill-down`: it keeps for each name the last value that stood there.
+/// `fill-down`: it keeps the last value of each named field.
 #[derive(Drop)]
 pub struct FillDownVerb {
     alloc: Global,
@@ -23,7 +24,7 @@ pub struct FillDownVerb {
 }
 
 impl FillDownVerb {
-    /// The verb of these options, which was given nothing. It takes the room of a value for each name.
+    /// The verb with these options, before the first record. It allocates room for a value for each name.
     pub fn new(alloc: Global, options: FillDown) -> Result<Self, NoMemory>
         ensures meaning { IfOk result (λ made. ⟦<FillDownVerb as Stream>⟧.meaning made
             ≡ fill_down options) }
@@ -59,7 +60,7 @@ impl Stream for FillDownVerb {
     }
 }
 
-/// So many places without a value.
+/// A list of `count` places without a value.
 fn no_values(alloc: Global, count: usize) -> Result<Vec<Option<Value>>, NoMemory>
     ensures { IfOk result (λ made. made.items ≡ replicate count None) }
 {
@@ -70,7 +71,7 @@ fn no_values(alloc: Global, count: usize) -> Result<Vec<Option<Value>>, NoMemory
     Ok(values)
 }
 
-/// Fills the named fields in turn, and keeps the values that stand in the record as it came.
+/// Fills the named fields in turn, and keeps the values that the record had before.
 fn fill_each(
     alloc: Global,
     options: &FillDown,
@@ -96,8 +97,8 @@ fn fill_each(
     Ok(())
 }
 
-/// Fills the field of this name with the value that is kept, if it wants one; else keeps the value that stands there. A
-/// name may repeat: what an earlier one was filled with is what is kept of it.
+/// Fills the field of this name with the kept value if it needs one; otherwise keeps its value. A name may
+/// repeat: a value that was filled in under it is the one that is kept already.
 fn fill(
     alloc: Global,
     blank: bool,
@@ -120,7 +121,7 @@ fn fill(
     }
 }
 
-/// Keeps the value that stands under this name, and says whether one is wanted in its place.
+/// Keeps the value of the field with this name, and returns whether the field needs to be filled instead.
 fn keep(
     alloc: Global,
     blank: bool,
@@ -143,7 +144,7 @@ fn keep(
     }
 }
 
-/// Keeps a copy of the value, unless that is what is kept.
+/// Keeps a copy of the value, unless it is the kept value.
 fn keep_copy(alloc: Global, value: &Value, kept: &mut Option<Value>) -> Result<(), NoMemory>
     ensures { OnOk result (option_map tree_of kept.new ≡ Some (tree_of value.now)) }
 {
@@ -153,7 +154,8 @@ fn keep_copy(alloc: Global, value: &Value, kept: &mut Option<Value>) -> Result<(
     Ok(())
 }
 
-/// Whether what is kept is a string of the same bytes. Any other value is as soon copied as compared.
+/// Whether the kept value is a string of the same bytes. Other values are copied as fast as they are
+/// compared.
 fn holds_text(kept: &Option<Value>, value: &Value) -> bool
     ensures { result ≡ true → option_map tree_of kept.now ≡ Some (tree_of value.now) }
 {

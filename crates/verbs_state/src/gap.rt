@@ -1,3 +1,4 @@
+//! `gap`: records without fields between other records.
 ghost use Rattle.std.specs.Prelude.{◌≡◌, ◌++◌, ◌∷◌, ◌+◌, [], List, ℕ, IfOk, OnOk, not, if◌then◌else◌};
 ghost use Rattle.std.specs.Str.{bytes_eq};
 ghost use Rattle.mlr_groups.specs.Grouping.{texts_of};
@@ -15,7 +16,7 @@ use mlr_value::Bytes;
 use std::alloc::Global;
 use std::mem::swap;
 
-/// `gap`: it counts the records, and keeps the key of the last one's group.
+/// `gap`: it counts the records, and keeps the key of the last record's grouping texts.
 #[derive(Drop)]
 pub struct GapVerb {
     alloc: Global,
@@ -26,7 +27,7 @@ pub struct GapVerb {
 }
 
 impl GapVerb {
-    /// The verb of these options, which was given nothing. It takes no memory.
+    /// The verb with these options, before the first record. It doesn't allocate.
     pub fn new(alloc: Global, options: Gap) -> Self
         requires { IsSoundGap options }
         ensures meaning { ⟦<GapVerb as Stream>⟧.meaning result ≡ gap_of options }
@@ -64,8 +65,8 @@ impl Stream for GapVerb {
     }
 }
 
-/// Whether a gap stands before a record, behind those that `count` and `key` tell of. Where groups are asked for, the key
-/// becomes that of this record.
+/// Whether a gap precedes a record, given the number of the records before and the key of the last. With
+/// grouping fields, `key` becomes the key of this record.
 fn is_apart(
     alloc: Global,
     options: &Gap,
@@ -90,7 +91,7 @@ fn is_apart(
     }
 }
 
-/// Puts a record behind `out`, and one without fields before it if they stand apart.
+/// Appends a record to `out`, after one without fields if there is a gap.
 fn push_after(
     alloc: Global,
     apart: bool,
@@ -107,8 +108,8 @@ fn push_after(
     out.push(Event::Rec(fields, ctx))
 }
 
-/// Whether the key of a record's texts is another than `key`, which it takes the place of. The two keep their rooms for
-/// the next records.
+/// Whether the key of a record's texts differs from `key`, which it replaces. `key` and `room` keep their
+/// allocations for the next records.
 fn is_other(
     alloc: Global,
     names: &Names,

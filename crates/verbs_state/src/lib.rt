@@ -1,5 +1,5 @@
-//! The streaming verbs that keep state: each gives records for each record by the records before it. `Stream` is the
-//! contract of such a verb, and of those that keep none.
+//! The streaming verbs that keep state: the records that each gives for a record depend on the records before
+//! it. `Stream` is the contract of all streaming verbs, also of those without state.
 #![tactic(auto)]
 
 mod copies;

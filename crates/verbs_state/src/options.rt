@@ -1,25 +1,26 @@
+//! The options of the verbs that keep state.
 use mlr_event::Names;
 use mlr_value::Bytes;
 
 /// The options of `cat`.
 #[derive(Drop)]
 pub struct Cat {
-    /// Whether each record gets its number from 1.
+    /// Whether each record gets its number, counted from 1.
     pub number: bool,
-    /// The name of the number's field.
+    /// The name of the field for the number.
     pub name: Bytes,
-    /// The fields whose texts make groups, in each of which it counts anew.
+    /// The grouping fields: each group is counted by itself.
     pub groups: Option<Names>,
 }
 
 /// The options of `decimate`.
 #[derive(Drop)]
 pub struct Decimate {
-    /// Of how many records one passes, at least 1.
+    /// One of this many records passes; at least 1.
     pub count: u64,
-    /// The first of them passes, and not the last.
+    /// Whether the first of them passes, rather than the last.
     pub first: bool,
-    /// The fields whose texts make groups, in each of which it counts anew.
+    /// The grouping fields: each group is counted by itself.
     pub groups: Option<Names>,
 }
 
@@ -27,14 +28,14 @@ pub struct Decimate {
 #[derive(Drop)]
 pub struct FillDown {
     pub names: Names,
-    /// A field that is present and empty is filled, and not one that is absent.
+    /// Whether the fields to fill are those that are present and empty, rather than those that are absent.
     pub blank: bool,
 }
 
-/// Where `gap` puts a record without fields.
+/// Where `gap` inserts a record without fields.
 #[derive(Drop)]
 pub enum Gap {
-    /// Behind each so many records, at least 1.
+    /// After every this many records; at least 1.
     Count(u64),
     /// Where the texts of these fields change.
     Groups(Names),
@@ -43,8 +44,8 @@ pub enum Gap {
 /// The options of `head`.
 #[derive(Drop)]
 pub struct Head {
-    /// How many records pass.
+    /// The number of records that pass.
     pub count: u64,
-    /// The fields whose texts make groups, of each of which so many pass.
+    /// The grouping fields: `count` records of each group pass.
     pub groups: Option<Names>,
 }

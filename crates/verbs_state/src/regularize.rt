@@ -1,3 +1,4 @@
+//! `regularize`: records with the same names get the same order of fields.
 ghost use Rattle.std.specs.Prelude.{◌≡◌, ◌<◌, ◌++◌, ◌∷◌, [], true, List, ℕ, Some, IfOk, OnOk, length, map, slice_get, slice_index_or};
 ghost use Rattle.mlr_spec.specs.Pairs.{are_distinct, keys_of};
 ghost use Rattle.mlr_groups.specs.Keys.{key_of};
@@ -15,19 +16,20 @@ use mlr_value::Bytes;
 use std::alloc::Global;
 use verbs_fields::pick_named;
 
-/// `regularize`: it keeps the sets of keys that came, and of each set the order in which its first record has them.
+/// `regularize`: it keeps the sets of names so far, and for each set the order of the names in its first
+/// record.
 #[derive(Drop)]
 pub struct RegularizeVerb {
     alloc: Global,
     sets: KeyTable,
     orders: Vec<Names>,
-    /// The place of the last record's set, which is the next record's in most data.
+    /// The place of the last record's set, which in most data is also the next record's.
     last: usize,
     key: Bytes,
 }
 
 impl RegularizeVerb {
-    /// The verb that was given nothing. It takes no memory.
+    /// The verb before the first record. It doesn't allocate.
     pub fn new(alloc: Global) -> Self
         ensures meaning { ⟦<RegularizeVerb as Stream>⟧.meaning result ≡ regularize }
         ensures represents { ⟦<RegularizeVerb as Stream>⟧.represents result [] }
@@ -63,7 +65,7 @@ impl Stream for RegularizeVerb {
     }
 }
 
-/// The fields in the order of the first record with their keys. `last` becomes the place of their set.
+/// The fields in the order of the first record with the same names. `last` becomes the place of their set.
 fn regular(
     alloc: Global,
     fields: Record,
@@ -87,7 +89,7 @@ fn regular(
     in_order(&orders[place], fields)
 }
 
-/// Whether there is an order at this place, and the record has its fields in it.
+/// Whether there is an order at this place and the record's fields are in it.
 fn has_order(orders: &[Names], place: usize, fields: &Record) -> bool
     ensures order { result ≡ true → slice_get orders.now place ≡ Some (keys_of fields.now) }
     ensures distinct { result ≡ true → are_distinct (keys_of fields.now) ≡ true }
@@ -98,7 +100,7 @@ fn has_order(orders: &[Names], place: usize, fields: &Record) -> bool
     }
 }
 
-/// Whether these are the names of a record's fields, in their order.
+/// Whether these are the names of the record's fields, in their order.
 fn are_names(names: &Names, fields: &Record) -> bool
     ensures names { result ≡ true → names.now ≡ keys_of fields.now }
     ensures distinct { are_distinct (keys_of fields.now) ≡ true }
@@ -114,7 +116,7 @@ fn are_names(names: &Names, fields: &Record) -> bool
     true
 }
 
-/// The fields in the order of the names. It takes memory only where that isn't their order.
+/// The fields in the order of the names. It allocates only if that isn't their order already.
 fn in_order(names: &Names, fields: Record) -> Result<Record, NoMemory>
     ensures { IfOk result (λ made. made ≡ picked names.now fields) }
 {
@@ -124,7 +126,7 @@ fn in_order(names: &Names, fields: Record) -> Result<Record, NoMemory>
     pick_named(names, fields)
 }
 
-/// The place of the record's set of keys, which is put last with the record's order if it is a new one.
+/// The place of the record's set of names, which is added at the end, with the record's order, if it is new.
 fn enter(
     alloc: Global,
     fields: &Record,
@@ -163,7 +165,7 @@ fn names_of(alloc: Global, fields: &Record) -> Result<Names, NoMemory>
     Ok(names)
 }
 
-/// Puts the key of the record's names in byte order behind `key`.
+/// Appends the key of the record's names, sorted by bytes, to `key`.
 fn append_sorted(alloc: Global, fields: &Record, key: &mut Bytes) -> Result<(), NoMemory>
     ensures { OnOk result (key.new ≡ key.old ++ key_of (keys_of (by_name fields.now))) }
 {
@@ -172,7 +174,7 @@ fn append_sorted(alloc: Global, fields: &Record, key: &mut Bytes) -> Result<(), 
     append_names(&names, key)
 }
 
-/// Puts the key of these names behind `key`.
+/// Appends the key of these names to `key`.
 fn append_names(names: &[&[u8]], key: &mut Bytes) -> Result<(), NoMemory>
     ensures { OnOk result (key.new ≡ key.old ++ key_of (map (λ name. name.now) names.now)) }
 {
@@ -182,7 +184,7 @@ fn append_names(names: &[&[u8]], key: &mut Bytes) -> Result<(), NoMemory>
     Ok(())
 }
 
-/// The names of a record's fields, where they stand.
+/// The names of a record's fields, borrowed.
 fn borrowed_names(alloc: Global, fields: &Record) -> Result<Vec<&[u8]>, NoMemory>
     ensures names { IfOk result (λ names. map (λ name. name.now) names.items ≡ keys_of fields.now) }
     ensures distinct { are_distinct (keys_of fields.now) ≡ true }
@@ -194,7 +196,7 @@ fn borrowed_names(alloc: Global, fields: &Record) -> Result<Vec<&[u8]>, NoMemory
     Ok(names)
 }
 
-/// Puts names of which no two are equal into byte order.
+/// Sorts distinct names by their bytes.
 fn sort(names: &mut Vec<&[u8]>)
     requires { are_distinct (map (λ name. name.now) names.old.items) ≡ true }
     ensures { map (λ name. name.now) names.new.items

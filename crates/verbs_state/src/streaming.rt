@@ -1,3 +1,4 @@
+//! The contract of the streaming verbs.
 ghost use Rattle.std.specs.Prelude.{◌≡◌, ◌++◌, ◌∷◌, [], List, OnOk};
 ghost use Rattle.mlr_event.specs.declared.event.Event.{Event as SpecEvent};
 ghost use Rattle.mlr_event.specs.Verb.{gives};
@@ -7,16 +8,16 @@ use mlr_event::{Ctx, Event, Events};
 use mlr_record::Record;
 use mlr_spec::NoMemory;
 
-/// A verb that gives records for each record, by the records before it, and nothing at the end. It keeps no more than it
-/// must know of them.
+/// A streaming verb: it gives records for each record, which depend on the records before it, and nothing at
+/// the end. It keeps only what it needs of these records.
 pub trait Stream {
-    /// What it gives, which never changes.
+    /// The verb as a function, which never changes.
     ghost meaning: { Self → Streaming };
 
-    /// It was given these records.
+    /// The verb was given these records.
     ghost represents: { Self → List Fields → Type 0 };
 
-    /// Takes a record, and puts behind `out` those that it gives, with its context.
+    /// Takes a record, and appends the records that it gives, with the same context, to `out`.
     fn take(&mut self, fields: Record, ctx: Ctx, out: &mut Events) -> Result<(), NoMemory>
         requires { (before : List Fields) × represents self.old before }
         ensures meaning { meaning self.new ≡ meaning self.old }
@@ -25,16 +26,16 @@ pub trait Stream {
         ensures gives { OnOk result ((before : List Fields) → represents self.old before
             → out.new ≡ out.old ++ rows ctx ((meaning self.old).gives before fields)) };
 
-    /// Whether more records give nothing. It takes no memory.
+    /// Whether the verb gives nothing for any later record. It doesn't allocate.
     fn is_shut(&self) -> bool
         ensures { (before : List Fields) → represents self.now before
             → result ≡ (meaning self.now).closed before };
 
-    /// Once it is closed it gives nothing more.
+    /// A closed verb gives nothing more.
     ghost shuts: { (s : Self) → StaysShut (meaning s) };
 }
 
-/// Takes an event: a record goes to the verb, and everything else passes.
+/// Takes an event: the verb takes a record, and any other event passes.
 pub fn step<S: Stream>(verb: &mut S, event: Event, out: &mut Events) -> Result<(), NoMemory>
     requires { (given : List SpecEvent) × S.represents verb.old (records_in given) }
     ensures meaning { S.meaning verb.new ≡ S.meaning verb.old }

@@ -1,4 +1,4 @@
-//! What the verbs make of records that are texts, and copies of their options.
+//! The verbs on records that are written as texts, and copies of their options.
 ghost use Rattle.std.specs.Prelude.{◌≡◌, ◌∷◌, ◌++◌, [], List, OnOk};
 ghost use Rattle.mlr_event.specs.declared.event.Event.{Event as SpecEvent};
 ghost use Rattle.verbs_state.specs.Streaming.{records_in};
@@ -39,7 +39,7 @@ fn append_record(record: &Record, text: &mut Bytes) -> Result<(), NoMemory> {
     text.append(b"\n")
 }
 
-/// What came out, a line for each event.
+/// The events that came out, a line for each.
 fn shown(alloc: Global, out: &Events) -> Result<Bytes, NoMemory> {
     let mut text = Bytes::new(alloc);
     for place in 0..out.len() {
@@ -70,7 +70,7 @@ fn step_record<S: Stream>(
     step(verb, Event::Rec(record, at), out)
 }
 
-/// What the verb makes of records, a line for each, and of a text that follows them.
+/// The output of the verb for records, a line for each, and for a text that follows them.
 fn tried<S: Stream + Drop>(alloc: Global, verb: S, lines: &str) -> Result<Bytes, NoMemory>
     requires { S.represents verb [] }
 {
@@ -113,14 +113,14 @@ fn names(alloc: Global, text: &str) -> Result<Names, NoMemory> {
 /// A verb with its options as plain words, where names are such as `a,b`.
 #[derive(Clone, Copy)]
 enum Verb {
-    /// The names, and whether empty fields alone are filled.
+    /// The names, and whether only empty fields are filled.
     FillDown(&'static str, bool),
     GapAfter(u64),
     GapBetween(&'static str),
     Regularize,
 }
 
-/// What a verb makes of records and a text. A gap after no record is no verb, and makes nothing.
+/// The output of a verb for records and a text. A gap after no record isn't a verb, and has no output.
 fn made(alloc: Global, verb: Verb, lines: &str) -> Result<Bytes, NoMemory> {
     match verb {
         Verb::FillDown(text, blank) => {
@@ -140,7 +140,7 @@ fn made(alloc: Global, verb: Verb, lines: &str) -> Result<Bytes, NoMemory> {
     }
 }
 
-/// A verb, records, and what comes of them and of the text.
+/// A verb, records, and the output for them and for the text.
 const TABLE: [(Verb, &str, &str); 21] = [
     (
         Verb::FillDown("b", false),
@@ -256,7 +256,7 @@ fn records_go_by_those_before(rt: HostRuntime) -> Result<(), NoMemory> {
     Ok(())
 }
 
-/// Two names, of which the second needs memory.
+/// Two names, of which the second is allocated.
 const SOME: &str = "a,a name of more bytes than lie inline";
 
 const LONG: &[u8] = b"a name of more bytes than lie inline";

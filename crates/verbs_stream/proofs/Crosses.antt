@@ -1,4 +1,4 @@
--- A streaming verb may go into a thread.
+-- A streaming verb may be moved to another thread.
 use denote.Param.Send.{IsSend, sendable}
 use Rattle.std.proofs.Crossing.{crosses}
 use Rattle.mlr_value.proofs.bytes.Bytes.TheSendSync as bytes
@@ -31,7 +31,7 @@ use Rattle.verbs_stream.specs.contracts.spec.Spec
 use Rattle.verbs_stream.specs.contracts.spec.Template
 use Rattle.verbs_stream.specs.contracts.verb.StreamVerb
 
--- options, each by itself
+-- each of the options
 Patterns-send : IsSend Patterns.the_field.row
 Patterns-send = search (crosses_regex, crosses, sendable) depth 60 fits 20000
 
@@ -62,7 +62,7 @@ Sparsify-send = search (names.the_send, crosses, sendable) depth 60 fits 20000
 Template-send : IsSend Template.the_field.row
 Template-send = search (names.the_send, bytes.the_send, crosses, sendable) depth 60 fits 20000
 
--- all of them, and the verb
+-- all options, and the verb
 ruleset of_options = (
   crosses_patterned,
   Cut-send,

@@ -1,4 +1,4 @@
--- Records that are given with one context.
+-- Records that a verb gives with one context.
 use Rattle.std.proofs.Common.{◌≡◌, ℕ, zero, suc, ◌∷◌, replicate, refl, ap}
 use Rattle.mlr_event.specs.declared.event.Ctx.{Ctx}
 use Rattle.mlr_event.specs.declared.event.Event.TheVariants as event

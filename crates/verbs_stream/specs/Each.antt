@@ -1,4 +1,5 @@
--- What each verb gives for a record: those that keep no state by the record alone, and the others by the records before.
+-- The records that each verb gives for a record: for verbs without state by the record alone, for the others
+-- by the records before too.
 use Rattle.std.specs.Prelude.{◌≡◌, ◌<◌, ℕ, ℤ, pos, negsuc, Bool, true, false, ◌&&◌, if◌then◌else◌, List, [], ◌∷◌, map, length, Option, Some, None, replicate}
 use Rattle.std.specs.Arc.{arc_value}
 use Rattle.regex.specs.Bytes.{regex_pattern}
@@ -38,14 +39,15 @@ use Rattle.verbs_state.specs.Gaps.{IsSoundGap, gap_of}
 use Rattle.verbs_state.specs.Regularizing.{regularize}
 use Rattle.verbs_state.specs.Streaming.{Fields, Streaming, each}
 
--- `cut`: the fields of these names, in their own order or that of the names, or the others; or those whose names match
+-- `cut`: the named fields, in the record's order or in the order of the names, or the other fields; or the
+-- fields whose names match, or the others
 abbrev pub cut_of : CutFields → Bool → Bool → Fields → Fields
 cut_of (cut.Names names) ordered true fields = dropped names fields
 cut_of (cut.Names names) true false fields = picked names fields
 cut_of (cut.Names names) false false fields = kept names fields
 cut_of (cut.Patterns patterns) ordered complement fields = kept_matching (patterns_in patterns) complement fields
 
--- `having-fields`
+-- `having-fields`: whether a record passes
 abbrev pub has : HavingFields → Fields → Bool
 has (having.AtLeast names) fields = has_all names fields
 has (having.AtMost names) fields = has_no_others names fields
@@ -55,17 +57,17 @@ has (having.AnyDefined names) fields = any_defined names fields
 has (having.AllMatching pattern) fields = all_names_match (regex_pattern (arc_value pattern)) fields
 has (having.AnyMatching pattern) fields = any_name_matches (regex_pattern (arc_value pattern)) fields
 
--- `rename`
+-- `rename`: a record with its fields renamed
 abbrev pub renamed_as : Rename → Fields → Fields
 renamed_as (rename.Names renamings) fields = renamed renamings.items fields
 renamed_as (rename.Patterns rules) fields = renamed_by_each rules.which (map (λ rule. (regex_pattern (arc_value rule.0), rule.1)) rules.pairs.items) fields
 
--- how often an int says; one below 0, and any other value, says never
+-- the number of times that a value gives: an int of 0 or more gives itself, and any other value gives 0
 abbrev pub count_in : Tree → ℕ
 count_in (int (pos n) spelling) = n
 count_in _ = 0
 
--- `repeat`
+-- `repeat`: the number of times that a record is given
 abbrev pub times : Repeat → Fields → ℕ
 times (repeat.Count n) fields = n
 times (repeat.Field name) fields = elim (value_at name fields) [ Some value ↦ count_in value | None ↦ 0 ]
@@ -74,7 +76,7 @@ times (repeat.Field name) fields = elim (value_at name fields) [ Some value ↦ 
 abbrev pub if_passes : Bool → Fields → List Fields
 if_passes passes fields = if passes then fields ∷ [] else []
 
--- what a verb that keeps no state gives for a record
+-- the records that a verb without state gives for a record
 abbrev pub each_of : Spec → Fields → List Fields
 each_of verb.Altkv fields = alternated fields ∷ []
 each_of (verb.Cut options) fields = cut_of options.fields options.ordered options.complement fields ∷ []
@@ -105,8 +107,8 @@ abbrev pub is_repeat : Spec → Bool
 is_repeat (verb.Repeat options) = true
 is_repeat _ = false
 
--- the options are such as words may give: no two names of `label` are equal, no separator is empty, and no count of
--- records is 0
+-- The options are in the ranges that the command line allows: the names of `label` are distinct, no separator
+-- is empty, and no count of records is 0.
 abbrev pub IsSound : Spec → Type 0
 IsSound (verb.Label options) = are_distinct options.names ≡ true
 IsSound (verb.Flatten options) = 0 < length options.separator
@@ -115,7 +117,7 @@ IsSound (verb.Decimate options) = IsSoundDecimate options
 IsSound (verb.Gap options) = IsSoundGap options
 IsSound _ = Unit {0}
 
--- the verb, by the records before
+-- the verb as a function of the records so far
 abbrev pub streaming_of : Spec → Streaming
 streaming_of (verb.Cat options) = cat options
 streaming_of (verb.Decimate options) = decimate options

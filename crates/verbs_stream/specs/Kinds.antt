@@ -1,4 +1,4 @@
--- What a streaming verb means, and how far it has come, by what it keeps.
+-- The meaning of a streaming verb, and the records that its state represents.
 use Rattle.std.specs.Prelude.{List}
 use Rattle.verbs_state.specs.Counting.{cat, decimate, head}
 use Rattle.verbs_state.specs.CountingRepresents.{CatRepresents, DecimateRepresents, HeadRepresents, head-shuts}

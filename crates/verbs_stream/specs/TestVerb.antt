@@ -1,4 +1,4 @@
--- A verb that may be given more, as tests give it.
+-- A verb that may take another event, as tests call it.
 use Rattle.std.specs.Prelude.{◌≡◌, true, List}
 use Rattle.mlr_event.specs.declared.event.Event.{Event}
 use Rattle.mlr_event.specs.Verb.{is_open}

@@ -1,4 +1,4 @@
-//! Copies of the options of verbs. They share the patterns.
+//! Copies of the options of verbs, which share the patterns.
 ghost use Rattle.std.specs.Prelude.{◌≡◌, IfOk};
 ghost use Rattle.verbs_stream.specs.Copies.{AreSameFields, AreSameHaving, AreSameRename};
 ghost use Rattle.verbs_stream.specs.Each.{IsSound, streaming_of};
@@ -15,7 +15,7 @@ use std::sync::Arc;
 use verbs_fields::Renaming;
 
 impl Spec {
-    /// A copy, which shares the patterns. It takes memory for lists, and for texts of more than 16 bytes.
+    /// A copy, which shares the patterns. It allocates lists, and texts of more than 16 bytes.
     pub fn copy(&self, alloc: Global) -> Result<Self, NoMemory>
         ensures meaning { IfOk result (λ copy. streaming_of copy ≡ streaming_of self.now) }
         ensures sound { IfOk result (λ copy. IsSound self.now → IsSound copy) }
@@ -55,7 +55,7 @@ impl Spec {
 }
 
 impl Cut {
-    /// A copy, which shares the patterns. It takes memory for the list of fields.
+    /// A copy, which shares the patterns. It allocates the list of fields.
     pub fn copy(&self, alloc: Global) -> Result<Self, NoMemory>
         ensures fields { IfOk result (λ copy. AreSameFields copy.fields self.now.fields) }
         ensures ordered { IfOk result (λ copy. copy.ordered ≡ self.now.ordered) }
@@ -70,7 +70,7 @@ impl Cut {
 }
 
 impl CutFields {
-    /// A copy, which shares the patterns. It takes memory for the list.
+    /// A copy, which shares the patterns. It allocates the list.
     pub fn copy(&self, _: Global) -> Result<Self, NoMemory>
         ensures { IfOk result (λ copy. AreSameFields copy self.now) }
     {
@@ -82,7 +82,7 @@ impl CutFields {
 }
 
 impl HavingFields {
-    /// A copy, which shares the pattern. It takes memory for names.
+    /// A copy, which shares the pattern. It allocates for names.
     pub fn copy(&self, _: Global) -> Result<Self, NoMemory>
         ensures { IfOk result (λ copy. AreSameHaving copy self.now) }
     {
@@ -103,7 +103,7 @@ impl HavingFields {
 }
 
 impl Label {
-    /// A copy. It takes memory for the names.
+    /// A copy. It allocates for the names.
     pub fn copy(&self, _: Global) -> Result<Self, NoMemory>
         ensures { IfOk result (λ copy. copy ≡ self.now) }
     {
@@ -114,7 +114,7 @@ impl Label {
 }
 
 impl Rename {
-    /// A copy, which shares the patterns. It takes memory for the list, and for texts of more than 16 bytes.
+    /// A copy, which shares the patterns. It allocates the list, and texts of more than 16 bytes.
     pub fn copy(&self, alloc: Global) -> Result<Self, NoMemory>
         ensures { IfOk result (λ copy. AreSameRename copy self.now) }
     {
@@ -136,7 +136,7 @@ fn copy_renamings(alloc: Global, renamings: &[Renaming]) -> Result<Vec<Renaming>
 }
 
 impl Reorder {
-    /// A copy. It takes memory for the names.
+    /// A copy. It allocates for the names.
     pub fn copy(&self, _: Global) -> Result<Self, NoMemory>
         ensures { IfOk result (λ copy. copy ≡ self.now) }
     {
@@ -148,7 +148,7 @@ impl Reorder {
 }
 
 impl Repeat {
-    /// A copy. It takes memory for a name of more than 16 bytes.
+    /// A copy. It allocates for a name of more than 16 bytes.
     pub fn copy(&self, alloc: Global) -> Result<Self, NoMemory>
         ensures { IfOk result (λ copy. copy ≡ self.now) }
     {
@@ -160,7 +160,7 @@ impl Repeat {
 }
 
 impl SortWithinRecords {
-    /// A copy. It takes no memory.
+    /// A copy. It doesn't allocate.
     pub fn copy(&self, _: Global) -> Result<Self, NoMemory>
         ensures { IfOk result (λ copy. copy ≡ self.now) }
     {
@@ -169,7 +169,7 @@ impl SortWithinRecords {
 }
 
 impl Sparsify {
-    /// A copy. It takes memory for the names.
+    /// A copy. It allocates for the names.
     pub fn copy(&self, _: Global) -> Result<Self, NoMemory>
         ensures { IfOk result (λ copy. copy ≡ self.now) }
     {
@@ -180,7 +180,7 @@ impl Sparsify {
 }
 
 impl Template {
-    /// A copy. It takes memory for the names, and for a text of more than 16 bytes.
+    /// A copy. It allocates for the names, and for a text of more than 16 bytes.
     pub fn copy(&self, alloc: Global) -> Result<Self, NoMemory>
         ensures { IfOk result (λ copy. copy ≡ self.now) }
     {

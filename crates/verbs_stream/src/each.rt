@@ -1,3 +1,4 @@
+//! The verbs that keep no state, as streaming verbs.
 use crate::outcome::give;
 use crate::spec::Spec;
 use mlr_event::{Ctx, Events};

@@ -1,3 +1,4 @@
+//! The streaming verbs, by the state that they keep.
 ghost use Rattle.std.specs.Prelude.{◌≡◌, [], IfOk};
 ghost use Rattle.verbs_stream.specs.Each.{IsSound, streaming_of};
 
@@ -7,7 +8,7 @@ use mlr_record::Record;
 use mlr_spec::NoMemory;
 use verbs_state::{CatVerb, DecimateVerb, FillDownVerb, GapVerb, HeadVerb, RegularizeVerb, Stream};
 
-/// A streaming verb, by what it keeps from record to record.
+/// A streaming verb, by the state that it keeps from record to record.
 #[derive(Drop)]
 pub enum Kind {
     Each(Each),

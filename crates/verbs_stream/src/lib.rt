@@ -1,5 +1,5 @@
-//! The streaming verbs: each gives records for each record, by the records before it, and nothing at the end. `Spec` says
-//! which verb, with its options, and `StreamVerb` is the verb in a chain.
+//! The streaming verbs: they give records for each record, which depend on the records before it, and nothing
+//! at the end. `Spec` is a verb with its options, and `StreamVerb` is the verb in a chain.
 #![tactic(auto)]
 
 mod copies;

@@ -1,3 +1,4 @@
+//! Verbs with options on one record: `cut`, `having-fields`, `rename` and `reorder`.
 ghost use Rattle.std.specs.Prelude.{◌≡◌, IfOk, if◌then◌else◌};
 ghost use Rattle.std.specs.Option.{option_to_list};
 ghost use Rattle.verbs_fields.specs.Ordering.{named_first, named_last};
@@ -20,7 +21,7 @@ pub(crate) fn passing(passes: bool, fields: Record) -> Option<Record>
     if passes { Some(fields) } else { None }
 }
 
-/// The fields that `cut` leaves.
+/// The fields that `cut` keeps.
 pub(crate) fn cut_fields(cut: &Cut, alloc: Global, fields: Record) -> Result<Record, NoMemory>
     ensures { IfOk result (λ made. made ≡ cut_of cut.now.fields cut.now.ordered cut.now.complement
         fields) }
@@ -33,7 +34,7 @@ pub(crate) fn cut_fields(cut: &Cut, alloc: Global, fields: Record) -> Result<Rec
     }
 }
 
-/// Whether a record has such fields.
+/// Whether a record satisfies the condition of `having-fields`.
 pub(crate) fn has(having: &HavingFields, alloc: Global, fields: &Record) -> Result<bool, NoMemory>
     ensures { IfOk result (λ passes. passes ≡ has having.now fields.now) }
 {
@@ -62,7 +63,7 @@ pub(crate) fn rename_fields(
     }
 }
 
-/// The named fields first, or last.
+/// The record with the named fields moved to its start or to its end.
 pub(crate) fn reorder_fields(reorder: &Reorder, fields: Record) -> Result<Record, NoMemory>
     ensures { IfOk result (λ made. made ≡ (if reorder.now.last
         then named_last reorder.now.names fields else named_first reorder.now.names fields)) }

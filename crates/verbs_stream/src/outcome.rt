@@ -1,3 +1,4 @@
+//! The records that a verb without state gives for a record.
 ghost use Rattle.std.specs.Prelude.{◌≡◌, ◌++◌, false, IfOk, MatchOption, OnOk};
 ghost use Rattle.std.specs.Option.{option_to_list};
 ghost use Rattle.verbs_stream.specs.declared.spec.Spec.TheVariants as verb;
@@ -13,7 +14,7 @@ use mlr_spec::NoMemory;
 use std::alloc::Global;
 use verbs_fields::{altkv, label, sort_within, sparsify, template};
 
-/// Puts behind `out` what the verb gives for a record.
+/// Appends the records that the verb gives for a record to `out`.
 pub(crate) fn give(
     spec: &Spec,
     alloc: Global,
@@ -30,7 +31,7 @@ pub(crate) fn give(
     }
 }
 
-/// How often `repeat` gives a record, and none for any other verb.
+/// The options of `repeat`, or None for any other verb.
 fn repeat_of(spec: &Spec) -> Option<&Repeat>
     ensures { MatchOption result (is_repeat spec.now ≡ false)
         (λ repeat. spec.now ≡ verb.Repeat repeat.now) }
@@ -41,7 +42,7 @@ fn repeat_of(spec: &Spec) -> Option<&Repeat>
     }
 }
 
-/// Puts a record behind `out`, if there is one.
+/// Appends a record to `out`, if there is one.
 fn push_made(made: Option<Record>, ctx: Ctx, out: &mut Events) -> Result<(), NoMemory>
     ensures { OnOk result (out.new ≡ out.old ++ rows ctx (option_to_list made)) }
 {
@@ -51,8 +52,8 @@ fn push_made(made: Option<Record>, ctx: Ctx, out: &mut Events) -> Result<(), NoM
     }
 }
 
-/// The record that a verb makes of a record, or none. `repeat` gives more than one, and isn't asked; nor are the verbs
-/// that keep state.
+/// The record that a verb gives for a record, or None if it gives none. It isn't called for `repeat`, which
+/// may give more than one, nor for the verbs that keep state.
 fn made(spec: &Spec, alloc: Global, fields: Record) -> Result<Option<Record>, NoMemory>
     requires sound { IsSound spec.now }
     requires other { is_repeat spec.now ≡ false }

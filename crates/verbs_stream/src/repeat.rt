@@ -1,3 +1,4 @@
+//! `repeat`: a record several times.
 ghost use Rattle.std.specs.Prelude.{◌≡◌, ◌++◌, OnOk, replicate};
 ghost use Rattle.mlr_event.specs.declared.event.Event.TheVariants as event;
 ghost use Rattle.verbs_stream.specs.Each.{times};
@@ -8,7 +9,7 @@ use mlr_record::Record;
 use mlr_spec::NoMemory;
 use mlr_value::Value;
 
-/// How often a record is given.
+/// The number of times that a record is given.
 pub(crate) fn times(repeat: &Repeat, fields: &Record) -> u64
     ensures { result ≡ times repeat.now fields.now }
 {
@@ -21,7 +22,7 @@ pub(crate) fn times(repeat: &Repeat, fields: &Record) -> u64
     }
 }
 
-/// Puts a record behind `out` so often, as copies but for the last.
+/// Appends a record to `out`, repeated `times` times: all but the last are copies.
 pub(crate) fn push_times(
     times: u64,
     fields: Record,
@@ -37,7 +38,7 @@ pub(crate) fn push_times(
     out.push(Event::Rec(fields, ctx))
 }
 
-/// Puts so many copies of a record behind `out`.
+/// Appends `times` copies of a record to `out`.
 fn push_copies(times: u64, fields: &Record, ctx: Ctx, out: &mut Events) -> Result<(), NoMemory>
     ensures { OnOk result (out.new ≡ out.old ++ replicate times (event.Rec fields.now ctx)) }
 {

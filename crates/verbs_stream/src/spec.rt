@@ -1,3 +1,4 @@
+//! The streaming verbs with their options.
 ghost use Rattle.std.specs.Prelude.{◌≡◌, [], IfOk};
 ghost use Rattle.verbs_stream.specs.Each.{IsSound, streaming_of};
 
@@ -17,33 +18,33 @@ use verbs_state::{
 };
 use verbs_values::{FillEmpty, Flatten, JsonParse, JsonStringify, Sec2Gmt, Sec2GmtDate, Unflatten};
 
-/// Which verb, with its options as its words give them.
+/// A streaming verb, with its options as given on the command line.
 pub enum Spec {
-    /// Values in turn are keys and values.
+    /// Takes the values in turn as keys and values.
     Altkv,
-    /// Passes records, with their numbers if asked.
+    /// Passes records, with their numbers if the options ask for them.
     Cat(Cat),
-    /// Keeps fields, or drops them.
+    /// Keeps or drops fields.
     Cut(Cut),
-    /// Passes one of each so many records.
+    /// Passes one of every `count` records.
     Decimate(Decimate),
-    /// Fills fields with the last values that stood there.
+    /// Fills fields with their last values in earlier records.
     FillDown(FillDown),
     /// Fills empty values.
     FillEmpty(FillEmpty),
-    /// Makes a field of each leaf of a map or an array.
+    /// Replaces a map or an array by one field for each of its leaves.
     Flatten(Flatten),
-    /// Puts records without fields between others.
+    /// Inserts records without fields between others.
     Gap(Gap),
-    /// Passes the records whose text matches.
+    /// Passes the records whose text matches a pattern.
     Grep(Grep),
     /// Replaces all matches in values.
     Gsub(Gsub),
-    /// Passes the records with such fields.
+    /// Passes the records that have or don't have certain fields.
     HavingFields(HavingFields),
     /// Passes the first records.
     Head(Head),
-    /// Reads values as JSON.
+    /// Parses values as JSON.
     JsonParse(JsonParse),
     /// Writes values as JSON.
     JsonStringify(JsonStringify),
@@ -51,35 +52,35 @@ pub enum Spec {
     Label(Label),
     /// Drops all records.
     Nothing,
-    /// Gives records with the same keys one order of fields.
+    /// Gives records with the same names the same order of fields.
     Regularize,
     /// Renames fields.
     Rename(Rename),
-    /// Puts fields first, or last.
+    /// Moves fields to the start or to the end.
     Reorder(Reorder),
     /// Gives a record several times.
     Repeat(Repeat),
-    /// Seconds as dates with times.
+    /// Replaces seconds by dates with times of day.
     Sec2Gmt(Sec2Gmt),
-    /// Seconds as dates.
+    /// Replaces seconds by dates.
     Sec2GmtDate(Sec2GmtDate),
     /// Sorts the fields by their names.
     SortWithinRecords(SortWithinRecords),
     /// Drops empty fields.
     Sparsify(Sparsify),
-    /// Replaces the first place of a text in values.
+    /// Replaces the first occurrence of a text in values.
     Ssub(Ssub),
     /// Replaces the first match in values.
     Sub(Sub),
-    /// The named fields alone, in their order.
+    /// Keeps only the named fields, in the order of the names.
     Template(Template),
-    /// Puts values at the paths that their names spell.
+    /// Sets values at the paths that their names spell.
     Unflatten(Unflatten),
     /// Replaces spaces in names and values.
     Unspace(Unspace),
 }
 
-// Written out, so that the crates above call it and don't go into the options.
+// Written by hand, so that the crates above call it instead of dropping the options themselves.
 impl Drop for Spec {
     fn drop(self) {
         match self {
@@ -120,50 +121,50 @@ impl Drop for Spec {
 #[derive(Drop)]
 pub struct Cut {
     pub fields: CutFields,
-    /// In the order of the names; of patterns it has no effect.
+    /// Whether the kept fields are in the order of the names. It has no effect for patterns.
     pub ordered: bool,
-    /// The others are kept.
+    /// Whether the other fields are kept.
     pub complement: bool,
 }
 
-/// The fields of `cut`.
+/// The fields that `cut` selects.
 #[derive(Drop)]
 pub enum CutFields {
     Names(Names),
     Patterns(Patterns),
 }
 
-/// Which records `having-fields` passes.
+/// The records that `having-fields` passes.
 #[derive(Drop)]
 pub enum HavingFields {
-    /// Those that have all the names.
+    /// Those that have fields of all the names.
     AtLeast(Names),
-    /// Those that have no name beyond them.
+    /// Those that have no fields of other names.
     AtMost(Names),
-    /// Those that have exactly the names.
+    /// Those that have exactly the fields of the names.
     WhichAre(Names),
-    /// Those that have all the names, with values that aren't empty.
+    /// Those that have fields of all the names, none of them empty.
     AllDefined(Names),
-    /// Those that have one of the names, with a value that isn't empty.
+    /// Those that have a field of one of the names that isn't empty.
     AnyDefined(Names),
-    /// Those that have a field, and of which each name matches.
+    /// Those that have a field, and whose names all match the pattern.
     AllMatching(Arc<Pattern>),
-    /// Those of which one name matches.
+    /// Those with a name that matches the pattern.
     AnyMatching(Arc<Pattern>),
 }
 
-/// The names that `label` gives, no two of them equal.
+/// The names that `label` gives to fields. They are distinct.
 #[derive(Drop)]
 pub struct Label {
     pub names: Names,
 }
 
-/// How `rename` renames.
+/// The renamings of `rename`.
 #[derive(Drop)]
 pub enum Rename {
-    /// Each name in turn becomes another.
+    /// Each name in turn is replaced by another.
     Names(Vec<Renaming>),
-    /// Each pattern in turn rewrites the names that it matches.
+    /// Each pattern in turn rewrites the names that match it.
     Patterns(RenamePatterns),
 }
 
@@ -171,30 +172,31 @@ pub enum Rename {
 #[derive(Drop)]
 pub struct Reorder {
     pub names: Names,
-    /// The named fields come last.
+    /// Whether the named fields are moved to the end.
     pub last: bool,
 }
 
-/// How often a record is given.
+/// How many times `repeat` gives a record.
 #[derive(Drop)]
 pub enum Repeat {
-    /// So often.
+    /// This many times.
     Count(u64),
-    /// As often as the int in this field says; a field that isn't there, holds no int or a negative one gives none.
+    /// As many times as the int in this field says; not at all if the field is absent, isn't an int or is
+    /// negative.
     Field(Bytes),
 }
 
 /// The options of `sort-within-records`.
 #[derive(Drop)]
 pub struct SortWithinRecords {
-    /// In maps inside too.
+    /// Whether maps inside are sorted too.
     pub deep: bool,
 }
 
 /// The options of `sparsify`.
 #[derive(Drop)]
 pub struct Sparsify {
-    /// The fields that may go, or all.
+    /// The fields that may be dropped, or None for all.
     pub names: Option<Names>,
 }
 
@@ -202,12 +204,12 @@ pub struct Sparsify {
 #[derive(Drop)]
 pub struct Template {
     pub names: Names,
-    /// What a missing field holds.
+    /// The value of a missing field.
     pub fill: Bytes,
 }
 
 impl Spec {
-    /// The verb of these options, which was given nothing.
+    /// The verb with these options, before the first record.
     pub(crate) fn kind(self, alloc: Global) -> Result<Kind, NoMemory>
         requires { IsSound self }
         ensures meaning { IfOk result (λ made. ⟦<Kind as Stream>⟧.meaning made

@@ -1,12 +1,14 @@
-//! What verbs make of records. Miller 6.6 gives the same, as far as it has these verbs and options; measured, not proved.
-//! But its `rename` goes by the names that a record came with, and here each pair goes on with what the pairs before it
-//! made; its `cat -g` passes the records that lack a grouping field, its `cat -N` leaves a field of the number's name in
-//! its place, and its `fill-down` fills absent fields and empty ones, or with `-a` the absent ones alone.
+//! The output of verbs for records. Miller 6.6 gives the same, as far as it has these verbs and options; this
+//! is measured, not proved. The exceptions: its `rename` goes by the names that a record had at first, and
+//! here each pair continues with the names that the pairs before it made; its `cat -g` passes the records
+//! without one of the grouping fields; its `cat -N` leaves an existing field of the number's name in its
+//! place; and its `fill-down` fills absent and empty fields, or with `-a` only absent ones.
 use crate::test_verbs::Verb;
 use mlr_pattern::Which;
 use verbs_fields::UnspacePart;
 
-/// A verb, records, a line for each, and what the verb makes of them before the end: `closed` follows if it is closed.
+/// A verb, records, a line for each, and the output of the verb before the end, followed by `closed` if the
+/// verb is closed.
 pub(crate) type Row = (Verb, &'static str, &'static str);
 
 /// Verbs that choose, order and name fields.
@@ -89,7 +91,7 @@ pub(crate) const FIELDS: [Row; 29] = [
 /// Records of which some have the fields `a` and `b`.
 const SOME_HAVE: &str = "a=1,b=2\na=1\na=,b=2\nc=3";
 
-/// Verbs that pass, drop or repeat a record by what it holds.
+/// Verbs that pass, drop or repeat a record by its fields.
 pub(crate) const RECORDS: [Row; 22] = [
     (Verb::Nothing, "a=1,b=2\nb=3", ""),
     (Verb::HavingAtLeast("b,a"), SOME_HAVE, "a=1,b=2\na=,b=2\n"),
@@ -189,7 +191,7 @@ pub(crate) const VALUES: [Row; 18] = [
     (Verb::RenameMatching("a", "x", Which::All), "aa=1", "xx=1\n"),
 ];
 
-/// Six records of two groups, and one of none.
+/// Six records of two groups, and one of no group.
 const SEVEN: &str = "a=x,i=1\na=y,i=2\na=x,i=3\na=x,i=4\na=y,i=5\na=x,i=6\ni=7";
 
 /// Verbs that count records.
@@ -252,7 +254,7 @@ pub(crate) const COUNTS: [Row; 24] = [
     (Verb::Head(1, "a"), "a=1\na=2", "a=1\na=2\n"),
 ];
 
-/// Verbs that go by the records before.
+/// Verbs whose output for a record depends on the records before it.
 pub(crate) const ORDERS: [Row; 17] = [
     (
         Verb::FillDown("a", false),

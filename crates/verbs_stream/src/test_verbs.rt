@@ -17,12 +17,12 @@ use verbs_fields::{Renaming, Unspace, UnspacePart, are_distinct};
 use verbs_pattern::{Grep, Gsub, RenamePatterns, Ssub, Sub, SubFields};
 use verbs_values::{FillEmpty, Flatten, JsonParse, JsonStringify, Sec2Gmt, Sec2GmtDate, Unflatten};
 
-/// A verb with its options as plain words, where names are such as `a,b`. An empty text of names is none where the verb
-/// can do without names.
+/// A verb with its options as plain words, where names are such as `a,b`. An empty text of names means None
+/// for a verb that needs no names.
 #[derive(Clone, Copy)]
 pub(crate) enum Verb {
     Altkv,
-    /// The number's name, or none, and the grouping names.
+    /// The number's name, or an empty text for no numbers, and the grouping names.
     Cat(&'static str, &'static str),
     /// The names, whether they order the fields, and whether the others are kept.
     Cut(&'static str, bool, bool),
@@ -30,7 +30,7 @@ pub(crate) enum Verb {
     CutMatching(&'static str, bool),
     /// The count, whether the first record passes, and the grouping names.
     Decimate(u64, bool, &'static str),
-    /// The names, and whether empty fields alone are filled.
+    /// The names, and whether only empty fields are filled.
     FillDown(&'static str, bool),
     /// The text, and whether it is a string.
     FillEmpty(&'static str, bool),
@@ -59,7 +59,7 @@ pub(crate) enum Verb {
     Rename(&'static str),
     /// The pattern, the replacement, and which matches are replaced.
     RenameMatching(&'static str, &'static str, Which),
-    /// The names, and whether they come last.
+    /// The names, and whether they are moved to the end.
     Reorder(&'static str, bool),
     Repeat(u64),
     RepeatBy(&'static str),
@@ -72,7 +72,7 @@ pub(crate) enum Verb {
     Ssub(&'static str, &'static str, &'static str),
     /// The names, the pattern, and the replacement.
     Sub(&'static str, &'static str, &'static str),
-    /// The names, and what a missing field holds.
+    /// The names, and the value of a missing field.
     Template(&'static str, &'static str),
     Unflatten,
     /// Names, whose separator is `:`.
@@ -92,7 +92,7 @@ fn names(alloc: Global, text: &str) -> Result<Names, NoMemory> {
     Ok(made)
 }
 
-/// The names of a text, and none for an empty text.
+/// The names of a text, or None for an empty text.
 fn some_names(alloc: Global, text: &str) -> Result<Option<Names>, NoMemory> {
     if text.is_empty() {
         Ok(None)
@@ -109,7 +109,7 @@ fn sub_fields(alloc: Global, text: &str) -> Result<SubFields, NoMemory> {
     }
 }
 
-/// A pattern that is one.
+/// The pattern of a text that is one.
 fn pattern(alloc: Global, text: &str) -> Result<Arc<Pattern>, Fail> {
     match read_pattern(alloc, text.as_bytes(), false) {
         Ok(pattern) => Ok(Arc::new(alloc, pattern)?),
@@ -251,7 +251,7 @@ fn values_spec(alloc: Global, verb: Verb) -> Result<Spec, Fail>
     }
 }
 
-/// The options of a verb that goes by a pattern or by a text in values.
+/// The options of a verb that uses a pattern or a text in values.
 fn pattern_spec(alloc: Global, verb: Verb) -> Result<Spec, Fail>
     ensures { IfOk result (λ spec. IsSound spec) }
 {

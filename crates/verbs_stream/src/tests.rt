@@ -1,4 +1,4 @@
-//! What verbs make of records that are texts, and a verb in another thread.
+//! The output of verbs for records that are written as texts, and a verb in another thread.
 ghost use Rattle.std.specs.Prelude.{[], OnOk};
 ghost use Rattle.verbs_stream.specs.Each.{IsSound};
 ghost use Rattle.verbs_stream.specs.TestVerb.{CanStep};
@@ -42,7 +42,7 @@ fn append_record(record: &Record, text: &mut Bytes) -> Result<(), NoMemory> {
     text.append(b"\n")
 }
 
-/// What came out, a line for each event, with `closed` before the end if the verb is closed.
+/// The events that came out, a line for each, with `closed` before the end if the verb is closed.
 fn shown(alloc: Global, out: &Events, closed: bool) -> Result<Bytes, NoMemory> {
     let mut text = Bytes::new(alloc);
     for place in 0..out.len() {
@@ -91,8 +91,8 @@ fn step_lines<S: Step + Drop>(
     Ok(())
 }
 
-/// What a verb makes of records, a line for each, and of the end. It is generic, as the frame of a function that holds a
-/// `StreamVerb` is too large a value for the prover.
+/// The output of a verb for records, a line for each, and for the end. It is generic, since the frame of a
+/// function that holds a `StreamVerb` is too large for the prover.
 fn shown_run<S: Step + Drop>(alloc: Global, verb: S, lines: &str) -> Result<Bytes, NoMemory>
     requires { S.represents verb [] }
 {
@@ -109,7 +109,7 @@ fn shown_run<S: Step + Drop>(alloc: Global, verb: S, lines: &str) -> Result<Byte
     shown(alloc, &out, closed)
 }
 
-/// What the verb of these options makes of records.
+/// The output for records of the verb with these options.
 fn made(alloc: Global, spec: Spec, lines: &str) -> Result<Bytes, NoMemory>
     requires { IsSound spec }
 {
@@ -117,7 +117,7 @@ fn made(alloc: Global, spec: Spec, lines: &str) -> Result<Bytes, NoMemory>
     shown_run(alloc, verb, lines)
 }
 
-/// What the verb of a copy of these options makes of records.
+/// The output for records of the verb with a copy of these options.
 fn copy_made(alloc: Global, spec: &Spec, lines: &str) -> Result<Bytes, NoMemory>
     requires { IsSound spec.now }
 {

@@ -1,3 +1,4 @@
+//! A streaming verb as a verb in a chain.
 ghost use Rattle.std.specs.Prelude.{◌≡◌, [], IfOk};
 ghost use Rattle.verbs_state.specs.Streaming.{verb_of};
 ghost use Rattle.verbs_stream.specs.Each.{IsSound, streaming_of};
@@ -15,7 +16,7 @@ pub struct StreamVerb {
     broken: bool,
 }
 
-// Written out, so that the crates above call it and don't go into the verbs.
+// Written by hand, so that the crates above call it instead of dropping the verbs themselves.
 impl Drop for StreamVerb {
     fn drop(self) {
         let StreamVerb { verb, broken: _ } = self;
@@ -24,7 +25,7 @@ impl Drop for StreamVerb {
 }
 
 impl StreamVerb {
-    /// The verb of these options, which was given nothing. It takes memory for what the verb keeps.
+    /// The verb with these options, before the first record. It allocates for the verb's state.
     pub fn new(alloc: Global, spec: Spec) -> Result<Self, NoMemory>
         requires { IsSound spec }
         ensures verb { IfOk result (λ made. ⟦<StreamVerb as Step>⟧.verb made
@@ -37,7 +38,7 @@ impl StreamVerb {
         })
     }
 
-    /// The verb of a copy of these options, which was given nothing. It takes memory for the copy too.
+    /// The verb with a copy of these options, before the first record. It allocates for the copy too.
     pub fn of(alloc: Global, spec: &Spec) -> Result<Self, NoMemory>
         requires { IsSound spec.now }
         ensures verb { IfOk result (λ made. ⟦<StreamVerb as Step>⟧.verb made

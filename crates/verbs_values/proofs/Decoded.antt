@@ -1,4 +1,4 @@
--- What a text is decoded to, by the grammar.
+-- The value that a text is decoded to, by the grammar.
 use Rattle.std.proofs.Common.{◌≡◌, ℕ, ◌+◌, List, length, refl, ap, sym}
 use Rattle.mlr_spec.specs.JsonGrammar.{IsJson, HasSyntaxFault, HasDeepFault}
 use Rattle.mlr_spec.specs.JsonTokens.{tokens_of}

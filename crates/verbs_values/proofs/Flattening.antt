@@ -1,4 +1,4 @@
--- The leaves of the fields that are taken, put one field after another.
+-- The leaves of the fields that are taken, set one field after another.
 use Rattle.std.proofs.Common.{◌≡◌, ℕ, Bool, true, false, cond, ◌&&◌, List, [], ◌∷◌, ◌++◌, refl, ap, ap₂, sym, ◌∙◌, inl, inr}
 use Rattle.std.specs.List.{list_any, flat_map}
 use Rattle.std.proofs.lemmas.Bool.{or_parts, cases_Bool, true≢false}
@@ -10,7 +10,7 @@ use Rattle.mlr_spec.proofs.Flattening.{put_each-distinct, put_each-append}
 use Rattle.verbs_values.specs.Flattening.{flattened_field, flattened, is_flattened}
 use Rattle.verbs_values.proofs.Putting.{put_each-again}
 
--- the leaves of a field by itself, put behind others
+-- setting the leaves of a field after other fields
 pub put-leaves : (separator name : List ℕ) (value : Tree) (into leaves : List (List ℕ × Tree)) → leaves ≡ flat separator ((name, value) ∷ [])
     → put_each into leaves ≡ put_each into (leaves_of separator name value)
 put-leaves separator name value into leaves alone =
@@ -30,7 +30,7 @@ leaf-alone separator name (array items) plain = absurd (true≢false plain)
 leaf-alone separator name error plain = refl
 
 module _ (separator : List ℕ) (takes : List ℕ → Bool) where
-  -- a field that isn't taken, and one that holds neither a map nor an array, stays
+  -- a field that isn't taken, or that holds neither a map nor an array, is unchanged
   pub flattened_field-plain : (p : List ℕ × Tree) → is_flattened takes p ≡ false → flattened_field separator takes p ≡ p ∷ []
   flattened_field-plain p plain =
       elim (cases_Bool (takes p.0)) as (λ _. flattened_field separator takes p ≡ p ∷ []) [
@@ -47,7 +47,7 @@ module _ (separator : List ℕ) (takes : List ℕ → Bool) where
   pub flattened-plain : (pairs : List (List ℕ × Tree)) → are_distinct (keys_of pairs) ≡ true → list_any (is_flattened takes) pairs ≡ false → pairs ≡ flattened separator takes pairs
   flattened-plain pairs distinct plain = sym (ap (put_each []) (all-plain pairs plain) ∙ put_each-distinct [] pairs distinct)
 
-  -- one more field, put before those that are left
+  -- one more field, before the remaining ones
   pub flattened-more : (p : List ℕ × Tree) (left : List (List ℕ × Tree)) (into after : List (List ℕ × Tree)) → after ≡ put_each into (flattened_field separator takes p)
       → put_each after (flat_map (flattened_field separator takes) left) ≡ put_each into (flat_map (flattened_field separator takes) (p ∷ left))
   flattened-more p left into after put =

@@ -1,4 +1,4 @@
--- Pairs that were put one after another, put again behind others.
+-- Pairs that are set one after another, and then set again after others.
 use Rattle.std.proofs.Common.{◌≡◌, ℕ, Bool, true, false, cond, not, ◌||◌, List, [], ◌∷◌, refl, ap, sym, ◌∙◌, inl, inr}
 use Rattle.std.specs.List.{list_any}
 use Rattle.std.specs.Str.{bytes_eq}
@@ -31,7 +31,7 @@ module _ {V : Type 0} where
         | inr differs ↦ ap (λ t. has key (cond t ((p.0, value) ∷ pairs) (p ∷ put_at other value pairs))) differs ∙ has-following key p pairs (put_at other value pairs) (has-put key other value pairs) h
       ]
 
-  -- a key that was put is there
+  -- a key that was set is there
   has-itself : (key : List ℕ) (value : V) (pairs : List (List ℕ × V)) → has key (put_at key value pairs) ≡ true
   has-itself key value [] = ap (λ t. t || false) (equal key)
     where
@@ -43,7 +43,7 @@ module _ {V : Type 0} where
         | inr differs ↦ ap (λ t. has key (cond t ((p.0, value) ∷ pairs) (p ∷ put_at key value pairs))) differs ∙ ap (λ t. t || has key (put_at key value pairs)) differs ∙ has-itself key value pairs
       ]
 
-  -- the later value of a key stands
+  -- the later value of a key replaces the earlier
   put-twice : (key : List ℕ) (value later : V) (pairs : List (List ℕ × V)) → put_at key later (put_at key value pairs) ≡ put_at key later pairs
   put-twice key value later [] = rw (nat_list_eq_equiv.refl key) refl
   put-twice key value later (p ∷ pairs) =
@@ -52,7 +52,7 @@ module _ {V : Type 0} where
         | inr differs ↦ rw (differs, differs) (ap (λ x. p ∷ x) (put-twice key value later pairs))
       ]
 
-  -- a key that is there and another one may be put in either order
+  -- a key that is there and another one may be set in either order
   put-either : (key other : List ℕ) (value beside : V) (pairs : List (List ℕ × V)) → has key pairs ≡ true → bytes_eq other key ≡ false
       → put_at key value (put_at other beside pairs) ≡ put_at other beside (put_at key value pairs)
   put-either key other value beside [] h differs = absurd (true≢false (sym h))
@@ -65,7 +65,7 @@ module _ {V : Type 0} where
         ]
       ]
 
-  -- a key that is there already may be put before others that don't have it
+  -- a key that is there already may be set before other keys
   put-before : (key : List ℕ) (value : V) (into pairs : List (List ℕ × V)) → has key into ≡ true → list_any (bytes_eq key) (keys_of pairs) ≡ false
       → put_each (put_at key value into) pairs ≡ put_at key value (put_each into pairs)
   put-before key value into [] h absent = refl
@@ -74,7 +74,7 @@ module _ {V : Type 0} where
       ap (λ x. put_each x pairs) (sym (put-either key p.0 value p.1 into h (nat_list_eq_equiv.symm p.0 key ∙ parts.0)))
       ∙ put-before key value (put_at p.0 p.1 into) pairs (has-put key p.0 p.1 into h) parts.1
 
-  -- a pair that was put among others, of which no two have one key, may be put behind them
+  -- a pair set among pairs with distinct keys may be set after them instead
   put_each-put : (key : List ℕ) (value : V) (into pairs : List (List ℕ × V)) → are_distinct (keys_of pairs) ≡ true
       → put_each into (put_at key value pairs) ≡ put_at key value (put_each into pairs)
   put_each-put key value into [] distinct = refl
@@ -92,7 +92,7 @@ module _ {V : Type 0} where
             ∙ put_each-put key value (put_at p.0 p.1 into) pairs parts.1
       ]
 
-  -- pairs that were put into distinct ones, and then behind others
+  -- pairs may be set in a list with distinct keys and then in another list, or at once
   put_each-put_each : (into before pairs : List (List ℕ × V)) → are_distinct (keys_of before) ≡ true
       → put_each into (put_each before pairs) ≡ put_each (put_each into before) pairs
   put_each-put_each into before [] distinct = refl

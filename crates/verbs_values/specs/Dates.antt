@@ -1,4 +1,4 @@
--- What the verbs sec2gmt and sec2gmtdate make of a record.
+-- The verbs `sec2gmt` and `sec2gmtdate`, on one record.
 use Rattle.std.specs.Prelude.{ℕ, List}
 use Rattle.mlr_spec.specs.Tree.{Tree}
 use Rattle.mlr_event.specs.Reading.{is_among}

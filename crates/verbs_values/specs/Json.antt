@@ -1,4 +1,4 @@
--- Values as JSON texts and back, and what the verbs json-parse and json-stringify make of a record.
+-- Values as JSON texts and back, and the verbs `json-parse` and `json-stringify` on one record.
 use Rattle.std.specs.Prelude.{ℕ, ◌+◌, Bool, true, false, if◌then◌else◌, List, length, Option}
 use Rattle.mlr_spec.specs.declared.json.JsonStyle.TheVariants.{Single}
 use Rattle.mlr_spec.specs.Json.{json_text}
@@ -9,11 +9,11 @@ use Rattle.mlr_json.specs.Machine.{Outcome, read, syntax, deep, outcome_of}
 use Rattle.mlr_json.specs.Readable.{plain}
 use Rattle.verbs_base.specs.Changing.{is_taken, changed}
 
--- the JSON text of a value, on one line
+-- the JSON text of a value, on one line, as a string
 abbrev pub encoded : Tree → Tree
 encoded value = text_value (json_text Single value)
 
--- the value of a text as JSON, and error where the text isn't one JSON value of at most 100 levels
+-- the value that parsing gives; it is error if the text isn't one JSON value of at most 100 levels
 abbrev pub value_or_error : Outcome → Tree
 value_or_error (read value) = value
 value_or_error (syntax place) = error
@@ -22,7 +22,7 @@ value_or_error (deep place) = error
 unfoldable pub decoded : List ℕ → Tree
 decoded text = value_or_error (outcome_of (length text + 1) (tokens_of plain text))
 
--- the strings and the numbers
+-- whether a value is parsed: a string or a number
 abbrev pub is_parsed : Tree → Bool
 is_parsed (string text) = true
 is_parsed (int n spelling) = true

@@ -1,3 +1,4 @@
+//! `fill-empty`: a text in place of each empty value.
 ghost use Rattle.std.specs.Prelude.{◌≡◌, true, IfOk};
 ghost use Rattle.verbs_values.specs.Filling.{filled, fill_empty};
 ghost use Rattle.mlr_value.specs.Value.{tree_of};
@@ -8,24 +9,25 @@ use mlr_value::{Bytes, Value, from_data};
 use std::alloc::Global;
 use verbs_base::{Change, change_record, string_of};
 
-/// `fill-empty`: gives each empty value a text.
+/// `fill-empty`: sets each empty value to a text.
 #[derive(Drop)]
 pub struct FillEmpty {
     /// `-v`: the text, which is `N/A` by default.
     pub text: Bytes,
-    /// `-S`: the text is a string, and isn't inferred.
+    /// `-S`: the text is a string, and its type isn't inferred.
     pub as_string: bool,
 }
 
 impl FillEmpty {
-    /// What it makes of a record. It takes memory for a text of more than 16 bytes, once for each empty value.
+    /// The record with its empty values filled. It allocates only for a text of more than 16 bytes, once for
+    /// each empty value.
     pub fn take(&self, alloc: Global, from: Record) -> Result<Record, NoMemory>
         ensures { IfOk result (λ made. made ≡ fill_empty self.now.text self.now.as_string from) }
     {
         change_record(self, alloc, from)
     }
 
-    /// A copy. It takes memory for a text of more than 16 bytes.
+    /// A copy. It allocates only for a text of more than 16 bytes.
     pub fn copy(&self, alloc: Global) -> Result<Self, NoMemory>
         ensures { IfOk result (λ copy. copy ≡ self.now) }
     {

@@ -1,3 +1,4 @@
+//! `flatten`: fields for the leaves of maps and arrays.
 ghost use Rattle.std.specs.Prelude.{◌≡◌, [], true, IfOk, OnOk};
 ghost use Rattle.std.specs.List.{flat_map, list_any};
 ghost use Rattle.mlr_event.specs.Reading.{is_among};
@@ -14,17 +15,17 @@ use mlr_spec::NoMemory;
 use mlr_value::{Bytes, Value};
 use std::alloc::Global;
 
-/// `flatten`: puts one field for each leaf of a map or an array in the place of the field that holds it.
+/// `flatten`: replaces a field that holds a map or an array by one field for each of its leaves.
 #[derive(Drop)]
 pub struct Flatten {
-    /// `-f`: the fields that it takes, or all.
+    /// `-f`: the fields that it takes, or None for all.
     pub names: Option<Names>,
-    /// `-s`: what stands between the names in the name of a leaf.
+    /// `-s`: the separator between the names in the name of a leaf.
     pub separator: Bytes,
 }
 
 impl Flatten {
-    /// What it makes of a record. It takes memory only for a record in which it takes a map or an array.
+    /// The flattened record. It allocates only for a record with a map or an array that it takes.
     pub fn take(&self, alloc: Global, from: Record) -> Result<Record, NoMemory>
         ensures { IfOk result (λ made. made ≡ flatten self.now.separator self.now.names from) }
     {
@@ -34,7 +35,7 @@ impl Flatten {
         }
     }
 
-    /// A copy. It takes memory for the names, and for a separator of more than 16 bytes.
+    /// A copy. It allocates for the names, and for a separator of more than 16 bytes.
     pub fn copy(&self, alloc: Global) -> Result<Self, NoMemory>
         ensures { IfOk result (λ copy. copy ≡ self.now) }
     {
@@ -96,7 +97,7 @@ fn is_collection(value: &Value) -> bool
     matches!(value, Value::Map(_) | Value::Array(_))
 }
 
-/// Puts what the fields become, one after another.
+/// Sets the fields that the fields become, one after another.
 fn put_flattened(
     alloc: Global,
     names: &Names,
@@ -113,7 +114,7 @@ fn put_flattened(
     Ok(())
 }
 
-/// Puts what a field becomes.
+/// Sets the fields that a field becomes.
 fn put_field(
     alloc: Global,
     names: &Names,
@@ -132,7 +133,7 @@ fn put_field(
     }
 }
 
-/// Puts the leaves of a field, which stand in a record of their own until then.
+/// Sets the leaves of a field, which are in a record of their own until then.
 fn put_leaves(
     alloc: Global,
     separator: &[u8],
@@ -149,7 +150,7 @@ fn put_leaves(
     put_all(leaves.into_fields(), into)
 }
 
-/// Puts fields one after another.
+/// Sets fields, one after another.
 fn put_all(fields: Vec<Field>, into: &mut Record) -> Result<(), NoMemory>
     ensures { OnOk result (into.new ≡ put_each into.old (pairs_of fields.items)) }
 {

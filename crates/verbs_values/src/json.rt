@@ -1,3 +1,4 @@
+//! `json-parse` and `json-stringify`: values from JSON texts, and JSON texts of values.
 ghost use Rattle.std.specs.Prelude.{◌≡◌, IfOk};
 ghost use Rattle.mlr_value.specs.Value.{tree_of};
 ghost use Rattle.verbs_values.specs.Json.{encoded, decoded, is_parsed, parsed, json_parse, json_stringify};
@@ -18,8 +19,8 @@ pub fn json_encode(alloc: Global, value: &Value) -> Result<Value, NoMemory>
     Ok(string_of(json_text(alloc, value, JsonStyle::Single)?))
 }
 
-/// The value of a JSON text, with blanks round it. It is error where the text isn't one value, or one of more than 100
-/// levels.
+/// The value of a JSON text, with whitespace around it or not. It is error if the text isn't exactly one
+/// value, or a value of more than 100 levels.
 pub fn json_decode(alloc: Global, text: &[u8]) -> Result<Value, NoMemory>
     ensures { IfOk result (λ made. tree_of made ≡ decoded text.now) }
 {
@@ -30,7 +31,7 @@ pub fn json_decode(alloc: Global, text: &[u8]) -> Result<Value, NoMemory>
     }
 }
 
-/// A string or a number read as JSON; any other value stays.
+/// A string or a number parsed as JSON; any other value is unchanged.
 fn parse(alloc: Global, value: Value) -> Result<Value, NoMemory>
     ensures { IfOk result (λ made. tree_of made ≡ parsed (tree_of value)) }
 {
@@ -53,22 +54,22 @@ fn is_parsed(value: &Value) -> bool
     )
 }
 
-/// `json-parse`: reads strings and numbers as JSON.
+/// `json-parse`: parses strings and numbers as JSON.
 #[derive(Drop)]
 pub struct JsonParse {
-    /// `-f`: the fields that it takes, or all.
+    /// `-f`: the fields that it takes, or None for all.
     pub names: Option<Names>,
 }
 
 impl JsonParse {
-    /// What it makes of a record. It takes memory for texts, maps and arrays.
+    /// The record with its values parsed. It allocates for texts, maps and arrays.
     pub fn take(&self, alloc: Global, from: Record) -> Result<Record, NoMemory>
         ensures { IfOk result (λ made. made ≡ json_parse self.now.names from) }
     {
         change_record(self, alloc, from)
     }
 
-    /// A copy. It takes memory for the names.
+    /// A copy. It allocates for the names.
     pub fn copy(&self, _: Global) -> Result<Self, NoMemory>
         ensures { IfOk result (λ copy. copy ≡ self.now) }
     {
@@ -95,22 +96,22 @@ impl Change for &JsonParse {
     }
 }
 
-/// `json-stringify`: makes the JSON texts of values.
+/// `json-stringify`: replaces values by their JSON texts.
 #[derive(Drop)]
 pub struct JsonStringify {
-    /// `-f`: the fields that it takes, or all.
+    /// `-f`: the fields that it takes, or None for all.
     pub names: Option<Names>,
 }
 
 impl JsonStringify {
-    /// What it makes of a record. It takes memory for each text of more than 16 bytes.
+    /// The record with JSON texts as its values. It allocates for each text of more than 16 bytes.
     pub fn take(&self, alloc: Global, from: Record) -> Result<Record, NoMemory>
         ensures { IfOk result (λ made. made ≡ json_stringify self.now.names from) }
     {
         change_record(self, alloc, from)
     }
 
-    /// A copy. It takes memory for the names.
+    /// A copy. It allocates for the names.
     pub fn copy(&self, _: Global) -> Result<Self, NoMemory>
         ensures { IfOk result (λ copy. copy ≡ self.now) }
     {

@@ -1,3 +1,4 @@
+//! `sec2gmt` and `sec2gmtdate`: dates from seconds.
 ghost use Rattle.std.specs.Prelude.{◌≡◌, IfOk};
 ghost use Rattle.verbs_values.specs.Dates.{sec2gmt_fields, sec2gmtdate_fields};
 
@@ -9,21 +10,21 @@ use mlr_value::Value;
 use std::alloc::Global;
 use verbs_base::{Change, change_record};
 
-/// `sec2gmt`: turns the seconds of the named fields into dates with times of day.
+/// `sec2gmt`: replaces the seconds in the named fields by dates with times of day.
 #[derive(Drop)]
 pub struct Sec2Gmt {
     pub names: Names,
 }
 
 impl Sec2Gmt {
-    /// What it makes of a record. It takes memory for each text.
+    /// The record with dates and times in these fields. It allocates for each text.
     pub fn take(&self, alloc: Global, from: Record) -> Result<Record, NoMemory>
         ensures { IfOk result (λ made. made ≡ sec2gmt_fields self.now.names from) }
     {
         change_record(self, alloc, from)
     }
 
-    /// A copy. It takes memory for the names.
+    /// A copy. It allocates for the names.
     pub fn copy(&self, _: Global) -> Result<Self, NoMemory>
         ensures { IfOk result (λ copy. copy ≡ self.now) }
     {
@@ -50,21 +51,21 @@ impl Change for &Sec2Gmt {
     }
 }
 
-/// `sec2gmtdate`: turns the seconds of the named fields into dates.
+/// `sec2gmtdate`: replaces the seconds in the named fields by dates.
 #[derive(Drop)]
 pub struct Sec2GmtDate {
     pub names: Names,
 }
 
 impl Sec2GmtDate {
-    /// What it makes of a record. It takes no memory.
+    /// The record with dates in these fields. It doesn't allocate.
     pub fn take(&self, alloc: Global, from: Record) -> Result<Record, NoMemory>
         ensures { IfOk result (λ made. made ≡ sec2gmtdate_fields self.now.names from) }
     {
         change_record(self, alloc, from)
     }
 
-    /// A copy. It takes memory for the names.
+    /// A copy. It allocates for the names.
     pub fn copy(&self, _: Global) -> Result<Self, NoMemory>
         ensures { IfOk result (λ copy. copy ≡ self.now) }
     {

@@ -1,4 +1,4 @@
-//! What the verbs make of records that are JSON texts, and values as JSON texts and back.
+//! The output of the verbs for records that are JSON texts, and values as JSON texts and back.
 use crate::{
     FillEmpty, Flatten, JsonParse, JsonStringify, Sec2Gmt, Sec2GmtDate, Unflatten, decoded_law,
     json_decode, json_encode,
@@ -128,7 +128,7 @@ fn made(alloc: Global, verb: Verb, from: Record) -> Result<Record, NoMemory> {
 /// A verb, the record that it takes as JSON, and what it makes of it, as `printed` shows it.
 type Row = (Verb, &'static str, &'static str);
 
-/// A name or a text that needs memory.
+/// A name or a text that is allocated.
 const LONG: &str = "a text of more bytes than lie inline";
 
 const EMPTY: &str = r#"{"a": 1, "b": "", "c": "x", "d": "", "e": {"f": ""}}"#;
@@ -229,7 +229,7 @@ const JSON: [Row; 5] = [
 const NESTED: &str =
     r#"{"a": {"x": 1, "y": {"z": 2}}, "b": [3, {}], "a:y:z": 4, "c": {"d": []}, "e": ""}"#;
 
-/// Maps and arrays that become fields.
+/// Maps and arrays that are flattened.
 const FLATTENED: [Row; 8] = [
     (
         Verb::Flatten(None, ":"),
@@ -279,7 +279,7 @@ const TEXTS: &str = r#"{"x": "{}", "y": "{}", "z.1": "[]", "w": "[]", "v.1": "{}
 
 const IN_THE_WAY: &str = r#"{"a": 1, "c": 5, "a.b": 2, "c.d": 3, "a.b.e": 4}"#;
 
-/// Fields that become maps and arrays.
+/// Fields that are unflattened to maps and arrays.
 const UNFLATTENED: [Row; 17] = [
     (
         Verb::Unflatten(None, "."),
@@ -379,7 +379,7 @@ fn verbs_make_the_wanted_records(rt: HostRuntime) -> Result<(), NoMemory> {
     Ok(())
 }
 
-/// So many arrays, each but the last in another, as JSON.
+/// An array in an array and so on, of this many levels, as JSON.
 fn nested(alloc: Global, levels: usize) -> Result<Bytes, NoMemory> {
     let mut text = Bytes::new(alloc);
     for _ in 0..levels {
@@ -419,7 +419,7 @@ fn json_texts_are_values(rt: HostRuntime) -> Result<(), NoMemory> {
         assert_eq!(rt; made.as_slice(), want.as_bytes(), "{text}");
     }
     decoded_law();
-    // An absent value and an error stay as they are, and so do values that aren't texts.
+    // Absent values and errors are unchanged, and so are values that aren't texts.
     let json = br#"{"a": "3", "b": "4", "c": true, "d": {"e": "5"}, "f": ["6"]}"#;
     let want = br#"a#3 b#4 c?true d@{"e": "5"} f&["6"] g- h!(error) "#;
     let mut from = record_of(alloc, json)?;

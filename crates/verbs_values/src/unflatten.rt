@@ -1,3 +1,4 @@
+//! `unflatten`: maps and arrays from fields with paths as names.
 ghost use Rattle.std.specs.Prelude.{◌≡◌, ◌<◌, length, IfOk};
 ghost use Rattle.verbs_values.specs.Unflattening.{unflatten};
 
@@ -7,17 +8,17 @@ use mlr_spec::NoMemory;
 use mlr_value::Bytes;
 use std::alloc::Global;
 
-/// `unflatten`: puts each value at the path that the name of its field spells.
+/// `unflatten`: sets each value at the path that its field's name spells.
 #[derive(Drop)]
 pub struct Unflatten {
-    /// `-f`: the first parts of the names of the fields that it takes, or all fields.
+    /// `-f`: the first parts of the names of the fields that it takes, or None for all fields.
     pub names: Option<Names>,
-    /// `-s`: what stands between the parts of a name.
+    /// `-s`: the separator between the parts of a name.
     pub separator: Bytes,
 }
 
 impl Unflatten {
-    /// What it makes of a record. It takes memory only for a record in which a field that it takes changes.
+    /// The unflattened record. It allocates only for a record in which a field changes.
     pub fn take(&self, from: Record) -> Result<Record, NoMemory>
         requires { 0 < length self.now.separator }
         ensures { IfOk result (λ made. made ≡ unflatten self.now.separator self.now.names from) }
@@ -31,7 +32,7 @@ impl Unflatten {
         Ok(record)
     }
 
-    /// A copy. It takes memory for the names, and for a separator of more than 16 bytes.
+    /// A copy. It allocates for the names, and for a separator of more than 16 bytes.
     pub fn copy(&self, alloc: Global) -> Result<Self, NoMemory>
         ensures { IfOk result (λ copy. copy ≡ self.now) }
     {

@@ -4,7 +4,7 @@ use Rattle.mlr_groups.specs.Grouping.{group_of}
 use Rattle.mlr_groups.specs.Keys.{key_of}
 use Rattle.mlr_groups.proofs.keys.append_group.Given as goal
 
--- what is left comes to what the whole comes to
+-- the key so far with the texts of the remaining names is the key of all of them
 abbrev pub invariant-loop-name : goal.invariant-loop-name
 invariant-loop-name l =
     option_map (λ texts. l.key ++ key_of texts) (group_of (drop l.name-index l.names) l.fields)

@@ -8,7 +8,8 @@ use Rattle.verbs_fields.specs.Choosing.{templated}
 use Rattle.verbs_fields.proofs.Once.{fresh, field_of}
 use Rattle.verbs_fields.proofs.choosing.put_each_named.Given as goal
 
--- with the fields of the names that are left it is whole, and the values of these names are still there
+-- the record so far with the fields of the remaining names is the whole record, and the values of these names
+-- are still there
 abbrev pub invariant-loop-name : goal.invariant-loop-name
 invariant-loop-name l = record {
   into : l.into ++ map (field_of (λ name. unwrap_or (value_at name (pairs_of l.fn.fields.items)) (text_value l.text))) (fresh (keys_of l.into) (drop l.name-index l.names)) ≡ templated l.names l.text (pairs_of l.fn.fields.items);

@@ -4,7 +4,7 @@ use Rattle.mlr_record.specs.Fields.{pairs_of}
 use Rattle.verbs_fields.specs.Choosing.{picked, dropped}
 use Rattle.verbs_fields.proofs.extraction.take_named.Given as goal
 
--- what the names that are left pick and drop comes to what all names do
+-- the remaining names pick and drop from the remaining fields what all names pick and drop from all fields
 abbrev pub invariant-loop-name : goal.invariant-loop-name
 invariant-loop-name l = record {
   distinct : are_distinct (keys_of (pairs_of l.fields.items)) ≡ true;

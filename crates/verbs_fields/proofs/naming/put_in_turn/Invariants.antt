@@ -4,7 +4,7 @@ use Rattle.mlr_record.specs.Fields.{pairs_of}
 use Rattle.verbs_fields.specs.Naming.{in_turn, values_of}
 use Rattle.verbs_fields.proofs.naming.put_in_turn.Given as goal
 
--- what is left comes to what the whole comes to
+-- the record so far with the remaining values set is the whole record
 abbrev pub invariant-loop-key : goal.invariant-loop-key
 invariant-loop-key l =
     put_each l.into (in_turn l.last (values_of (pairs_of l.fields.rest.items))) ≡ put_each [] (in_turn l.last (values_of (pairs_of l.fn.fields.items)))

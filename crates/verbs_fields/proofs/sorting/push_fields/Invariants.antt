@@ -4,7 +4,7 @@ use Rattle.mlr_record.specs.Fields.{pairs_of}
 use Rattle.verbs_fields.specs.Sorting.{deep_pairs}
 use Rattle.verbs_fields.proofs.sorting.push_fields.Given as goal
 
--- what is left comes to what the whole comes to
+-- the fields so far with the remaining ones sorted are all fields sorted
 abbrev pub invariant-loop-field : goal.invariant-loop-field
 invariant-loop-field l =
     pairs_of l.into.items ++ deep_pairs (fields_of (pairs_of l.field-iterator.rest.items)) ≡ pairs_of l.fn.into.items ++ deep_pairs (fields_of (pairs_of l.fn.fields.items))

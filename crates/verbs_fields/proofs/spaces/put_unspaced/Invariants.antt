@@ -4,7 +4,7 @@ use Rattle.mlr_record.specs.Fields.{pairs_of}
 use Rattle.verbs_fields.specs.Spaces.{unspaced, unspaced_field}
 use Rattle.verbs_fields.proofs.spaces.put_unspaced.Given as goal
 
--- what is left comes to what the whole comes to
+-- the record so far with the remaining fields set is the whole record
 abbrev pub invariant-loop-field : goal.invariant-loop-field
 invariant-loop-field l =
     put_each l.into (map (unspaced_field l.unspace) (pairs_of l.field-iterator.rest.items)) ≡ unspaced l.unspace (pairs_of l.fn.fields.items)

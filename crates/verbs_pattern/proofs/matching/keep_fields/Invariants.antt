@@ -4,7 +4,7 @@ use Rattle.mlr_record.specs.Fields.{pairs_of}
 use Rattle.verbs_pattern.specs.Matching.{kept_matching}
 use Rattle.verbs_pattern.proofs.matching.keep_fields.Given as goal
 
--- what is left comes to what the whole comes to
+-- the kept fields so far with those kept of the remaining fields are all the kept fields
 abbrev pub invariant-loop-field : goal.invariant-loop-field
 invariant-loop-field l =
     let patterns = map matcher_pattern l.fn.matchers in record {

@@ -4,7 +4,7 @@ use Rattle.verbs_pattern.specs.Renaming.{renamed_by, renamed_from}
 use Rattle.verbs_pattern.specs.RenamingSteps.{new_name}
 use Rattle.verbs_pattern.proofs.rename_patterns.rename_all.Given as goal
 
--- what is left comes to what the whole comes to
+-- renaming the remaining fields gives the record with all fields renamed
 abbrev pub invariant-loop-place : goal.invariant-loop-place
 invariant-loop-place l =
     let re = matcher_pattern l.fn.matcher in record {

@@ -4,7 +4,7 @@ use Rattle.regex.specs.Bytes.{regex_pattern}
 use Rattle.verbs_pattern.specs.Renaming.{renamed_by_each}
 use Rattle.verbs_pattern.proofs.rename_patterns.rename_by_each.Given as goal
 
--- what is left comes to what the whole comes to
+-- renaming the fields so far by the remaining rules gives what all rules give
 abbrev pub invariant-loop-place : goal.invariant-loop-place
 invariant-loop-place l =
     renamed_by_each l.which (map (λ rule. (regex_pattern (arc_value rule.0), rule.1)) (drop l.place l.rules)) l.fields

@@ -2,6 +2,6 @@ use Rattle.std.proofs.Common.{◌≡◌, ◌++◌, drop, map}
 use Rattle.mlr_spec.specs.Pairs.{keys_of}
 use Rattle.verbs_state.proofs.regularize.borrowed_names.Given as goal
 
--- the names so far and those of the fields that are left
+-- the names so far with those of the remaining fields are the names of all fields
 abbrev pub invariant-loop-place : goal.invariant-loop-place
 invariant-loop-place l = map (λ name. name.now) l.names.items ++ keys_of (drop l.place l.fields) ≡ keys_of l.fields

@@ -1,7 +1,7 @@
 use Rattle.verbs_stream.specs.TestVerb.{CanStep}
 use Rattle.verbs_stream.proofs.tests.step_lines.Given as goal
 
--- it may be given more
+-- the verb may take another event
 abbrev pub invariant-loop-nr : goal.invariant-loop-nr
 invariant-loop-nr g l =
     (goal.iterator-loop-nr g).can_next l.nr-iterator ×

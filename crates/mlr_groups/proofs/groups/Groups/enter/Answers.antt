@@ -7,7 +7,7 @@ use Rattle.mlr_groups.proofs.Grouping.{group-told, groups-none, keys-entered, no
 use Rattle.mlr_groups.proofs.groups.Groups.enter.Goals as goal
 use Rattle.mlr_groups.proofs.groups.Groups.enter.Goals.{Then-len-gt0}
 
--- without names the one group is there
+-- without names the one group is there already
 there : (c : Then-len-gt0) (names : List (List ℕ)) (before : List Fields) → GroupsOf names before c.args.self.now
     → (groups_in names (before ++ c.args.fields.now ∷ []) ≡ groups_in names before) × (group_of names c.args.fields.now ≡ Some []) × (slice_get (groups_in names (before ++ c.args.fields.now ∷ [])) 0 ≡ Some [])
 there c names before represents =

@@ -5,7 +5,7 @@ use Rattle.mlr_groups.proofs.Tables.{among-texts, among-at, text-at, entered-kno
 use Rattle.mlr_groups.proofs.keys.KeyTable.enter.Goals as goal
 use Rattle.mlr_groups.proofs.keys.KeyTable.enter.Goals.{In-None}
 
--- the key isn't there
+-- the key is new
 absent : (c : In-None) → is_among c.args.self.now c.args.key.now ≡ false
 absent c =
     subst (λ texts. is_among texts c.args.key.now ≡ false) c.self.view_is

@@ -4,6 +4,6 @@ use Rattle.regex.specs.Patterns.{Re}
 use Rattle.regex.specs.Bytes.{regex_pattern}
 use Rattle.verbs_pattern.proofs.rename_patterns.RenamePatterns.copy.Given as goal
 
--- the rules so far have the same patterns and texts
+-- the rules copied so far have the same patterns and texts
 abbrev pub invariant-loop-pattern : goal.invariant-loop-pattern
 invariant-loop-pattern l = map {B = Re × List ℕ} (λ r. (regex_pattern (arc_value r.0), r.1)) l.pairs.items ≡ map (λ r. (regex_pattern (arc_value r.0), r.1)) (take l.pattern-index l.pattern-items)
