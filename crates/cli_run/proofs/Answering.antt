@@ -20,7 +20,7 @@ use Rattle.serial_core.specs.Command as serial
 use Rattle.serial_core.proofs.Running.{following-none}
 use Rattle.serial_core.specs.Run.{HoldsAll}
 use Rattle.serial_core.specs.Run.{Completes as Complete, Run as SerialRun}
-use Rattle.serial_core.specs.Represents as standing
+use Rattle.serial_core.specs.Represents as outcomes
 use Rattle.cli_words.specs.declared.flags.Formats.{Formats}
 use Rattle.cli_words.specs.declared.verbs.Asked.{Asked}
 use Rattle.cli_words.specs.Grammar.{IsLine, IsRefusedAt}
@@ -41,7 +41,7 @@ refused-there words number at = record {
 }
 
 -- where a command was run the outcome isn't Refused
-pub never-refused : (ended : Ended) (command : serial.Command) (given : List Take) → standing.Says ended command given → is_refused ended ≡ true → ⊥
+pub never-refused : (ended : Ended) (command : serial.Command) (given : List Take) → outcomes.Says ended command given → is_refused ended ≡ true → ⊥
 never-refused answer.Done command given says is = false≢true is
 never-refused (answer.Refused refusal) command given says is = says
 never-refused (answer.Data fault) command given says is = false≢true is
@@ -51,9 +51,9 @@ never-refused answer.TooLong command given says is = false≢true is
 never-refused answer.NoMemory command given says is = false≢true is
 
 pub not-refused : (words : List (List ℕ)) (formats : Formats) (verbs : List Asked) (names : List (List ℕ)) → IsLine words formats verbs names
-    → (ended : Ended) (command : serial.Command) (given : List Take) → standing.Says ended command given → RefusesWhere words ended
+    → (ended : Ended) (command : serial.Command) (given : List Take) → outcomes.Says ended command given → RefusesWhere words ended
 not-refused words formats verbs names line ended command given says = record {
-  only = λ refusal is. absurd (subst (λ e. standing.Says e command given) is says);
+  only = λ refusal is. absurd (subst (λ e. outcomes.Says e command given) is says);
   always = λ number at. absurd (at.none formats verbs names line);
 }
 
@@ -72,7 +72,7 @@ ran-refused words number at contents taken name held =
       means = (number, at, refl);
       given = [];
       takes = record { order = tt; few = omega arith; entries = none.entries; prefixes = none.prefixes; says = refl; early = told-nothing contents taken };
-      leaves = ChangesAt-none Stdout (standing.Leaves (answer.Refused (record { word = number; why = why.NotBuilt })) []) (λ before. refl) held;
+      leaves = ChangesAt-none Stdout (outcomes.Leaves (answer.Refused (record { word = number; why = why.NotBuilt })) []) (λ before. refl) held;
     }
 
 -- what holds where takes are known, before and now
@@ -121,10 +121,10 @@ told-following step message result (Some a) (Some b) (Some c) out err = subst (s
 pub completes-following : (ended : Ended) (command : serial.Command) (whole : List Take) (message : List ℕ) (result : Done) (h0 h1 h2 : Option Held)
     → Complete ended command whole h0 h1 → ChangesAt Stderr (Appends message result) h1 h2 → Completes ended command whole h0 h2
 completes-following answer.Done command whole message result h0 h1 h2 done err =
-    (done.0, told-following (standing.Leaves answer.Done (serial.text command whole)) message result h0 h1 h2 done.1 err)
+    (done.0, told-following (outcomes.Leaves answer.Done (serial.text command whole)) message result h0 h1 h2 done.1 err)
 completes-following (answer.Refused refusal) command whole message result h0 h1 h2 done err = done
 completes-following (answer.Data fault) command whole message result h0 h1 h2 done err =
-    (done.0, told-following (standing.Leaves (answer.Data fault) (serial.text command whole)) message result h0 h1 h2 done.1 err)
+    (done.0, told-following (outcomes.Leaves (answer.Data fault) (serial.text command whole)) message result h0 h1 h2 done.1 err)
 completes-following (answer.Read name) command whole message result h0 h1 h2 done err = done
 completes-following (answer.Written target) command whole message result h0 h1 h2 done err = done
 completes-following answer.TooLong command whole message result h0 h1 h2 done err = done

@@ -12,7 +12,7 @@ use Rattle.serial_core.specs.declared.answer.Ended.{Ended}
 use Rattle.serial_core.specs.declared.answer.Ended.TheVariants as answer
 use Rattle.serial_core.specs.Answer.{has_failed}
 use Rattle.serial_core.specs.Command as serial
-use Rattle.serial_core.specs.Represents as standing
+use Rattle.serial_core.specs.Represents as outcomes
 use Rattle.cli_run.specs.Answer.{RefusesWhere}
 use Rattle.cli_run.specs.Meaning.{Means, text_for}
 use Rattle.cli_run.specs.Message.{Appends, message_of}
@@ -45,7 +45,7 @@ message_left message done.NoMemory before now f0 f1 f2 s0 s1 s2 ff ss counted ta
 
 pub leaves_all : (words names : List (List ℕ)) (meant : Option serial.Command) (ended : Ended) (given : List Take) (result : Done) (h0 h1 h2 : Option Held) (f0 f1 f2 : Target → ℕ) (s0 s1 s2 : ℕ)
     → f0 Stderr ≤ f1 Stderr → s0 ≤ s1 → Counted (call_failed result) f1 f2 Stderr → Tallied (lacked_memory result) s1 s2
-    → ChangesAt Stdout (standing.Leaves ended (text_for meant given)) h0 h1 → ChangesAt Stderr (Appends (message_of words names ended) result) h1 h2
+    → ChangesAt Stdout (outcomes.Leaves ended (text_for meant given)) h0 h1 → ChangesAt Stderr (Appends (message_of words names ended) result) h1 h2
     → WhereTold (Leaves words names meant ended given (Rose (f0 Stderr) (f2 Stderr) ⊎ Rose s0 s2)) h0 h2
 leaves_all words names meant ended given result None None None f0 f1 f2 s0 s1 s2 ff ss counted tallied out err = tt
 leaves_all words names meant ended given result None None (Some c) f0 f1 f2 s0 s1 s2 ff ss counted tallied out err = err
@@ -53,7 +53,7 @@ leaves_all words names meant ended given result None (Some b) h2 f0 f1 f2 s0 s1 
 leaves_all words names meant ended given result (Some a) None h2 f0 f1 f2 s0 s1 s2 ff ss counted tallied out err = absurd out
 leaves_all words names meant ended given result (Some a) (Some b) None f0 f1 f2 s0 s1 s2 ff ss counted tallied out err = err
 leaves_all words names meant ended given result (Some a) (Some b) (Some c) f0 f1 f2 s0 s1 s2 ff ss counted tallied out err = record {
-  out = subst (standing.Leaves ended (text_for meant given) (a Stdout)) (sym (err.elsewhere Stdout apart)) out.here;
+  out = subst (outcomes.Leaves ended (text_for meant given) (a Stdout)) (sym (err.elsewhere Stdout apart)) out.here;
   err = subst (λ before. LeavesMessage (message_of words names ended) (Rose (f0 Stderr) (f2 Stderr) ⊎ Rose s0 s2) before (c Stderr)) (out.elsewhere Stderr apart')
       (message_left (message_of words names ended) result (b Stderr) (c Stderr) f0 f1 f2 s0 s1 s2 ff ss counted tallied err.here);
   others = λ target not_out not_err. err.elsewhere target not_err ∙ out.elsewhere target not_out;
@@ -61,7 +61,7 @@ leaves_all words names meant ended given result (Some a) (Some b) (Some c) f0 f1
 
 -- why the outcome is what it is, by the counts of the outputs
 pub cause : (ended : Ended) (command : serial.Command) (given : List Take) (result : Done) (f0 f1 f2 : Target → ℕ)
-    → standing.Says ended command given → (ended ≡ answer.Done → result ≡ done.Ok) → Counted (has_failed ended) f0 f1 Stdout → Counted (call_failed result) f1 f2 Stderr → OutputCause ended f0 f2
+    → outcomes.Says ended command given → (ended ≡ answer.Done → result ≡ done.Ok) → Counted (has_failed ended) f0 f1 Stdout → Counted (call_failed result) f1 f2 Stderr → OutputCause ended f0 f2
 cause answer.Done command given result f0 f1 f2 says silent first second =
     λ target. subst (λ r. Counted (call_failed r) f1 f2 Stderr) (silent refl) second target ∙ first target
 cause (answer.Refused refusal) command given result f0 f1 f2 says silent first second = tt

@@ -13,14 +13,14 @@ use Rattle.serial_core.specs.declared.answer.Ended.{Ended}
 use Rattle.serial_core.specs.declared.answer.Ended.TheVariants as answer
 use Rattle.serial_core.specs.Command as serial
 use Rattle.serial_core.specs.Run.{StopsEarly}
-use Rattle.serial_core.specs.Represents as standing
+use Rattle.serial_core.specs.Represents as outcomes
 use Rattle.cli_run.specs.Meaning.{Means, inputs_for, text_for}
 use Rattle.cli_run.specs.Message.{message_of}
 
 -- what an outcome says of what was taken of the inputs: nothing was, where the words are refused
 abbrev pub Says : Ended → Option serial.Command → List Take → Type 0
 Says ended None given = given ≡ []
-Says ended (Some command) given = standing.Says ended command given
+Says ended (Some command) given = outcomes.Says ended command given
 
 -- little was taken: nothing where the result was fixed before, and else fewer than 65,536 bytes more than fix it
 abbrev pub Stops : Option serial.Command → Contents → List Take → Type 0
@@ -33,7 +33,7 @@ LeavesMessage message Unwritten before now = (now ≡ with_bytes message before)
 
 -- What a run leaves in each target.
 pub record Leaves (words names : List (List ℕ)) (meant : Option serial.Command) (ended : Ended) (given : List Take) (Unwritten : Type 0) (before now : Held) : Type 0 where
-  pub out : standing.Leaves ended (text_for meant given) (before Stdout) (now Stdout)
+  pub out : outcomes.Leaves ended (text_for meant given) (before Stdout) (now Stdout)
   pub err : LeavesMessage (message_of words names ended) Unwritten (before Stderr) (now Stderr)
   pub others : (target : Target) → (target ≡ Stdout → ⊥) → (target ≡ Stderr → ⊥) → now target ≡ before target
 
@@ -69,7 +69,7 @@ pub record Ran (words names : List (List ℕ)) (ended : Ended) (contents : Optio
   pub means : Means words names meant
   pub given : List Take
   pub takes : Takes meant ended given contents taken taken'
-  pub leaves : ChangesAt Stdout (standing.Leaves ended (text_for meant given)) held held'
+  pub leaves : ChangesAt Stdout (outcomes.Leaves ended (text_for meant given)) held held'
 
 -- what each outcome says of the counts of the outputs
 abbrev pub OutputCause : Ended → (Target → ℕ) → (Target → ℕ) → Type 0
@@ -84,7 +84,7 @@ OutputCause answer.NoMemory before now = Unit {0}
 -- standard output contains the text of all that the inputs hold
 abbrev pub Holds : Ended → serial.Command → List Take → Option Held → Option Held → Type 0
 Holds ended command whole held held' =
-    standing.Says ended command whole × WhereTold (λ before now. standing.Leaves ended (serial.text command whole) (before Stdout) (now Stdout)) held held'
+    outcomes.Says ended command whole × WhereTold (λ before now. outcomes.Leaves ended (serial.text command whole) (before Stdout) (now Stdout)) held held'
 
 -- the outcome is that of all that the inputs hold, or memory ran out
 abbrev pub Completes : Ended → serial.Command → List Take → Option Held → Option Held → Type 0

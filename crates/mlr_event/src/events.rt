@@ -12,7 +12,7 @@ pub struct Events {
     events: Vec<Event>,
 }
 
-// Written out, so that the crates above call it and don't go into the fields.
+// Written by hand, so that the crates above call it instead of dropping the fields themselves.
 impl Drop for Events {
     #[inline]
     fn drop(self) {

@@ -14,7 +14,7 @@ pub struct Names {
     names: Vec<Bytes>,
 }
 
-// Written out, so that the crates above call it and don't go into the fields.
+// Written by hand, so that the crates above call it instead of dropping the fields themselves.
 impl Drop for Names {
     fn drop(self) {
         let Names { alloc: _, names } = self;

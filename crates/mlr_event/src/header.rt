@@ -16,7 +16,7 @@ pub struct Header {
     keys: Vec<Bytes>,
 }
 
-// Written out, so that the crates above call it and don't go into the fields.
+// Written by hand, so that the crates above call it instead of dropping the fields themselves.
 impl Drop for Header {
     fn drop(self) {
         let Header { names, keys } = self;

@@ -70,7 +70,7 @@ pub struct ReadOpts {
     pub infer: InferOpts,
 }
 
-// Written out, so that the crates above call it and don't go into the fields.
+// Written by hand, so that the crates above call it instead of dropping the fields themselves.
 impl Drop for ReadOpts {
     fn drop(self) {
         let ReadOpts {

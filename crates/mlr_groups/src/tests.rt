@@ -161,9 +161,9 @@ fn made(alloc: Global) -> Result<Record, NoMemory> {
 fn keys_are_made_of_texts_and_entered_once(rt: HostRuntime) -> Result<(), NoMemory> {
     let alloc = rt.alloc();
     for (i, (of, text, want)) in KEYS.iter().enumerate() {
-        let mut key = Bytes::copy_of(alloc, b"front")?;
+        let mut key = Bytes::copy_of(alloc, b"before")?;
         append_texts(alloc, &names(alloc, of)?, &row(alloc, *text)?, &mut key)?;
-        let mut whole = Bytes::copy_of(alloc, b"front")?;
+        let mut whole = Bytes::copy_of(alloc, b"before")?;
         whole.append(*want)?;
         assert_eq!(rt; key.as_slice(), whole.as_slice(), "at {i}");
     }

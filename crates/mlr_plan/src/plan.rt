@@ -28,7 +28,7 @@ pub struct Plan {
     pub serial: bool,
 }
 
-// Written out, so that the crates above call it and don't go into the parts.
+// Written by hand, so that the crates above call it instead of dropping the fields themselves.
 impl Drop for Plan {
     fn drop(self) {
         let Plan {

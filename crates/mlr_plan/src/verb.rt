@@ -14,7 +14,7 @@ pub enum Verb {
     Stream(StreamVerb),
 }
 
-// Written out, so that the crates above call it.
+// Written by hand, so that the crates above call it instead of dropping the fields themselves.
 impl Drop for Verb {
     fn drop(self) {
         match self {

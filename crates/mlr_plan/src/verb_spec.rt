@@ -15,7 +15,7 @@ pub enum VerbSpec {
     Seq(SeqSpec),
 }
 
-// Written out, so that the crates above call it.
+// Written by hand, so that the crates above call it instead of dropping the fields themselves.
 impl Drop for VerbSpec {
     fn drop(self) {
         match self {

@@ -27,7 +27,7 @@ pub struct Record {
     fields: Vec<Field>,
 }
 
-// Written out, so that the crates above call it and don't go into the fields.
+// Written by hand, so that the crates above call it instead of dropping the fields themselves.
 impl Drop for Record {
     #[inline]
     fn drop(self) {

@@ -13,7 +13,7 @@ pub struct Bytes {
     alloc: Global,
 }
 
-// Written out, so that the crates above call it and don't go into the fields.
+// Written by hand, so that the crates above call it instead of dropping the fields themselves.
 impl Drop for Bytes {
     #[inline]
     fn drop(self) {

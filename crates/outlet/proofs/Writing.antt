@@ -13,7 +13,7 @@ use Rattle.outlet.specs.declared.outlet.Let.{Let}
 use Rattle.outlet.specs.declared.outlet.Let.TheVariants.{Went, Over, Failed, NoMemory}
 use Rattle.outlet.specs.declared.outlet.Outlet.{Outlet}
 use Rattle.outlet.specs.Represents.{LetLeaves, LetSays, AppendsPrefix, Represents, Took}
-use Rattle.outlet.specs.PendingText.{AnswersFor, IsAt, Appends, let_of}
+use Rattle.outlet.specs.PendingText.{OutcomeFor, IsAt, Appends, let_of}
 use Rattle.outlet.proofs.Growing.{out-grows}
 
 -- nothing was written
@@ -36,22 +36,22 @@ ok-leaves (Some fault) text held held' left = ChangesAt-map Stdout (WriteLeaves 
 pub short-leaves : (text : List ℕ) (held held' : Option Held) → ChangesAt Stdout (WriteLeaves text done.NoMemory) held held' → ChangesAt Stdout (LetLeaves NoMemory text) held held'
 short-leaves text held held' left = ChangesAt-map Stdout (WriteLeaves text done.NoMemory) (LetLeaves NoMemory text) (nothing-put text) held held' left
 
-pub answers-over : (over : Option (Option Fault)) → AnswersFor over (let_of over)
-answers-over None = refl
-answers-over (Some fault) = refl
+pub outcome-over : (over : Option (Option Fault)) → OutcomeFor over (let_of over)
+outcome-over None = refl
+outcome-over (Some fault) = refl
 
 -- what it returns of what was appended
-says-of : (over : Option (Option Fault)) (answer : Let) (events : List Event) → AnswersFor over answer → LetSays (let_of over) events → LetSays answer events
+says-of : (over : Option (Option Fault)) (answer : Let) (events : List Event) → OutcomeFor over answer → LetSays (let_of over) events → LetSays answer events
 says-of over Went events is says = subst (λ o. LetSays (let_of o) events) is says
 says-of over (Over fault) events is says = subst (λ o. LetSays (let_of o) events) is says
 says-of over (Failed target) events is says = is
 says-of over NoMemory events is says = tt
 
-pub standing-at : (opts : WriteOpts) (before : List Event) (outlet : Outlet) → Represents opts before outlet → IsAt opts before outlet
-standing-at opts before outlet represents = record { clear = represents.clear; represents = represents.represents; writes = represents.writes }
+pub represents-at : (opts : WriteOpts) (before : List Event) (outlet : Outlet) → Represents opts before outlet → IsAt opts before outlet
+represents-at opts before outlet represents = record { clear = represents.clear; represents = represents.represents; writes = represents.writes }
 
 module _ (opts : WriteOpts) (before events : List Event) (outlet : Outlet) (stood : Represents opts before outlet) where
-  pub took : (over : Option (Option Fault)) (put : Outlet) (answer : Let) (held held' : Option Held) → Appends over opts before events outlet put → AnswersFor over answer → ChangesAt Stdout (LetLeaves answer put.text) held held'
+  pub took : (over : Option (Option Fault)) (put : Outlet) (answer : Let) (held held' : Option Held) → Appends over opts before events outlet put → OutcomeFor over answer → ChangesAt Stdout (LetLeaves answer put.text) held held'
       → Took answer opts before events held held'
   took over put answer held held' appends is left = record {
     says = says-of over answer (before ++ events) is appends.says;
@@ -66,7 +66,7 @@ module _ (opts : WriteOpts) (before events : List Event) (outlet : Outlet) (stoo
       let grown = out-grows (λ opts bodies following ended. (_, written-append opts bodies following ended)) opts before events stood.clear in
       record { says = tt; more = grown.0; text = grown.1; leaves = unwritten grown.0 held }
 
-  pub represents-following : (over : Option (Option Fault)) (put now : Outlet) (answer : Let) → Appends over opts before events outlet put → AnswersFor over answer → answer ≡ Went → now ≡ record put { text = [] } → Represents opts (before ++ events) now
+  pub represents-following : (over : Option (Option Fault)) (put now : Outlet) (answer : Let) → Appends over opts before events outlet put → OutcomeFor over answer → answer ≡ Went → now ≡ record put { text = [] } → Represents opts (before ++ events) now
   represents-following over put now answer appends is went same =
-      let at = appends.more (subst (AnswersFor over) went is) in
+      let at = appends.more (subst (OutcomeFor over) went is) in
       subst (Represents opts (before ++ events)) (sym same) (record { clear = at.clear; represents = at.represents; writes = at.writes; text = refl })

@@ -28,11 +28,11 @@ let_of None = Went
 let_of (Some fault) = Over fault
 
 -- a result of a write of all that was appended
-abbrev pub AnswersFor : Option (Option Fault) → Let → Type 0
-AnswersFor over Went = over ≡ None
-AnswersFor over (Over fault) = over ≡ Some fault
-AnswersFor over (Failed target) = target ≡ Stdout
-AnswersFor over NoMemory = Unit {0}
+abbrev pub OutcomeFor : Option (Option Fault) → Let → Type 0
+OutcomeFor over Went = over ≡ None
+OutcomeFor over (Over fault) = over ≡ Some fault
+OutcomeFor over (Failed target) = target ≡ Stdout
+OutcomeFor over NoMemory = Unit {0}
 
 -- it writes by these options, and what these events become was put; no end and no fault was among them
 pub record IsAt (opts : WriteOpts) (events : List Event) (outlet : Outlet) : Type 0 where

@@ -10,7 +10,7 @@ ghost use Rattle.writers.specs.declared.options.WriteOpts.{WriteOpts as Options}
 ghost use Rattle.writers.specs.Represents.{IsOpen};
 ghost use Rattle.outlet.specs.Out.{event_bodies};
 ghost use Rattle.outlet.specs.Represents.{LetLeaves, Represents, Took, has_failed};
-ghost use Rattle.outlet.specs.PendingText.{AnswersFor, IsAt, Appends, let_of, over_by};
+ghost use Rattle.outlet.specs.PendingText.{OutcomeFor, IsAt, Appends, let_of, over_by};
 
 use mlr_event::{Body, Event, Events, Fault, Piece, Target};
 use mlr_spec::NoMemory;
@@ -40,7 +40,7 @@ pub struct Outlet {
     text: Bytes,
 }
 
-// Written out, so that the crates above call it and don't go into the writers.
+// Written by hand, so that the crates above call it instead of dropping the fields themselves.
 impl Drop for Outlet {
     fn drop(self) {
         let Outlet { writer, text } = self;
@@ -178,7 +178,7 @@ impl Outlet {
     fn write<O: Outputs>(&mut self, over: Option<Option<Fault>>, outputs: &mut O) -> Let
         ensures leaves { ChangesAt Stdout (LetLeaves result self.old.text) (O.held outputs.old)
             (O.held outputs.new) }
-        ensures answer { AnswersFor over result }
+        ensures answer { OutcomeFor over result }
         ensures went { result ≡ Let.Went → self.new ≡ record self.old { text = [] } }
         ensures counts { Counted (has_failed result) (O.faults outputs.old) (O.faults outputs.new)
             Stdout }

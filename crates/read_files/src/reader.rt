@@ -58,7 +58,7 @@ pub struct FileReader {
     taken: u64,
 }
 
-// Written out, so that the crates above call it and don't go into the readers.
+// Written by hand, so that the crates above call it instead of dropping the fields themselves.
 impl Drop for FileReader {
     fn drop(self) {
         let FileReader {

@@ -162,13 +162,13 @@ module _ (seq : SeqSpec) (before : Option (List Take)) (given : List Take) (read
         early = inl refl;
         came_on = λ went. absurd (let f = went in cc);
       }
-  numbers-read (turn.Failed failed) c = absurd (never c.answers)
+  numbers-read (turn.Failed failed) c = absurd (never c.outcome)
     where
       never : (turn.Failed failed ≡ turn.Went) ⊎ ((turn.Failed failed ≡ turn.Ended) ⊎ (turn.Failed failed ≡ turn.NoMemory)) → ⊥
       never (inl is) = let f = is in cc
       never (inr (inl is)) = let f = is in cc
       never (inr (inr is)) = let f = is in cc
-  numbers-read turn.TooLong c = absurd (never c.answers)
+  numbers-read turn.TooLong c = absurd (never c.outcome)
     where
       never : (turn.TooLong ≡ turn.Went) ⊎ ((turn.TooLong ≡ turn.Ended) ⊎ (turn.TooLong ≡ turn.NoMemory)) → ⊥
       never (inl is) = let f = is in cc
@@ -193,7 +193,7 @@ module _ (seq : SeqSpec) (before : Option (List Take)) (given : List Take) (read
 numbers-cause : (took : ReadTurn) (seq : SeqSpec) (n : ℕ) (after : SeqSource) (out out' : List Event) (f : InputName → ℕ) → Counts took seq n after out out' → file.TurnCause took f f
 numbers-cause turn.Went seq n after out out' f c = λ name. refl
 numbers-cause turn.Ended seq n after out out' f c = λ name. refl
-numbers-cause (turn.Failed failed) seq n after out out' f c = absurd (never c.answers)
+numbers-cause (turn.Failed failed) seq n after out out' f c = absurd (never c.outcome)
   where
     never : (turn.Failed failed ≡ turn.Went) ⊎ ((turn.Failed failed ≡ turn.Ended) ⊎ (turn.Failed failed ≡ turn.NoMemory)) → ⊥
     never (inl is) = let f = is in cc

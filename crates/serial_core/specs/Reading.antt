@@ -33,7 +33,7 @@ pub record Counts (turn : ReadTurn) (spec : SeqSpec) (given : ℕ) (after : SeqS
   pub appends : (turn ≡ NoMemory → ⊥) → out' ≡ out ++ put
   pub next : turn ≡ Went → (put ≡ seq_events spec given some) × (put ≡ [] → ⊥) × seq.RepresentsAt spec (given + some) after
   pub last : turn ≡ Ended → seq_events spec 0 given ++ put ≡ seq_all spec
-  pub answers : (turn ≡ Went) ⊎ ((turn ≡ Ended) ⊎ (turn ≡ NoMemory))
+  pub outcome : (turn ≡ Went) ⊎ ((turn ≡ Ended) ⊎ (turn ≡ NoMemory))
 
 -- what the result of a turn says of what was taken, and of the pushed events: whether they are all, and which
 abbrev pub ReadSays : ReadTurn → Origin → List Take → List Event → List Event → Type 0

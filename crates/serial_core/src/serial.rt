@@ -43,7 +43,7 @@ pub struct Serial<S> {
     events: Events,
 }
 
-// Written out, so that the crates above call it and don't go into the parts.
+// Written by hand, so that the crates above call it instead of dropping the fields themselves.
 impl<S: Drop> Drop for Serial<S> {
     fn drop(self) {
         let Serial {

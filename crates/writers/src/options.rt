@@ -32,7 +32,7 @@ pub struct WriteOpts {
     pub flatsep: Bytes,
 }
 
-// Written out, so that the crates above call it and don't go into the fields.
+// Written by hand, so that the crates above call it instead of dropping the fields themselves.
 impl Drop for WriteOpts {
     fn drop(self) {
         let WriteOpts {

@@ -35,7 +35,7 @@ pub struct Writer {
     stage: Stage,
 }
 
-// Written out, so that the crates above call it and don't go into the fields.
+// Written by hand, so that the crates above call it instead of dropping the fields themselves.
 impl Drop for Writer {
     fn drop(self) {
         let Writer {

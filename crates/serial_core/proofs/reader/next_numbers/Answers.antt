@@ -15,7 +15,7 @@ returns-in-Ok-true c seq given sound at = record {
       let less : given + min 500 (seq_count seq - given) < seq_count seq = ltb-true (given + min 500 (seq_count seq - given)) (seq_count seq) (sym (c.in-Ok-true.ensures.more seq given at) ∙ c.in-Ok-true.field-0-test) in
       (refl, some-put seq given (min 500 (seq_count seq - given)) (omega (arith, less)), c.in-Ok-true.ensures.represents seq given at);
   last = λ e. absurd (let f = e in cc);
-  answers = inl refl;
+  outcome = inl refl;
 }
 
 pub returns-in-Ok : goal.returns-in-Ok
@@ -35,5 +35,5 @@ returns-in-Ok c seq given sound at =
       last = λ ended.
           sym (append_assoc (seq_events seq 0 given) (seq_events seq given some) (event.End (seq_context (seq_count seq)) ∷ []))
           ∙ ap (λ t. t ++ event.End (seq_context (seq_count seq)) ∷ []) (events-append seq given some ∙ ap (seq_events seq 0) all);
-      answers = inr (inl refl);
+      outcome = inr (inl refl);
     }
