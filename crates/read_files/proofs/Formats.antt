@@ -13,7 +13,7 @@ use Rattle.mlr_event.specs.Reading.{Item, comment, fields, fault, next, events_o
 use Rattle.mlr_event.specs.Verb.{is_end, is_last, is_list, is_part}
 use Rattle.mlr_json.specs.Reading.{lexemes_left}
 use Rattle.mlr_lines.specs.Lines.{begun_line, ended_lines, fixed_lines, whole_lines}
-use Rattle.mlr_spec.specs.JsonTokens.{prefix_outside}
+use Rattle.mlr_spec.specs.JsonTokens.{lexeme_outside}
 use Rattle.read_csv.specs.Rows.{rows_from}
 use Rattle.read_dkvp_nidx.specs.Lines.{items_of_lines}
 use Rattle.read_xtab_pprint.specs.Blocks.{items_fixed, items_whole}
@@ -121,7 +121,7 @@ block-none : (source : Source) → block_fed_of source [] ≡ []
 block-none source = ap (events_of source.ctx) (no-blocks source.opts source.file source.opts.format)
 
 json-none : (source : Source) → json_fed_of source [] ≡ []
-unfolding lexemes_left prefix_outside
+unfolding lexemes_left lexeme_outside
 json-none source = refl
 
 pub gives-none : (fmt : Format) (source : Source) → gives_as fmt source false [] ≡ []
