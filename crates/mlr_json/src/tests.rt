@@ -10,7 +10,10 @@ use mlr_spec::{InferOpts, JsonStyle, NoMemory};
 use mlr_value::{Bytes, IntValue, Value, from_data};
 use std::alloc::Global;
 use std::test::Fail;
-use texts::{NESTED, Nested, ON_LINES, QUOTED, READ, Row, WRITTEN};
+use texts::{
+    BYTES, COLLECTIONS, FOLLOWING, IN_ARRAYS, IN_MAPS, IN_STRINGS, NESTED, Nested, ON_LINES,
+    QUOTED, Row, STRINGS, VALUES, WORDS, WRITTEN,
+};
 
 /// The value that a text is read as, in a style, or its fault with the place.
 fn outcome(alloc: Global, text: &[u8], style: JsonStyle) -> Result<Bytes, NoMemory> {
@@ -62,7 +65,16 @@ fn first_nested_misread(alloc: Global) -> Result<Option<usize>, NoMemory> {
 #[test]
 fn texts_are_read_as_their_values_or_have_a_fault(rt: HostRuntime) -> Result<(), Fail> {
     let alloc = rt.alloc();
-    assert_eq!(rt; first_misread(alloc, &READ, JsonStyle::Single)?, None);
+    let single = JsonStyle::Single;
+    assert_eq!(rt; first_misread(alloc, &VALUES, single)?, None);
+    assert_eq!(rt; first_misread(alloc, &COLLECTIONS, single)?, None);
+    assert_eq!(rt; first_misread(alloc, &STRINGS, single)?, None);
+    assert_eq!(rt; first_misread(alloc, &WORDS, single)?, None);
+    assert_eq!(rt; first_misread(alloc, &BYTES, single)?, None);
+    assert_eq!(rt; first_misread(alloc, &FOLLOWING, single)?, None);
+    assert_eq!(rt; first_misread(alloc, &IN_ARRAYS, single)?, None);
+    assert_eq!(rt; first_misread(alloc, &IN_MAPS, single)?, None);
+    assert_eq!(rt; first_misread(alloc, &IN_STRINGS, single)?, None);
     assert_eq!(rt; first_misread(alloc, &ON_LINES, JsonStyle::Stacked)?, None);
     assert_eq!(rt; first_nested_misread(alloc)?, None);
     Ok(())

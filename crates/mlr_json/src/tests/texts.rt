@@ -3,9 +3,10 @@
 /// A text, and what is wanted of it.
 pub(crate) type Row = (&'static [u8], &'static [u8]);
 
-/// JSON texts with their values on one line, or with their fault and its place.
-pub(crate) const READ: [Row; 192] = [
-    // Values of each kind.
+// JSON texts with their values on one line, or with their fault and its place.
+
+/// Values of each kind.
+pub(crate) const VALUES: [Row; 29] = [
     (b"null", br#""""#),
     (b"true", b"true"),
     (b"false", b"false"),
@@ -35,7 +36,10 @@ pub(crate) const READ: [Row; 192] = [
     (b"[[],{}]", b"[[], {}]"),
     (b"[null]", br#"[""]"#),
     (br#"["a","b"]"#, br#"["a", "b"]"#),
-    // Maps and arrays.
+];
+
+/// Maps and arrays.
+pub(crate) const COLLECTIONS: [Row; 13] = [
     (br#"{"a":1}"#, br#"{"a": 1}"#),
     (br#"{ "a" : 1 }"#, br#"{"a": 1}"#),
     (br#"{"a":1,"b":[2]}"#, br#"{"a": 1, "b": [2]}"#),
@@ -55,7 +59,10 @@ pub(crate) const READ: [Row; 192] = [
         br#"{"a":[],"b":{},"c":[{}]}"#,
         br#"{"a": [], "b": {}, "c": [{}]}"#,
     ),
-    // Strings are decoded.
+];
+
+/// Strings are decoded.
+pub(crate) const STRINGS: [Row; 29] = [
     (br#""\"""#, br#""\"""#),
     (br#""\\""#, br#""\\""#),
     (br#""\/""#, br#""/""#),
@@ -91,7 +98,10 @@ pub(crate) const READ: [Row; 192] = [
     (b"\"\x01\n\"", br#""\u0001\n""#),
     (b"\"\xff\xc3\"", b"\"\xff\xc3\""),
     (b"\"\xc3\xa9\"", b"\"\xc3\xa9\""),
-    // Words without a value.
+];
+
+/// Words without a value.
+pub(crate) const WORDS: [Row; 19] = [
     (b"tru", b"syntax 1"),
     (b"nul", b"syntax 1"),
     (b"True", b"syntax 1"),
@@ -111,7 +121,10 @@ pub(crate) const READ: [Row; 192] = [
     (b"Infinity", b"syntax 1"),
     (b"a", b"syntax 1"),
     (b"_", b"syntax 1"),
-    // Bytes that begin no token.
+];
+
+/// Bytes that begin no token.
+pub(crate) const BYTES: [Row; 15] = [
     (b"", b"syntax 1"),
     (b" ", b"syntax 2"),
     (b"\n\n", b"syntax 3"),
@@ -127,7 +140,10 @@ pub(crate) const READ: [Row; 192] = [
     (b"#", b"syntax 1"),
     (b"[1;2]", b"syntax 3"),
     (b"[\xff]", b"syntax 2"),
-    // Texts that follow a value.
+];
+
+/// Texts that follow a value.
+pub(crate) const FOLLOWING: [Row; 14] = [
     (b"1 2", b"syntax 3"),
     (b"1,", b"syntax 2"),
     (b"[]]", b"syntax 3"),
@@ -142,7 +158,10 @@ pub(crate) const READ: [Row; 192] = [
     (b"{}:", b"syntax 3"),
     (br#""a" "b"#, b"syntax 5"),
     (br#"1 "\x"#, b"syntax 3"),
-    // Faults in arrays.
+];
+
+/// Faults in arrays.
+pub(crate) const IN_ARRAYS: [Row; 20] = [
     (b"[", b"syntax 2"),
     (b"[1", b"syntax 3"),
     (b"[1 ", b"syntax 4"),
@@ -163,7 +182,10 @@ pub(crate) const READ: [Row; 192] = [
     (b"[1 x]", b"syntax 4"),
     (b"[[1]", b"syntax 5"),
     (b"[[1]1", b"syntax 5"),
-    // Faults in maps.
+];
+
+/// Faults in maps.
+pub(crate) const IN_MAPS: [Row; 31] = [
     (b"{", b"syntax 2"),
     (br#"{"a""#, b"syntax 5"),
     (br#"{"a":"#, b"syntax 6"),
@@ -195,7 +217,10 @@ pub(crate) const READ: [Row; 192] = [
     (br#"{"a":1,,"#, b"syntax 8"),
     (br#"{"a":nul}"#, b"syntax 6"),
     (br#"{"a":1}x"#, b"syntax 8"),
-    // Faults in strings.
+];
+
+/// Faults in strings.
+pub(crate) const IN_STRINGS: [Row; 22] = [
     (br#"""#, b"syntax 2"),
     (br#""a"#, b"syntax 3"),
     (br#""\"#, b"syntax 3"),
