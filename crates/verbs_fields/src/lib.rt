@@ -6,10 +6,10 @@ mod extraction;
 mod having;
 mod naming;
 mod ordering;
+#[cfg(test)]
+mod row_tests;
 mod sorting;
 mod spaces;
-#[cfg(test)]
-mod tests;
 
 pub use choosing::{drop_named, keep_named, pick_named, sparsify, template};
 pub use having::{all_defined, any_defined, has_all, has_no_others};

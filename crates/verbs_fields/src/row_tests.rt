@@ -123,7 +123,10 @@ fn renamings(alloc: Global, pairs: &[(&str, &str)]) -> Result<Vec<Renaming>, NoM
 }
 
 /// A change, a record, and the record after the change.
-const CHANGES: [(Change, &str, &str); 85] = [
+type Row = (Change, &'static str, &'static str);
+
+/// Changes that keep, drop and pick fields by their names, a record before and after each.
+const CHOSEN: [Row; 24] = [
     // Fields are kept, dropped and picked by their names.
     (Keep("a,c"), "c=3,b=2,a=1", "c=3,a=1"),
     (Drop("a,c"), "c=3,b=2,a=1", "b=2"),
@@ -149,6 +152,10 @@ const CHANGES: [(Change, &str, &str); 85] = [
     (Keep("a"), "", ""),
     (Drop("a"), "", ""),
     (Pick("a"), "", ""),
+];
+
+/// Changes that fill, drop, move and sort fields.
+const FILLED_AND_MOVED: [Row; 30] = [
     // A template fills missing fields.
     (Template("z,a,b", ""), "b=2,a=1,c=3", "z=,a=1,b=2"),
     (Template("z,a,z", "X"), "b=2,a=1,c=3", "z=X,a=1"),
@@ -183,6 +190,10 @@ const CHANGES: [(Change, &str, &str); 85] = [
     (Sort(true), "a=1", "a=1"),
     (Sort(false), "", ""),
     (Sort(true), "", ""),
+];
+
+/// Changes that give fields other names.
+const NAMED: [Row; 31] = [
     // Labels replace the first names.
     (Label("d"), "a=1,b=2,c=3", "d=1,b=2,c=3"),
     (Label("d,e"), "a=1,b=2,c=3", "d=1,e=2,c=3"),
@@ -264,23 +275,46 @@ const OF_A_THOUSAND: [(Change, usize, usize, &str); 11] = [
     (Sort(true), 1000, 999, "k999"),
 ];
 
+/// The first row whose change makes another record.
+fn first_wrong(alloc: Global, rows: &[Row]) -> Result<Option<usize>, NoMemory> {
+    for (i, row_of) in rows.iter().enumerate() {
+        let made = changed(alloc, &row_of.0, row(alloc, row_of.1)?)?;
+        if !is_row(alloc, &made, row_of.2)? {
+            return Ok(Some(i));
+        }
+    }
+    Ok(None)
+}
+
+/// The first row of a thousand fields whose change makes another record.
+fn first_wrong_of_a_thousand(alloc: Global) -> Result<Option<usize>, NoMemory> {
+    for (i, row_of) in OF_A_THOUSAND.iter().enumerate() {
+        let made = changed(alloc, &row_of.0, thousand(alloc)?)?;
+        let name = made.at(row_of.2).map(|field| field.0);
+        if made.len() != row_of.1 || name != Some(row_of.3.as_bytes()) {
+            return Ok(Some(i));
+        }
+    }
+    Ok(None)
+}
+
+/// Whether a change of a record with a thousand fields makes this record.
+fn is_left_of_a_thousand(alloc: Global, change: &Change, want: &str) -> Result<bool, NoMemory> {
+    let made = changed(alloc, change, thousand(alloc)?)?;
+    is_row(alloc, &made, want)
+}
+
 #[test]
 fn records_have_these_fields_after_a_change(rt: HostRuntime) -> Result<(), NoMemory> {
     let alloc = rt.alloc();
-    for (i, (change, from, want)) in CHANGES.iter().enumerate() {
-        let made = changed(alloc, change, row(alloc, from)?)?;
-        assert!(rt; is_row(alloc, &made, want)?, "at {i}: {from} to {want}");
-    }
-    for (change, len, place, want) in &OF_A_THOUSAND {
-        let made = changed(alloc, change, thousand(alloc)?)?;
-        assert_eq!(rt; made.len(), *len, "{want} at {place}");
-        let name = made.at(*place).map(|field| field.0);
-        assert_eq!(rt; name, Some(want.as_bytes()), "{want} at {place}");
-    }
-    let made = changed(alloc, &Keep("k999,k0,k500"), thousand(alloc)?)?;
-    assert!(rt; is_row(alloc, &made, "k0=0,k500=500,k999=999")?);
-    let made = changed(alloc, &Pick("k999,k0,k500"), thousand(alloc)?)?;
-    assert!(rt; is_row(alloc, &made, "k999=999,k0=0,k500=500")?);
+    assert_eq!(rt; first_wrong(alloc, &CHOSEN)?, None);
+    assert_eq!(rt; first_wrong(alloc, &FILLED_AND_MOVED)?, None);
+    assert_eq!(rt; first_wrong(alloc, &NAMED)?, None);
+    assert_eq!(rt; first_wrong_of_a_thousand(alloc)?, None);
+    let want = "k0=0,k500=500,k999=999";
+    assert!(rt; is_left_of_a_thousand(alloc, &Keep("k999,k0,k500"), want)?);
+    let want = "k999=999,k0=0,k500=500";
+    assert!(rt; is_left_of_a_thousand(alloc, &Pick("k999,k0,k500"), want)?);
     Ok(())
 }
 
@@ -316,40 +350,61 @@ const DISTINCT: [(&str, bool); 13] = [
 /// Texts of options: two are stored inline, and one is allocated.
 const TEXTS: [&str; 3] = ["", "_", "a text of more bytes than lie inline"];
 
-#[test]
-fn names_are_compared_and_options_are_copied(rt: HostRuntime) -> Result<(), NoMemory> {
-    let alloc = rt.alloc();
-    for (i, (texts, from, want)) in HAVINGS.iter().enumerate() {
-        let names = names(alloc, texts)?;
-        let from = row(alloc, from)?;
+/// The first row of which a record has other fields.
+fn first_wrong_having(alloc: Global) -> Result<Option<usize>, NoMemory> {
+    for (i, row_of) in HAVINGS.iter().enumerate() {
+        let names = names(alloc, row_of.0)?;
+        let from = row(alloc, row_of.1)?;
         let have = [
             has_all(&names, &from),
             has_no_others(&names, &from),
             all_defined(&names, &from),
             any_defined(&names, &from),
         ];
-        assert_eq!(rt; have, *want, "at {i}");
+        if have != row_of.2 {
+            return Ok(Some(i));
+        }
     }
-    for (texts, want) in &DISTINCT {
-        assert_eq!(rt; are_distinct(&names(alloc, texts)?), *want, "{texts}");
+    Ok(None)
+}
+
+/// The first row whose names are distinct or not otherwise than it says.
+fn first_wrong_distinct(alloc: Global) -> Result<Option<usize>, NoMemory> {
+    for (i, row_of) in DISTINCT.iter().enumerate() {
+        if are_distinct(&names(alloc, row_of.0)?) != row_of.1 {
+            return Ok(Some(i));
+        }
     }
+    Ok(None)
+}
+
+/// Whether copies of options with this text are equal to them.
+fn are_copies_equal(alloc: Global, text: &str) -> Result<bool, NoMemory> {
+    let renaming = Renaming {
+        old: Bytes::copy_of(alloc, text.as_bytes())?,
+        new: Bytes::copy_of(alloc, b"new")?,
+    };
+    let renamed = renaming.copy(alloc)?;
+    let unspace = Unspace {
+        text: Bytes::copy_of(alloc, text.as_bytes())?,
+        part: UnspacePart::Keys,
+    };
+    let unspaced = unspace.copy(alloc)?;
+    Ok(
+        renamed.old == renaming.old
+            && renamed.new == renaming.new
+            && unspaced.text == unspace.text
+            && unspaced.part == UnspacePart::Keys,
+    )
+}
+
+#[test]
+fn names_are_compared_and_options_are_copied(rt: HostRuntime) -> Result<(), NoMemory> {
+    let alloc = rt.alloc();
+    assert_eq!(rt; first_wrong_having(alloc)?, None);
+    assert_eq!(rt; first_wrong_distinct(alloc)?, None);
     for text in &TEXTS {
-        let renaming = Renaming {
-            old: Bytes::copy_of(alloc, text.as_bytes())?,
-            new: Bytes::copy_of(alloc, b"new")?,
-        };
-        let copy = renaming.copy(alloc)?;
-        assert!(rt;
-            copy.old == renaming.old && copy.new == renaming.new,
-            "{text}"
-        );
-        let unspace = Unspace {
-            text: copy.old,
-            part: UnspacePart::Keys,
-        };
-        let copy = unspace.copy(alloc)?;
-        assert_eq!(rt; copy.text.as_slice(), text.as_bytes(), "{text}");
-        assert_eq!(rt; copy.part, UnspacePart::Keys, "{text}");
+        assert!(rt; are_copies_equal(alloc, text)?, "{text}");
     }
     Ok(())
 }
@@ -370,38 +425,62 @@ fn nested(alloc: Global) -> Result<Record, NoMemory> {
     Ok(made)
 }
 
-#[test]
-fn collections_and_inferred_values_are_changed(rt: HostRuntime) -> Result<(), NoMemory> {
-    let alloc = rt.alloc();
-    let made = changed(alloc, &Sort(false), nested(alloc)?)?;
-    let want =
-        "l=[{\"b\": true, \"a\": \"\"}],m={\"z\": {\"b\": true, \"a\": \"\"}, \"y\": (error)}";
-    assert!(rt; is_row(alloc, &made, want)?);
-    let made = changed(alloc, &Sort(true), nested(alloc)?)?;
-    let want =
-        "l=[{\"a\": \"\", \"b\": true}],m={\"y\": (error), \"z\": {\"a\": \"\", \"b\": true}}";
-    assert!(rt; is_row(alloc, &made, want)?);
-
+/// A record of an array under `a` and of false under `b`.
+fn array_and_truth(alloc: Global) -> Result<Record, NoMemory> {
     let mut array = ArrayValue::new(alloc);
     array.push(Value::Bool(true))?;
     array.push(Value::Empty)?;
-    let mut from = Record::new(alloc)?;
-    from.put(b"a", Value::Array(array))?;
-    from.put(b"b", Value::Bool(false))?;
-    let made = changed(alloc, &Altkv, from)?;
-    assert!(rt; is_row(alloc, &made, "[true, \"\"]=false")?);
+    let mut made = Record::new(alloc)?;
+    made.put(b"a", Value::Array(array))?;
+    made.put(b"b", Value::Bool(false))?;
+    Ok(made)
+}
 
+/// A record of an array under `a b` that contains a text with a space.
+fn spaced_array(alloc: Global) -> Result<Record, NoMemory> {
     let mut array = ArrayValue::new(alloc);
     array.push(Value::Str(Bytes::copy_of(alloc, b"x y")?))?;
-    let mut from = Record::new(alloc)?;
-    from.put(b"a b", Value::Array(array))?;
-    let made = changed(alloc, &Spaces("_", UnspacePart::Both), from)?;
-    assert!(rt; is_row(alloc, &made, "a_b=[\"x y\"]")?);
+    let mut made = Record::new(alloc)?;
+    made.put(b"a b", Value::Array(array))?;
+    Ok(made)
+}
 
+/// Whether a change of a record makes this record.
+fn makes(alloc: Global, change: &Change, from: Record, want: &str) -> Result<bool, NoMemory> {
+    let made = changed(alloc, change, from)?;
+    is_row(alloc, &made, want)
+}
+
+/// Whether texts without their spaces are inferred as data.
+fn are_inferred(alloc: Global) -> Result<bool, NoMemory> {
     let from = row(alloc, "a= 1 2,b= ,c=x y")?;
     let made = changed(alloc, &Spaces("", UnspacePart::Both), from)?;
-    assert!(rt; matches!(made.get(b"a"), Some(Value::Int(int)) if int.n == 12));
-    assert!(rt; matches!(made.get(b"b"), Some(Value::Empty)));
-    assert!(rt; matches!(made.get(b"c"), Some(Value::Str(_))));
+    Ok(
+        matches!(made.get(b"a"), Some(Value::Int(int)) if int.n == 12)
+            && matches!(made.get(b"b"), Some(Value::Empty))
+            && matches!(made.get(b"c"), Some(Value::Str(_text))),
+    )
+}
+
+#[test]
+fn collections_and_inferred_values_are_changed(rt: HostRuntime) -> Result<(), NoMemory> {
+    let alloc = rt.alloc();
+    let want =
+        "l=[{\"b\": true, \"a\": \"\"}],m={\"z\": {\"b\": true, \"a\": \"\"}, \"y\": (error)}";
+    assert!(rt; makes(alloc, &Sort(false), nested(alloc)?, want)?);
+    let want =
+        "l=[{\"a\": \"\", \"b\": true}],m={\"y\": (error), \"z\": {\"a\": \"\", \"b\": true}}";
+    assert!(rt; makes(alloc, &Sort(true), nested(alloc)?, want)?);
+    assert!(rt; makes(alloc, &Altkv, array_and_truth(alloc)?, "[true, \"\"]=false")?);
+    let want = "a_b=[\"x y\"]";
+    assert!(rt;
+        makes(
+            alloc,
+            &Spaces("_", UnspacePart::Both),
+            spaced_array(alloc)?,
+            want
+        )?
+    );
+    assert!(rt; are_inferred(alloc)?);
     Ok(())
 }
