@@ -418,7 +418,7 @@ fn joined(alloc: Global, parts: &[(&[u8], usize)]) -> Result<Bytes, NoMemory> {
 fn first_of(record: &Record) -> i64 {
     match record.at(0) {
         Some((_, Value::Int(int))) => int.n,
-        Some((_, Value::Str(text))) => text.len() as i64,
+        Some((_, Value::Str(text))) => i64::try_from(text.len()).unwrap_or(0),
         _ => 0,
     }
 }
