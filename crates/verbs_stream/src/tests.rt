@@ -126,7 +126,7 @@ fn copy_made(alloc: Global, spec: &Spec, lines: &str) -> Result<Bytes, NoMemory>
 }
 
 /// Whether the verb of a row and a copy of it make the wanted records.
-fn is_made(alloc: Global, row: &Row) -> Result<bool, NoMemory> {
+fn is_made(alloc: Global, row: &Row) -> Result<bool, Fail> {
     let mut whole = Bytes::copy_of(alloc, row.2.as_bytes())?;
     whole.append(b"end\n")?;
     let spec = spec_of(alloc, row.0)?;
@@ -136,7 +136,7 @@ fn is_made(alloc: Global, row: &Row) -> Result<bool, NoMemory> {
 }
 
 /// The first row whose verb makes other records.
-fn first_wrong(alloc: Global, rows: &[Row]) -> Result<Option<usize>, NoMemory> {
+fn first_wrong(alloc: Global, rows: &[Row]) -> Result<Option<usize>, Fail> {
     for (i, row) in rows.iter().enumerate() {
         if !is_made(alloc, row)? {
             return Ok(Some(i));
@@ -145,23 +145,23 @@ fn first_wrong(alloc: Global, rows: &[Row]) -> Result<Option<usize>, NoMemory> {
     Ok(None)
 }
 
-fn first_wrong_of_fields(alloc: Global) -> Result<Option<usize>, NoMemory> {
+fn first_wrong_of_fields(alloc: Global) -> Result<Option<usize>, Fail> {
     first_wrong(alloc, &FIELDS)
 }
 
-fn first_wrong_of_records(alloc: Global) -> Result<Option<usize>, NoMemory> {
+fn first_wrong_of_records(alloc: Global) -> Result<Option<usize>, Fail> {
     first_wrong(alloc, &RECORDS)
 }
 
-fn first_wrong_of_values(alloc: Global) -> Result<Option<usize>, NoMemory> {
+fn first_wrong_of_values(alloc: Global) -> Result<Option<usize>, Fail> {
     first_wrong(alloc, &VALUES)
 }
 
-fn first_wrong_of_counts(alloc: Global) -> Result<Option<usize>, NoMemory> {
+fn first_wrong_of_counts(alloc: Global) -> Result<Option<usize>, Fail> {
     first_wrong(alloc, &COUNTS)
 }
 
-fn first_wrong_of_orders(alloc: Global) -> Result<Option<usize>, NoMemory> {
+fn first_wrong_of_orders(alloc: Global) -> Result<Option<usize>, Fail> {
     first_wrong(alloc, &ORDERS)
 }
 
