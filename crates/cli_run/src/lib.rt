@@ -7,9 +7,9 @@ mod options;
 mod planning;
 mod run;
 #[cfg(test)]
-mod test_rows;
-#[cfg(test)]
 mod tests;
+#[cfg(test)]
+mod verb_tests;
 
 pub use run::run_mlr;
 pub use serial_core::{Ended, Refusal, Why};

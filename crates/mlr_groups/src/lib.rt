@@ -3,10 +3,16 @@
 #![tactic(auto)]
 
 mod groups;
+#[cfg(test)]
+mod groups_tests;
 mod keys;
+#[cfg(test)]
+mod keys_tests;
+#[cfg(test)]
+mod samples;
 mod tallies;
 #[cfg(test)]
-mod tests;
+mod tallies_tests;
 
 pub use groups::Groups;
 pub use keys::{KeyTable, append_text, append_texts};

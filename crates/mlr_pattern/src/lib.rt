@@ -4,10 +4,14 @@
 
 mod patterns;
 mod read;
+#[cfg(test)]
+mod read_tests;
 mod replace;
 #[cfg(test)]
-mod tests;
+mod replace_tests;
 mod values;
+#[cfg(test)]
+mod values_tests;
 mod weight;
 mod which;
 mod word;

@@ -4,7 +4,7 @@
 mod laws;
 mod outlet;
 #[cfg(test)]
-mod tests;
+mod outlet_tests;
 
 pub use laws::outlet_laws;
 pub use outlet::{Let, Outlet};

@@ -3,19 +3,27 @@
 #![tactic(auto)]
 
 mod copies;
+#[cfg(test)]
+mod copies_tests;
 mod each;
+#[cfg(test)]
+mod fields_tests;
 mod kind;
 mod options;
 mod outcome;
 mod repeat;
 mod spec;
 #[cfg(test)]
-mod test_rows;
+mod state_tests;
 #[cfg(test)]
-mod test_verbs;
+mod thread_tests;
 #[cfg(test)]
-mod tests;
+mod trying;
+#[cfg(test)]
+mod values_tests;
 mod verb;
+#[cfg(test)]
+mod verb_tests;
 
 pub use spec::{
     Cut, CutFields, HavingFields, Label, Rename, Reorder, Repeat, SortWithinRecords, Sparsify,

@@ -2,6 +2,8 @@
 //! `flatten` and `unflatten`; and values as JSON texts and back.
 #![tactic(auto)]
 
+#[cfg(test)]
+mod copies_tests;
 mod fill_empty;
 mod flatten;
 mod json;

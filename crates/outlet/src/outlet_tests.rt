@@ -1,0 +1,334 @@
+//! Events that come to an outlet, and what stands in standard output then.
+ghost use Rattle.std.specs.Prelude.{◌≡◌, ◌++◌, List, true, false, IfOk};
+ghost use Rattle.mlr_event.specs.declared.event.Event.{Event as SpecEvent};
+ghost use Rattle.mlr_event.specs.Verb.{is_last, is_list, is_open};
+ghost use Rattle.writers.specs.declared.options.WriteOpts.{WriteOpts as Options};
+ghost use Rattle.outlet.specs.Represents.{Represents};
+
+use crate::{Let, Outlet};
+use mlr_event::{Body, Ctx, Event, Events, Fault, FileRef, Format, Mode, Piece, StyleId, Target};
+use mlr_record::Record;
+use mlr_spec::{InferOpts, NoMemory};
+use mlr_value::{Bytes, from_data};
+use mlr_world::{MemOutputs, Outputs, SureOutputs};
+use std::alloc::Global;
+use std::test::Fail;
+use writers::WriteOpts;
+
+/// A context.
+const AT: Ctx = Ctx {
+    nr: 1,
+    fnr: 1,
+    filenum: 1,
+};
+
+/// A fault.
+const FAULT: Fault = Fault::Quote {
+    file: FileRef::Main(1),
+    line: 3,
+};
+
+/// The options of a format where no flag is given.
+fn plain(alloc: Global, format: Format) -> Result<WriteOpts, NoMemory> {
+    Ok(WriteOpts {
+        format,
+        ofs: Bytes::copy_of(alloc, b",")?,
+        ops: Bytes::copy_of(alloc, b"=")?,
+        headerless: false,
+        quote_all: false,
+        barred: false,
+        stacked: true,
+        listwrap: true,
+        flatten: false,
+        unflatten: false,
+        flatsep: Bytes::copy_of(alloc, b".")?,
+    })
+}
+
+/// The record of a line such as `a=1,b=xyz`, whose values are inferred.
+fn record_of(alloc: Global, line: &str) -> Result<Record, NoMemory> {
+    let mut record = Record::new(alloc)?;
+    for field in line.split(',') {
+        if let Some((name, text)) = field.split_once('=') {
+            let value = from_data(alloc, text.as_bytes(), InferOpts::plain())?;
+            record.put(name.as_bytes(), value)?;
+        }
+    }
+    Ok(record)
+}
+
+/// A line that begins with `#` is a text, each other one a record.
+fn body_of(alloc: Global, line: &str) -> Result<Body, NoMemory> {
+    if line.starts_with('#') {
+        Ok(Body::Text(Bytes::copy_of(alloc, line.as_bytes())?))
+    } else {
+        Ok(Body::Rec(record_of(alloc, line)?))
+    }
+}
+
+/// A piece for a target, of what stands behind its mark.
+fn piece_of(alloc: Global, target: Target, line: &str) -> Result<Event, NoMemory>
+    ensures { IfOk result (λ event. is_last event ≡ false) }
+{
+    let piece = Piece {
+        mode: Mode::Append,
+        style: StyleId(0),
+        body: body_of(alloc, line)?,
+    };
+    Ok(Event::Out(target, piece))
+}
+
+/// The event of a line: a piece for standard output behind `1>`, one for standard error behind `2>`.
+fn event_of(alloc: Global, line: &str) -> Result<Event, NoMemory>
+    ensures { IfOk result (λ event. is_last event ≡ false) }
+{
+    if let Some(line) = line.strip_prefix("1>") {
+        return piece_of(alloc, Target::Stdout, line);
+    }
+    if let Some(line) = line.strip_prefix("2>") {
+        return piece_of(alloc, Target::Stderr, line);
+    }
+    match body_of(alloc, line)? {
+        Body::Rec(fields) => Ok(Event::Rec(fields, AT)),
+        Body::Text(text) => Ok(Event::Text(text)),
+    }
+}
+
+/// The events of some lines.
+fn events_of(alloc: Global, lines: &str) -> Result<Events, NoMemory>
+    ensures { IfOk result (λ events. is_open events ≡ true) }
+{
+    let mut events = Events::new(alloc);
+    for line in lines.split('|') {
+        events.push(event_of(alloc, line)?)?;
+    }
+    Ok(events)
+}
+
+/// A list of one event.
+fn alone(alloc: Global, event: Event) -> Result<Events, NoMemory>
+    ensures { IfOk result (λ events. (before : List SpecEvent) → is_open before ≡ true
+        → is_list (before ++ events) ≡ true) }
+{
+    let mut events = Events::new(alloc);
+    events.push(event)?;
+    Ok(events)
+}
+
+/// Gives the events of each text between `/` with one call, and with another the last one.
+fn give_all<O: Outputs>(
+    alloc: Global,
+    outlet: &mut Outlet,
+    texts: &str,
+    last: Event,
+    outputs: &mut O,
+) -> Result<Let, NoMemory>
+    requires { (opts : Options) × (before : List SpecEvent) × Represents opts before outlet.old }
+{
+    for text in texts.split('/') {
+        let mut events = events_of(alloc, text)?;
+        match outlet.take_all(&mut events, outputs) {
+            Let::Went => {}
+            other => return Ok(other),
+        }
+    }
+    let mut events = alone(alloc, last)?;
+    Ok(outlet.take_all(&mut events, outputs))
+}
+
+/// Gives the same events and the last one, each with a call of its own.
+fn give_each(
+    alloc: Global,
+    outlet: &mut Outlet,
+    texts: &str,
+    last: Event,
+    outputs: &mut SureOutputs,
+) -> Result<Let, NoMemory>
+    requires { (opts : Options) × (before : List SpecEvent) × Represents opts before outlet.old }
+{
+    for line in texts.split(['/', '|']) {
+        match outlet.take(event_of(alloc, line)?, outputs) {
+            Let::Went => {}
+            other => return Ok(other),
+        }
+    }
+    Ok(outlet.take(last, outputs))
+}
+
+/// The last event: a fault, or the end.
+fn last(faulty: bool) -> Event {
+    if faulty {
+        Event::Fault(FAULT)
+    } else {
+        Event::End(AT)
+    }
+}
+
+/// A format, events, whether they end in a fault, and what stands in standard output.
+type Row = (Format, &'static str, bool, &'static str);
+
+const ROWS: [Row; 8] = [
+    (
+        Format::Csv,
+        "a=1,b=2/a=3,b=4|a=5,b=6/c=7",
+        false,
+        "a,b\n1,2\n3,4\n5,6\n\nc\n7\n",
+    ),
+    (
+        Format::Csv,
+        "a=1,b=2/a=3,b=4|a=5,b=6/c=7",
+        true,
+        "a,b\n1,2\n3,4\n5,6\n\nc\n7\n",
+    ),
+    // The block is held back until the end comes.
+    (
+        Format::Pprint,
+        "a=1,b=2/a=30,b=4/c=7",
+        false,
+        "a  b\n1  2\n30 4\n\nc\n7\n",
+    ),
+    // It doesn't come before a fault.
+    (
+        Format::Pprint,
+        "a=1,b=2/a=30,b=4/c=7",
+        true,
+        "a  b\n1  2\n30 4\n",
+    ),
+    (
+        Format::Json,
+        "a=1/b=2/#x",
+        false,
+        "[\n{\n  \"a\": 1\n},\n{\n  \"b\": 2\n}\n#x]\n",
+    ),
+    (
+        Format::Json,
+        "a=1/b=2",
+        true,
+        "[\n{\n  \"a\": 1\n},\n{\n  \"b\": 2\n}",
+    ),
+    // Pieces for standard output stand among the others.
+    (
+        Format::Dkvp,
+        "a=1/1>a=2|2>a=3/1>#x|2>#y|#z",
+        false,
+        "a=1\na=2\n#x#z",
+    ),
+    (Format::Csv, "2>a=1/2>#x|2>b=2", false, ""),
+];
+
+/// What is answered at the end.
+fn ending(faulty: bool) -> Let {
+    if faulty {
+        Let::Over(Some(FAULT))
+    } else {
+        Let::Over(None)
+    }
+}
+
+/// The bytes of a target; none if it isn't held.
+fn bytes_of<'a>(outputs: &'a SureOutputs, target: &Target) -> &'a [u8] {
+    match outputs.bytes_of(target) {
+        Some(bytes) => bytes,
+        None => b"",
+    }
+}
+
+#[test]
+fn events_of_several_calls(rt: HostRuntime) -> Result<(), NoMemory> {
+    let alloc = rt.alloc();
+    for (i, row) in ROWS.iter().enumerate() {
+        let (format, texts, faulty, want) = *row;
+        let mut outlet = Outlet::new(alloc, &plain(alloc, format)?)?;
+        let mut outputs = SureOutputs::new(alloc, Vec::new(alloc))?;
+        let answer = give_all(alloc, &mut outlet, texts, last(faulty), &mut outputs)?;
+        assert_eq!(rt; answer, ending(faulty), "row {i}");
+        assert_eq!(rt;
+            bytes_of(&outputs, &Target::Stdout),
+            want.as_bytes(),
+            "row {i}"
+        );
+        assert_eq!(rt;
+            bytes_of(&outputs, &Target::Stderr),
+            b"".as_slice(),
+            "row {i}"
+        );
+    }
+    Ok(())
+}
+
+#[test]
+fn events_one_at_a_time(rt: HostRuntime) -> Result<(), NoMemory> {
+    let alloc = rt.alloc();
+    for (i, row) in ROWS.iter().enumerate() {
+        let (format, texts, faulty, want) = *row;
+        let mut outlet = Outlet::new(alloc, &plain(alloc, format)?)?;
+        let mut outputs = SureOutputs::new(alloc, Vec::new(alloc))?;
+        let answer = give_each(alloc, &mut outlet, texts, last(faulty), &mut outputs)?;
+        assert_eq!(rt; answer, ending(faulty), "row {i}");
+        assert_eq!(rt;
+            bytes_of(&outputs, &Target::Stdout),
+            want.as_bytes(),
+            "row {i}"
+        );
+        assert_eq!(rt;
+            bytes_of(&outputs, &Target::Stderr),
+            b"".as_slice(),
+            "row {i}"
+        );
+    }
+    Ok(())
+}
+
+#[test]
+fn a_list_is_emptied(rt: HostRuntime) -> Result<(), NoMemory> {
+    let alloc = rt.alloc();
+    let mut outlet = Outlet::new(alloc, &plain(alloc, Format::Dkvp)?)?;
+    let mut outputs = SureOutputs::new(alloc, Vec::new(alloc))?;
+    let mut events = events_of(alloc, "a=1|b=2")?;
+    assert_eq!(rt; outlet.take_all(&mut events, &mut outputs), Let::Went);
+    assert_eq!(rt; events.len(), 0);
+    assert_eq!(rt;
+        bytes_of(&outputs, &Target::Stdout),
+        b"a=1\nb=2\n".as_slice()
+    );
+    Ok(())
+}
+
+/// Outputs that hold `before` and LF in standard output, with room for so many bytes, that fail at these calls.
+fn outputs(alloc: Global, room: usize, failing: &[u64]) -> Result<MemOutputs, NoMemory> {
+    let mut held = Vec::new(alloc);
+    held.push((Target::Stdout, Bytes::copy_of(alloc, b"before\n")?))?;
+    MemOutputs::new(alloc, held, room, Vec::from_slice(alloc, failing)?)
+}
+
+/// The room, the calls that fail, and what stands in standard output: a call that fails leaves half of its text.
+const FAILING: [(usize, &[u64], &[u8]); 3] = [
+    (100, &[1], b"before\na=1\n"),
+    (100, &[2], b"before\na=1\nb=2\nc="),
+    (10, &[], b"before\na=1\nb=2\nc="),
+];
+
+#[test]
+fn a_write_that_fails(rt: HostRuntime) -> Result<(), NoMemory> {
+    let alloc = rt.alloc();
+    for (i, row) in FAILING.iter().enumerate() {
+        let (room, failing, want) = *row;
+        let mut outlet = Outlet::new(alloc, &plain(alloc, Format::Dkvp)?)?;
+        let mut outputs = outputs(alloc, room, failing)?;
+        let texts = "a=1|b=2/c=3/d=4";
+        let answer = give_all(alloc, &mut outlet, texts, last(false), &mut outputs)?;
+        assert_eq!(rt; answer, Let::Failed(Target::Stdout), "row {i}");
+        assert!(rt; outputs.bytes_of(&Target::Stdout) == Some(want), "row {i}");
+    }
+    Ok(())
+}
+
+#[test]
+fn shut(rt: HostRuntime) -> Result<(), NoMemory> {
+    let alloc = rt.alloc();
+    let mut outlet = Outlet::new(alloc, &plain(alloc, Format::Json)?)?;
+    let mut outputs = outputs(alloc, 100, &[])?;
+    assert_eq!(rt; outlet.shut(&mut outputs), Let::Over(None));
+    assert!(rt; outputs.bytes_of(&Target::Stdout) == Some(b"before\n"));
+    Ok(())
+}
