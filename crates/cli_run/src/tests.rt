@@ -429,7 +429,7 @@ fn a_write_that_fails(rt: HostRuntime) -> Result<(), Fail> {
     );
     assert_eq!(rt; bytes_of(&left.outputs, &Target::Stderr), b"".as_slice());
 
-    // A message that can't be written changes no answer.
+    // A message that can't be written changes no outcome.
     let left = run(
         &rt,
         alloc,

@@ -1,10 +1,12 @@
+//! Records and the places of their groups.
 use crate::Groups;
 use crate::samples::{names, row};
 use mlr_spec::NoMemory;
 use mlr_value::Bytes;
 use std::alloc::Global;
 
-/// Names, records one behind another, the places of their groups, of which `-` is none, and how many groups there are.
+/// Names, records one after another, the places of their groups, of which `-` is none, and how many groups
+/// there are.
 const GROUPS: [(&str, &[u8], &[u8], usize); 7] = [
     ("a", b"a=x,b=1;b=1,a=y;b=1;a=y,b=2;a=x", b"01-10", 2),
     (

@@ -1,3 +1,4 @@
+//! Texts and their keys.
 use crate::samples::{names, row};
 use crate::{KeyTable, append_texts};
 use mlr_record::Record;

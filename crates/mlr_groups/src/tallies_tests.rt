@@ -1,10 +1,11 @@
+//! Records counted by their groups.
 use crate::Tallies;
 use crate::samples::{names, row};
 use mlr_spec::NoMemory;
 use mlr_value::Bytes;
 use std::alloc::Global;
 
-/// Names, records one behind another, and how many of the group of each came before it, where `-` is no group.
+/// Names, records one after another, and how many of the group of each came before it, where `-` is no group.
 const TALLIES: [(&str, &[u8], &[u8]); 3] = [
     ("a", b"a=x;a=y;a=x;b=x;a=x,b=1;a=y", b"001-21"),
     (

@@ -1,3 +1,4 @@
+//! Texts read as patterns.
 use crate::{PatternFault, read_pattern};
 use std::alloc::AllocError;
 use std::test::Fail;

@@ -1,3 +1,4 @@
+//! Texts with their matches replaced.
 use crate::{Which, append_replaced, matches, read_pattern, replaced};
 use mlr_value::Bytes;
 use std::test::Fail;

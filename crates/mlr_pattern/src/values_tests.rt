@@ -1,3 +1,4 @@
+//! Values changed as their texts.
 use crate::{Which, read_pattern, ssub_value, sub_value};
 use mlr_spec::{InferOpts, NoMemory};
 use mlr_value::{ArrayValue, Bytes, IntValue, MapValue, Value, append_text, from_data};

@@ -81,7 +81,7 @@ pub(crate) fn plan_of(alloc: Global, verbs: Vec<VerbSpec>) -> Result<Plan, NoMem
     })
 }
 
-/// Puts a verb last.
+/// Appends a verb.
 pub(crate) fn push(verbs: &mut Vec<VerbSpec>, spec: Spec) -> Result<(), NoMemory>
     requires options { IsSoundSpec spec }
     requires verbs { AreSound verbs.old.items }
@@ -102,7 +102,7 @@ pub(crate) fn heads(alloc: Global, counts: &[u64]) -> Result<Vec<VerbSpec>, NoMe
     Ok(verbs)
 }
 
-/// Puts a `head -n` last.
+/// Appends a `head -n`.
 pub(crate) fn push_head(verbs: &mut Vec<VerbSpec>, count: u64) -> Result<(), NoMemory>
     requires { AreSound verbs.old.items }
     ensures { OnOk result (AreSound verbs.new.items) }

@@ -1,4 +1,4 @@
-//! Events that come to an outlet, and what stands in standard output then.
+//! Events that come to an outlet, and what standard output then contains.
 ghost use Rattle.std.specs.Prelude.{◌≡◌, ◌++◌, List, true, false, IfOk};
 ghost use Rattle.mlr_event.specs.declared.event.Event.{Event as SpecEvent};
 ghost use Rattle.mlr_event.specs.Verb.{is_last, is_list, is_open};
@@ -66,7 +66,7 @@ fn body_of(alloc: Global, line: &str) -> Result<Body, NoMemory> {
     }
 }
 
-/// A piece for a target, of what stands behind its mark.
+/// A piece for a target, of the text after its mark.
 fn piece_of(alloc: Global, target: Target, line: &str) -> Result<Event, NoMemory>
     ensures { IfOk result (λ event. is_last event ≡ false) }
 {
@@ -78,7 +78,7 @@ fn piece_of(alloc: Global, target: Target, line: &str) -> Result<Event, NoMemory
     Ok(Event::Out(target, piece))
 }
 
-/// The event of a line: a piece for standard output behind `1>`, one for standard error behind `2>`.
+/// The event of a line: a piece for standard output after `1>`, one for standard error after `2>`.
 fn event_of(alloc: Global, line: &str) -> Result<Event, NoMemory>
     ensures { IfOk result (λ event. is_last event ≡ false) }
 {
@@ -164,7 +164,7 @@ fn last(faulty: bool) -> Event {
     }
 }
 
-/// A format, events, whether they end in a fault, and what stands in standard output.
+/// A format, events, whether they end in a fault, and the text in standard output.
 type Row = (Format, &'static str, bool, &'static str);
 
 const ROWS: [Row; 8] = [
@@ -206,7 +206,7 @@ const ROWS: [Row; 8] = [
         true,
         "[\n{\n  \"a\": 1\n},\n{\n  \"b\": 2\n}",
     ),
-    // Pieces for standard output stand among the others.
+    // Pieces for standard output come among the others.
     (
         Format::Dkvp,
         "a=1/1>a=2|2>a=3/1>#x|2>#y|#z",
@@ -216,7 +216,7 @@ const ROWS: [Row; 8] = [
     (Format::Csv, "2>a=1/2>#x|2>b=2", false, ""),
 ];
 
-/// What is answered at the end.
+/// The result at the end.
 fn ending(faulty: bool) -> Let {
     if faulty {
         Let::Over(Some(FAULT))
@@ -301,7 +301,7 @@ fn outputs(alloc: Global, room: usize, failing: &[u64]) -> Result<MemOutputs, No
     MemOutputs::new(alloc, held, room, Vec::from_slice(alloc, failing)?)
 }
 
-/// The room, the calls that fail, and what stands in standard output: a call that fails leaves half of its text.
+/// The room, the calls that fail, and the text in standard output: a call that fails leaves half of its text.
 const FAILING: [(usize, &[u64], &[u8]); 3] = [
     (100, &[1], b"before\na=1\n"),
     (100, &[2], b"before\na=1\nb=2\nc="),

@@ -1,4 +1,4 @@
-//! A model verb, for the tests of runs: it gives the first record alone, and is closed behind it.
+//! A model verb, for the tests of runs: it gives the first record alone, and is closed after it.
 ghost use Rattle.std.specs.Prelude.{◌≡◌, []};
 ghost use Rattle.mlr_event.specs.Verb.{is_record};
 

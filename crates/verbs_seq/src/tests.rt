@@ -60,7 +60,8 @@ fn is_number(event: Option<&Event>, number: i64) -> bool {
     }
 }
 
-/// Whether the first nine numbers are these, one, three or nine at a time, and whether more remain behind them.
+/// Whether the first nine numbers are these, one, three or nine at a time, and whether more remain after
+/// them.
 fn counts(
     alloc: Global,
     (start, stop, step): (i64, i64, i64),

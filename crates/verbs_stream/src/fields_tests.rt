@@ -1,6 +1,6 @@
-//! Rows of the verbs that choose, order and name fields. Miller 6.6 gives the same, as far as it has these verbs and
-//! options; measured, not proved. But its `rename` goes by the names that a record came with, and here each pair goes on
-//! with what the pairs before it made.
+//! Rows of the verbs that choose, order and name fields. Miller 6.6 gives the same, as far as it has these
+//! verbs and options; measured, not proved. But its `rename` uses the names that a record came with, and here
+//! each pair continues with what the pairs before it made.
 
 use crate::trying::{makes, names};
 use crate::{

@@ -100,7 +100,7 @@ fn the_first_records_pass(rt: HostRuntime) -> Result<(), NoMemory> {
     Ok(())
 }
 
-/// Whether `head` is closed behind these lines.
+/// Whether `head` is closed after these lines.
 fn shuts(alloc: Global, count: u64, by: &str, lines: &str) -> Result<bool, NoMemory> {
     let spec = Spec::Head(Head {
         count,
@@ -164,7 +164,7 @@ fn empty_fields_are_filled_down(rt: HostRuntime) -> Result<(), NoMemory> {
     Ok(())
 }
 
-/// Whether a gap behind so many records makes this of three.
+/// Whether a gap after so many records makes this of three.
 fn gaps_after(alloc: Global, count: u64, want: &str) -> Result<bool, NoMemory>
     requires { 0 < count }
 {

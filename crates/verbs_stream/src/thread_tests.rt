@@ -1,3 +1,4 @@
+//! A verb goes into a thread.
 use crate::trying::pattern;
 use crate::{Spec, StreamVerb};
 use mlr_event::Step;

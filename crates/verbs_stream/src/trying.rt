@@ -26,7 +26,7 @@ pub(crate) fn record_of(alloc: Global, line: &str) -> Result<Record, NoMemory> {
     Ok(record)
 }
 
-/// Puts a record behind `text` as `a=1,b=xyz` with LF.
+/// Appends a record to `text` as `a=1,b=xyz` with LF.
 fn append_record(record: &Record, text: &mut Bytes) -> Result<(), NoMemory> {
     for place in 0..record.len() {
         let (name, value) = record.entry(place);
@@ -105,7 +105,7 @@ fn events_of<S: Step + Drop>(alloc: Global, verb: S, lines: &str) -> Result<Even
     Ok(out)
 }
 
-/// Whether a verb is closed behind these lines.
+/// Whether a verb is closed after these lines.
 fn closes_after<S: Step + Drop>(alloc: Global, verb: S, lines: &str) -> Result<bool, NoMemory>
     requires { S.represents verb [] }
 {
@@ -176,7 +176,7 @@ pub(crate) fn both_make(
     Ok(made? && copied? == whole)
 }
 
-/// Whether the verb of these options is closed behind these lines.
+/// Whether the verb of these options is closed after these lines.
 pub(crate) fn shut_after(alloc: Global, spec: Spec, lines: &str) -> Result<bool, NoMemory>
     requires { IsSound spec }
 {

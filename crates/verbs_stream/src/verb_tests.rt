@@ -1,3 +1,4 @@
+//! Verbs as events see them.
 use crate::trying::tried;
 use crate::{Repeat, Spec};
 use mlr_spec::NoMemory;

@@ -1,3 +1,4 @@
+//! Copies of options are equal to them.
 use crate::{FillEmpty, Flatten, JsonParse, JsonStringify, Sec2Gmt, Sec2GmtDate, Unflatten};
 use mlr_event::Names;
 use mlr_spec::NoMemory;

@@ -1,3 +1,4 @@
+//! Records before and after the verbs that change values.
 ghost use Rattle.std.specs.Prelude.{◌≡◌, IfOk, codes};
 
 use crate::{
