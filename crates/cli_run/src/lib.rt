@@ -7,9 +7,9 @@ mod options;
 mod planning;
 mod run;
 #[cfg(test)]
-mod tests;
+mod test_rows;
 #[cfg(test)]
-mod verb_tests;
+mod tests;
 
 pub use run::run_mlr;
 pub use serial_core::{Ended, Refusal, Why};

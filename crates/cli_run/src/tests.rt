@@ -1,27 +1,26 @@
-//! The worked examples, over inputs and outputs in memory.
+//! The worked examples, over inputs and outputs in memory, and runs of which a call fails.
+use crate::test_rows::{DKVP, NAMED, NUMBERS, OTHERS, REFUSED, Row, VERBS, WRITTEN};
 use crate::{Ended, Refusal, Why, run_mlr};
 use mlr_event::{InputName, Target};
 use mlr_spec::NoMemory;
 use mlr_value::Bytes;
 use mlr_world::{MemInputs, MemOutputs};
 use std::alloc::Global;
-use std::process::Abort;
 use std::sync::Wait;
-use std::test::Fail;
 use std::thread::Threads;
 
 /// What a run leaves.
 #[derive(Drop)]
-pub(crate) struct Left {
-    pub(crate) ended: Ended,
-    pub(crate) outputs: MemOutputs,
+struct Left {
+    ended: Ended,
+    outputs: MemOutputs,
 }
 
 /// Two files, which the runs may name.
 const FILES: [(&str, &str); 2] = [("f", "a,b\n1,2\n"), ("g", "b\n3\n4,5\n")];
 
 /// Runs words over these two files and a standard input, which come in these pieces and fail at these calls.
-pub(crate) fn run<R: Threads + Wait + Copy + Send + 'static>(
+fn run<R: Threads + Wait + Copy + Send + 'static>(
     rt: &R,
     alloc: Global,
     words: &str,
@@ -51,415 +50,341 @@ pub(crate) fn run<R: Threads + Wait + Copy + Send + 'static>(
     Ok(Left { ended, outputs })
 }
 
-/// Outputs that hold nothing, with room for so many bytes, that fail at these calls.
-pub(crate) fn outputs(alloc: Global, room: usize, failing: &[u64]) -> Result<MemOutputs, NoMemory> {
-    MemOutputs::new(
-        alloc,
-        Vec::new(alloc),
-        room,
-        Vec::from_slice(alloc, failing)?,
-    )
+/// Outputs whose standard output holds this, with room for so many bytes, that fail at these calls.
+fn outputs(
+    alloc: Global,
+    before: &str,
+    room: usize,
+    failing: &[u64],
+) -> Result<MemOutputs, NoMemory> {
+    let mut held = Vec::new(alloc);
+    if !before.is_empty() {
+        held.push((Target::Stdout, Bytes::copy_of(alloc, before.as_bytes())?))?;
+    }
+    MemOutputs::new(alloc, held, room, Vec::from_slice(alloc, failing)?)
 }
 
 /// The bytes of a target; none if it isn't held.
-pub(crate) fn bytes_of<'a>(outputs: &'a MemOutputs, target: &Target) -> &'a [u8] {
+fn bytes_of<'a>(outputs: &'a MemOutputs, target: &Target) -> &'a [u8] {
     match outputs.bytes_of(target) {
         Some(bytes) => bytes,
         None => b"",
     }
 }
 
-/// Words, standard input, standard output, the message, the status.
-pub(crate) type Row = (&'static str, &'static str, &'static str, &'static str, u8);
+/// Whether a row's run leaves what it says, with the input cut at one place.
+fn is_left<R: Threads + Wait + Copy + Send + 'static>(
+    rt: &R,
+    alloc: Global,
+    row: &Row,
+    cut: usize,
+) -> Result<bool, NoMemory> {
+    let (words, input, out, message, status) = *row;
+    let outputs = outputs(alloc, "", 1000, &[])?;
+    let left = run(rt, alloc, words, input.as_bytes(), &[cut, 1], &[], outputs)?;
+    Ok(
+        bytes_of(&left.outputs, &Target::Stdout) == out.as_bytes()
+            && bytes_of(&left.outputs, &Target::Stderr) == message.as_bytes()
+            && left.ended.status() == status,
+    )
+}
 
-/// DKVP.
-const DKVP: [Row; 10] = [
-    (
-        "--ojson cat",
-        "a=1,b=xyz\n",
-        "[\n{\n  \"a\": 1,\n  \"b\": \"xyz\"\n}\n]\n",
-        "",
-        0,
-    ),
-    (
-        "--idkvp --ojson cat",
-        "a=1\nb\n",
-        "[\n{\n  \"a\": 1\n},\n{\n  \"1\": \"b\"\n}\n]\n",
-        "",
-        0,
-    ),
-    ("--ojson cat", "", "[\n]\n", "", 0),
-    (
-        "--ojson cat",
-        "x=007,y=0x1G\n",
-        "[\n{\n  \"x\": 007,\n  \"y\": \"0x1G\"\n}\n]\n",
-        "",
-        0,
-    ),
-    (
-        "--ojson cat",
-        "a=\n\r\n\nb=-0.5",
-        "[\n{\n  \"a\": \"\"\n},\n{\n  \"b\": -0.5\n}\n]\n",
-        "",
-        0,
-    ),
-    (
-        "--ojson cat",
-        "=5,k=v=w\n",
-        "[\n{\n  \"\": 5,\n  \"k\": \"v=w\"\n}\n]\n",
-        "",
-        0,
-    ),
-    (
-        "--ojson cat",
-        "q=a\"b\\c\td\n",
-        "[\n{\n  \"q\": \"a\\\"b\\\\c\\td\"\n}\n]\n",
-        "",
-        0,
-    ),
-    ("--ojson cat", "\n\n", "[\n]\n", "", 0),
-    (
-        "--ojson cat",
-        "a=1,a=2\n",
-        "[\n{\n  \"a\": 1,\n  \"a_2\": 2\n}\n]\n",
-        "",
-        0,
-    ),
-    (
-        "--ojson cat",
-        "x.y=2,x.z={}\n",
-        "[\n{\n  \"x\": {\n    \"y\": 2,\n    \"z\": {}\n  }\n}\n]\n",
-        "",
-        0,
-    ),
-];
+/// The first place where the input is cut and the run leaves something else.
+fn first_wrong_cut<R: Threads + Wait + Copy + Send + 'static>(
+    rt: &R,
+    alloc: Global,
+    row: &Row,
+) -> Result<Option<usize>, NoMemory> {
+    for cut in 0..row.1.len() + 1 {
+        if !is_left(rt, alloc, row, cut)? {
+            return Ok(Some(cut));
+        }
+    }
+    Ok(None)
+}
 
-/// The other formats, and command lines that aren't accepted.
-const OTHERS: [Row; 17] = [
-    (
-        "--icsv --ojson cat",
-        "a,b\r\n1,\"x\ny\"\r\n",
-        "[\n{\n  \"a\": 1,\n  \"b\": \"x\\ny\"\n}\n]\n",
-        "",
-        0,
-    ),
-    (
-        "--icsv --ojson cat",
-        "a,b\n1,2\n3\n",
-        "[\n{\n  \"a\": 1,\n  \"b\": 2\n}",
-        "mlr: (stdin): line 3: data length 1, header length 2\n",
-        1,
-    ),
-    (
-        "--icsv --ojson cat",
-        "a\n1\n\"2",
-        "[\n{\n  \"a\": 1\n}",
-        "mlr: (stdin): line 3: unclosed quote\n",
-        1,
-    ),
-    (
-        "--icsv --ojson cat",
-        "a,b\n1\n",
-        "",
-        "mlr: (stdin): line 2: data length 1, header length 2\n",
-        1,
-    ),
-    (
-        "--itsv --ojson cat",
-        "a\tb\nx\\ty\t2\n",
-        "[\n{\n  \"a\": \"x\\ty\",\n  \"b\": 2\n}\n]\n",
-        "",
-        0,
-    ),
-    (
-        "--inidx --ojson cat",
-        " a  b \n",
-        "[\n{\n  \"1\": \"a\",\n  \"2\": \"b\"\n}\n]\n",
-        "",
-        0,
-    ),
-    (
-        "--ixtab --ojson cat",
-        "x  1\ny",
-        "[\n{\n  \"x\": 1,\n  \"y\": \"\"\n}\n]\n",
-        "",
-        0,
-    ),
-    (
-        "--ixtab --ojson cat",
-        "x 1\n\n\nx 2\n",
-        "[\n{\n  \"x\": 1\n},\n{\n  \"x\": 2\n}\n]\n",
-        "",
-        0,
-    ),
-    (
-        "--ipprint --ojson cat",
-        "a b\n1 -\n\nc\n3\n",
-        "[\n{\n  \"a\": 1,\n  \"b\": \"-\"\n},\n{\n  \"c\": 3\n}\n]\n",
-        "",
-        0,
-    ),
-    (
-        "--imd --ojson cat",
-        "| a |\n| --- |\n| 1 |\n",
-        "[\n{\n  \"a\": 1\n}\n]\n",
-        "",
-        0,
-    ),
-    (
-        "--imd --ojson cat",
-        "| a |\n| --- |\n1\n",
-        "",
-        "mlr: (stdin): line 3: bad table line\n",
-        1,
-    ),
-    (
-        "--ijson --ojson cat",
-        "{\"a\":1} 7",
-        "[\n{\n  \"a\": 1\n}",
-        "mlr: (stdin): byte 9: not a map\n",
-        1,
-    ),
-    (
-        "--json cat",
-        "[{\"a.b\":{}}]{}",
-        "[\n{\n  \"a.b\": {}\n},\n{}\n]\n",
-        "",
-        0,
-    ),
-    ("--ojson", "a=1\n", "", "mlr: word 2: not built: \n", 1),
-    ("--icsv --itsv", "a\n", "", "mlr: word 3: not built: \n", 1),
-    (
-        "--icsv sort cat",
-        "a\n",
-        "",
-        "mlr: word 2: not built: sort\n",
-        1,
-    ),
-    ("--md cat", "a\n", "", "mlr: word 1: not built: --md\n", 1),
-];
-
-/// The formats that are written, and later flags over earlier ones.
-const WRITTEN: [Row; 9] = [
-    ("cat", "a=1,b=\n", "a=1,b=\n", "", 0),
-    ("--ocsv cat", "a=1\nb=,\n", "a\n1\n\nb\n\"\"\n", "", 0),
-    ("--ojson --otsv cat", "a=\t\n", "a\n\\t\n", "", 0),
-    (
-        "--ijson --odkvp cat",
-        "{\"a\":{\"b\":1,\"c\":[2]}}",
-        "a.b=1,a.c.1=2\n",
-        "",
-        0,
-    ),
-    ("--ojsonl cat", "a.b=1\n", "{\"a\": {\"b\": 1}}\n", "", 0),
-    ("--oxtab cat", "a=1,bc=2\n", "a  1\nbc 2\n", "", 0),
-    ("--onidx cat", "a=1,bc=2\n", "1 2\n", "", 0),
-    ("--omd cat", "a=|\n", "| a |\n| --- |\n| \\| |\n", "", 0),
-    (
-        "--icsv --opprint cat",
-        "a,b\n1,\n23,4\n5\n",
-        "",
-        "mlr: (stdin): line 4: data length 1, header length 2\n",
-        1,
-    ),
-];
-
-/// Files in their order.
-const NAMED: [Row; 6] = [
-    ("--icsv cat f", "", "a=1,b=2\n", "", 0),
-    (
-        "--icsv cat f g f",
-        "",
-        "a=1,b=2\nb=3\n",
-        "mlr: g: line 3: data length 2, header length 1\n",
-        1,
-    ),
-    ("--icsv --opprint cat f f", "", "a b\n1 2\n1 2\n", "", 0),
-    (
-        "--icsv --ojson cat f none g",
-        "",
-        "[\n{\n  \"a\": 1,\n  \"b\": 2\n}",
-        "mlr: cannot read none\n",
-        1,
-    ),
-    ("--inidx --odkvp cat f", "", "1=a,b\n1=1,2\n", "", 0),
-    (
-        "--icsv cat f then",
-        "",
-        "a=1,b=2\n",
-        "mlr: cannot read then\n",
-        1,
-    ),
-];
-
-/// Checks each row, with the input cut at every byte.
-pub(crate) fn check_rows<R: Threads + Wait + Abort + Copy + Send + 'static>(
+/// The words of the first row that leaves something else, and the place where its input is cut.
+fn first_wrong<R: Threads + Wait + Copy + Send + 'static>(
     rt: &R,
     alloc: Global,
     rows: &[Row],
-) -> Result<(), Fail> {
-    for (i, row) in rows.iter().enumerate() {
-        let (words, input, out, message, status) = *row;
-        for cut in 0..input.len() + 1 {
-            let left = run(
-                rt,
-                alloc,
-                words,
-                input.as_bytes(),
-                &[cut, 1],
-                &[],
-                outputs(alloc, 1000, &[])?,
-            )?;
-            assert_eq!(rt;
-                bytes_of(&left.outputs, &Target::Stdout),
-                out.as_bytes(),
-                "row {i}, cut {cut}"
-            );
-            assert_eq!(rt;
-                bytes_of(&left.outputs, &Target::Stderr),
-                message.as_bytes(),
-                "row {i}, cut {cut}"
-            );
-            assert_eq!(rt; left.ended.status(), status, "row {i}, cut {cut}");
+) -> Result<Option<(&'static str, usize)>, NoMemory> {
+    for row in rows.iter() {
+        if let Some(cut) = first_wrong_cut(rt, alloc, row)? {
+            return Ok(Some((row.0, cut)));
         }
     }
+    Ok(None)
+}
+
+#[test]
+fn formats_are_the_same_wherever_the_input_is_cut(rt: HostRuntime) -> Result<(), NoMemory> {
+    let alloc = rt.alloc();
+    assert_eq!(rt; first_wrong(&rt, alloc, &DKVP)?, None);
+    assert_eq!(rt; first_wrong(&rt, alloc, &OTHERS)?, None);
+    assert_eq!(rt; first_wrong(&rt, alloc, &WRITTEN)?, None);
+    assert_eq!(rt; first_wrong(&rt, alloc, &NAMED)?, None);
     Ok(())
 }
 
 #[test]
-fn dkvp_cut_at_every_byte(rt: HostRuntime) -> Result<(), Fail> {
-    check_rows(&rt, rt.alloc(), &DKVP)
-}
-
-#[test]
-fn other_formats_cut_at_every_byte(rt: HostRuntime) -> Result<(), Fail> {
-    check_rows(&rt, rt.alloc(), &OTHERS)
-}
-
-#[test]
-fn written_formats_cut_at_every_byte(rt: HostRuntime) -> Result<(), Fail> {
-    check_rows(&rt, rt.alloc(), &WRITTEN)
-}
-
-#[test]
-fn files_in_their_order(rt: HostRuntime) -> Result<(), Fail> {
-    check_rows(&rt, rt.alloc(), &NAMED)
-}
-
-#[test]
-fn bytes_that_are_no_plain_text(rt: HostRuntime) -> Result<(), Fail> {
+fn verbs_are_the_same_wherever_the_input_is_cut(rt: HostRuntime) -> Result<(), NoMemory> {
     let alloc = rt.alloc();
-    let left = run(
-        &rt,
-        alloc,
-        "--ojson cat",
-        b"\xef\xbb\xbfa=\xff\x01\n",
-        &[2, 1],
-        &[],
-        outputs(alloc, 1000, &[])?,
-    )?;
-    assert_eq!(rt; left.ended, Ended::Done);
-    assert_eq!(rt;
-        bytes_of(&left.outputs, &Target::Stdout),
-        b"[\n{\n  \"a\": \"\xff\\u0001\"\n}\n]\n".as_slice()
-    );
+    assert_eq!(rt; first_wrong(&rt, alloc, &VERBS)?, None);
+    assert_eq!(rt; first_wrong(&rt, alloc, &NUMBERS)?, None);
+    assert_eq!(rt; first_wrong(&rt, alloc, &REFUSED)?, None);
     Ok(())
 }
 
-#[test]
-fn a_read_that_fails(rt: HostRuntime) -> Result<(), Fail> {
-    let alloc = rt.alloc();
-    // The first call is the open, the third the second read, before which the first record is written.
-    for (failing, out) in [(1u64, ""), (3, "[\n{\n  \"a\": 1\n}")] {
-        let left = run(
-            &rt,
-            alloc,
-            "--ojson cat",
-            b"a=1\nb=2\n",
-            &[4, 1],
-            &[failing],
-            outputs(alloc, 1000, &[])?,
-        )?;
-        assert_eq!(rt; left.ended, Ended::Read(InputName::Stdin), "call {failing}");
-        assert_eq!(rt; left.ended.status(), 1);
-        assert_eq!(rt; bytes_of(&left.outputs, &Target::Stdout), out.as_bytes());
-        assert_eq!(rt;
-            bytes_of(&left.outputs, &Target::Stderr),
-            b"mlr: cannot read (stdin)\n".as_slice()
-        );
+/// What a run writes.
+#[derive(Clone, Copy)]
+enum Text {
+    Whole(&'static [u8]),
+    /// A prefix of this, as a call of the outputs fails.
+    PrefixOf(&'static [u8]),
+}
+
+/// A run over outputs in memory, and how it ends.
+struct Case {
+    name: &'static str,
+    words: &'static str,
+    input: &'static [u8],
+    pieces: &'static [usize],
+    /// The calls of the inputs that fail.
+    unread: &'static [u64],
+    /// What standard output holds before the run.
+    before: &'static str,
+    room: usize,
+    /// The calls of the outputs that fail.
+    unwritten: &'static [u64],
+    ended: &'static str,
+    status: u8,
+    out: Text,
+    message: Text,
+}
+
+/// Runs of which a call fails, or would fail, and outputs that are full or hold something.
+const CASES: [Case; 11] = [
+    Case {
+        name: "bytes that are no plain text",
+        words: "--ojson cat",
+        input: b"\xef\xbb\xbfa=\xff\x01\n",
+        pieces: &[2, 1],
+        unread: &[],
+        before: "",
+        room: 1000,
+        unwritten: &[],
+        ended: "done",
+        status: 0,
+        out: Text::Whole(b"[\n{\n  \"a\": \"\xff\\u0001\"\n}\n]\n"),
+        message: Text::Whole(b""),
+    },
+    Case {
+        name: "the open fails",
+        words: "--ojson cat",
+        input: b"a=1\nb=2\n",
+        pieces: &[4, 1],
+        unread: &[1],
+        before: "",
+        room: 1000,
+        unwritten: &[],
+        ended: "read",
+        status: 1,
+        out: Text::Whole(b""),
+        message: Text::Whole(b"mlr: cannot read (stdin)\n"),
+    },
+    // The third call is the second read, before which the first record is written.
+    Case {
+        name: "the second read fails",
+        words: "--ojson cat",
+        input: b"a=1\nb=2\n",
+        pieces: &[4, 1],
+        unread: &[3],
+        before: "",
+        room: 1000,
+        unwritten: &[],
+        ended: "read",
+        status: 1,
+        out: Text::Whole(b"[\n{\n  \"a\": 1\n}"),
+        message: Text::Whole(b"mlr: cannot read (stdin)\n"),
+    },
+    Case {
+        name: "a write fails",
+        words: "--ojson cat",
+        input: b"a=1\n",
+        pieces: &[],
+        unread: &[],
+        before: "",
+        room: 1000,
+        unwritten: &[1],
+        ended: "written",
+        status: 1,
+        out: Text::PrefixOf(b"[\n{\n  \"a\": 1\n}\n]\n"),
+        message: Text::Whole(b"mlr: cannot write (stdout)\n"),
+    },
+    Case {
+        name: "no room for the text, nor for the message",
+        words: "--ojson cat",
+        input: b"a=1\n",
+        pieces: &[],
+        unread: &[],
+        before: "",
+        room: 7,
+        unwritten: &[],
+        ended: "written",
+        status: 1,
+        out: Text::Whole(b"[\n{\n  \""),
+        message: Text::Whole(b""),
+    },
+    Case {
+        name: "a message that is not written changes nothing in how the run ends",
+        words: "sort",
+        input: b"",
+        pieces: &[],
+        unread: &[],
+        before: "",
+        room: 1000,
+        unwritten: &[1],
+        ended: "word 1 is not built",
+        status: 1,
+        out: Text::Whole(b""),
+        message: Text::PrefixOf(b"mlr: word 1: not built: sort\n"),
+    },
+    Case {
+        name: "what standard output holds stays",
+        words: "--ojson cat",
+        input: b"",
+        pieces: &[],
+        unread: &[],
+        before: "before\n",
+        room: 1000,
+        unwritten: &[],
+        ended: "done",
+        status: 0,
+        out: Text::Whole(b"before\n[\n]\n"),
+        message: Text::Whole(b""),
+    },
+    Case {
+        name: "a head of no records at the end opens nothing",
+        words: "head -n 1 then head -n 0",
+        input: b"a=1\n",
+        pieces: &[],
+        unread: &[1],
+        before: "",
+        room: 1000,
+        unwritten: &[],
+        ended: "done",
+        status: 0,
+        out: Text::Whole(b""),
+        message: Text::Whole(b""),
+    },
+    Case {
+        name: "a head of no records opens no file",
+        words: "head -n 0 then cat none f",
+        input: b"a=1\n",
+        pieces: &[],
+        unread: &[1],
+        before: "",
+        room: 1000,
+        unwritten: &[],
+        ended: "done",
+        status: 0,
+        out: Text::Whole(b""),
+        message: Text::Whole(b""),
+    },
+    // The third call is the second read, which comes only where the first record does not end the run.
+    Case {
+        name: "the second read is not made",
+        words: "head -n 1",
+        input: b"a=1\na=2\n",
+        pieces: &[4],
+        unread: &[3],
+        before: "",
+        room: 1000,
+        unwritten: &[],
+        ended: "done",
+        status: 0,
+        out: Text::Whole(b"a=1\n"),
+        message: Text::Whole(b""),
+    },
+    Case {
+        name: "the second read is made",
+        words: "head -n 2",
+        input: b"a=1\na=2\n",
+        pieces: &[4],
+        unread: &[3],
+        before: "",
+        room: 1000,
+        unwritten: &[],
+        ended: "read",
+        status: 1,
+        out: Text::Whole(b"a=1\n"),
+        message: Text::Whole(b"mlr: cannot read (stdin)\n"),
+    },
+];
+
+/// The words for how a run ended.
+fn words_of(ended: &Ended) -> &'static str {
+    match ended {
+        Ended::Done => "done",
+        Ended::Read(InputName::Stdin) => "read",
+        Ended::Written(Target::Stdout) => "written",
+        Ended::Refused(
+            Refusal {
+                word: 1,
+                why: Why::NotBuilt,
+            },
+        ) => "word 1 is not built",
+        _ => "other",
     }
-    Ok(())
+}
+
+fn is_as(made: &[u8], want: Text) -> bool {
+    match want {
+        Text::Whole(text) => made == text,
+        Text::PrefixOf(text) => text.starts_with(made),
+    }
+}
+
+/// Whether the run of a case ends and leaves what it says.
+fn ends<R: Threads + Wait + Copy + Send + 'static>(
+    rt: &R,
+    alloc: Global,
+    case: &Case,
+) -> Result<bool, NoMemory> {
+    let outputs = outputs(alloc, case.before, case.room, case.unwritten)?;
+    let left = run(
+        rt,
+        alloc,
+        case.words,
+        case.input,
+        case.pieces,
+        case.unread,
+        outputs,
+    )?;
+    Ok(
+        words_of(&left.ended) == case.ended
+            && left.ended.status() == case.status
+            && is_as(bytes_of(&left.outputs, &Target::Stdout), case.out)
+            && is_as(bytes_of(&left.outputs, &Target::Stderr), case.message),
+    )
+}
+
+/// The name of the first case whose run ends otherwise.
+fn first_wrong_case<R: Threads + Wait + Copy + Send + 'static>(
+    rt: &R,
+    alloc: Global,
+) -> Result<Option<&'static str>, NoMemory> {
+    for case in CASES.iter() {
+        if !ends(rt, alloc, case)? {
+            return Ok(Some(case.name));
+        }
+    }
+    Ok(None)
 }
 
 #[test]
-fn a_write_that_fails(rt: HostRuntime) -> Result<(), Fail> {
-    let alloc = rt.alloc();
-    let text = b"[\n{\n  \"a\": 1\n}\n]\n";
-    let left = run(
-        &rt,
-        alloc,
-        "--ojson cat",
-        b"a=1\n",
-        &[],
-        &[],
-        outputs(alloc, 1000, &[1])?,
-    )?;
-    assert_eq!(rt; left.ended, Ended::Written(Target::Stdout));
-    assert_eq!(rt; left.ended.status(), 1);
-    assert!(rt; text.starts_with(bytes_of(&left.outputs, &Target::Stdout)));
-    assert_eq!(rt;
-        bytes_of(&left.outputs, &Target::Stderr),
-        b"mlr: cannot write (stdout)\n".as_slice()
-    );
-
-    // No room for all of the text, and none for the message.
-    let left = run(
-        &rt,
-        alloc,
-        "--ojson cat",
-        b"a=1\n",
-        &[],
-        &[],
-        outputs(alloc, 7, &[])?,
-    )?;
-    assert_eq!(rt; left.ended, Ended::Written(Target::Stdout));
-    assert_eq!(rt;
-        bytes_of(&left.outputs, &Target::Stdout),
-        b"[\n{\n  \"".as_slice()
-    );
-    assert_eq!(rt; bytes_of(&left.outputs, &Target::Stderr), b"".as_slice());
-
-    // A message that can't be written changes no outcome.
-    let left = run(
-        &rt,
-        alloc,
-        "sort",
-        b"",
-        &[],
-        &[],
-        outputs(alloc, 1000, &[1])?,
-    )?;
-    let refusal = Refusal {
-        word: 1,
-        why: Why::NotBuilt,
-    };
-    assert_eq!(rt; left.ended, Ended::Refused(refusal));
-    assert!(rt;
-        b"mlr: word 1: not built: sort\n".starts_with(bytes_of(&left.outputs, &Target::Stderr))
-    );
-    Ok(())
-}
-
-#[test]
-fn what_standard_output_held_stays(rt: HostRuntime) -> Result<(), Fail> {
-    let alloc = rt.alloc();
-    let mut held = Vec::new(alloc);
-    held.push((Target::Stdout, Bytes::copy_of(alloc, b"before\n")?))?;
-    let into = MemOutputs::new(alloc, held, 1000, Vec::new(alloc))?;
-    let left = run(&rt, alloc, "--ojson cat", b"", &[], &[], into)?;
-    assert_eq!(rt;
-        bytes_of(&left.outputs, &Target::Stdout),
-        b"before\n[\n]\n".as_slice()
-    );
+fn runs_end_as_the_cases_say(rt: HostRuntime) -> Result<(), NoMemory> {
+    assert_eq!(rt; first_wrong_case(&rt, rt.alloc())?, None);
     Ok(())
 }

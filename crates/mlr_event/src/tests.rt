@@ -11,7 +11,6 @@ use mlr_record::Record;
 use mlr_spec::{InferOpts, NoMemory};
 use mlr_value::{Bytes, Value};
 use std::alloc::Global;
-use std::process::Abort;
 
 /// Whether the names with a semicolon after each are this text.
 fn are(alloc: Global, names: &[Bytes], text: &str) -> Result<bool, NoMemory> {
@@ -48,42 +47,76 @@ const NAMES: [(&[&str], &str, &str); 7] = [
     ),
 ];
 
+/// The names of some texts.
+fn names_from(alloc: Global, texts: &[&str]) -> Result<Names, NoMemory> {
+    let mut names = Names::new(alloc);
+    for text in texts {
+        names.push(Bytes::copy_of(alloc, text.as_bytes())?)?;
+    }
+    Ok(names)
+}
+
+/// A record of empty fields of these names, made distinct.
+fn record_from(alloc: Global, texts: &[&str]) -> Result<Record, NoMemory> {
+    let mut record = Record::new(alloc)?;
+    for text in texts {
+        if record.len() < 100 {
+            put_field(alloc, &mut record, text.as_bytes(), Value::Empty, true)?;
+        }
+    }
+    Ok(record)
+}
+
+/// Whether the list has each of the texts at its place.
+fn are_at_their_places(names: &Names, texts: &[&str]) -> bool {
+    for (place, text) in texts.iter().enumerate() {
+        let text = text.as_bytes();
+        if !names.has(text) || names.at(place).map(|name| name.as_slice()) != Some(text) {
+            return false;
+        }
+    }
+    names.len() == texts.len() && names.at(texts.len()).is_none() && !names.has(b"c")
+}
+
+/// Whether a header has these names, and the distinct ones as its keys.
+fn is_header(alloc: Global, names: Names, same: &str, distinct: &str) -> Result<bool, NoMemory> {
+    let count = names.len();
+    let header = Header::new(alloc, names.into_vec())?;
+    Ok(
+        header.len() == count
+            && are(alloc, header.names(), same)?
+            && are(alloc, header.keys(), distinct)?,
+    )
+}
+
+/// Whether names, a copy of them, a record and a header are as a row says.
+fn are_named(alloc: Global, row: &(&[&str], &str, &str)) -> Result<bool, NoMemory> {
+    let (texts, same, distinct) = *row;
+    let names = names_from(alloc, texts)?;
+    let copy = names.copy()?;
+    let made = distinct_names(alloc, copy.as_slice())?;
+    let record = record_from(alloc, texts)?;
+    Ok(
+        are_at_their_places(&copy, texts)
+            && are(alloc, copy.as_slice(), same)?
+            && are(alloc, made.as_slice(), distinct)?
+            && names_of(alloc, &record)?.as_slice() == distinct.as_bytes()
+            && is_header(alloc, names, same, distinct)?,
+    )
+}
+
+fn first_misnamed(alloc: Global) -> Result<Option<usize>, NoMemory> {
+    for (i, row) in NAMES.iter().enumerate() {
+        if !are_named(alloc, row)? {
+            return Ok(Some(i));
+        }
+    }
+    Ok(None)
+}
+
 #[test]
 fn equal_names_are_kept_or_made_distinct(rt: HostRuntime) -> Result<(), NoMemory> {
-    let alloc = rt.alloc();
-    for (texts, same, distinct) in &NAMES {
-        let mut names = Names::new(alloc);
-        let mut record = Record::new(alloc)?;
-        for text in *texts {
-            names.push(Bytes::copy_of(alloc, text.as_bytes())?)?;
-            if record.len() < 100 {
-                put_field(alloc, &mut record, text.as_bytes(), Value::Empty, true)?;
-            }
-        }
-        assert_eq!(rt;
-            names_of(alloc, &record)?.as_slice(),
-            distinct.as_bytes(),
-            "{same}"
-        );
-        let copy = names.copy()?;
-        assert!(rt;
-            copy.len() == texts.len() && copy.at(texts.len()).is_none(),
-            "{same}"
-        );
-        assert!(rt; !copy.has(b"c"), "{same}");
-        for (place, text) in texts.iter().enumerate() {
-            let found = copy.at(place).map(|name| name.as_slice());
-            assert_eq!(rt; found, Some(text.as_bytes()), "{same}");
-            assert!(rt; copy.has(text.as_bytes()), "{text} of {same}");
-        }
-        assert!(rt; are(alloc, copy.as_slice(), same)?, "{same}");
-        let made = distinct_names(alloc, copy.as_slice())?;
-        assert!(rt; are(alloc, made.as_slice(), distinct)?, "{same}");
-        let header = Header::new(alloc, names.into_vec())?;
-        assert_eq!(rt; header.len(), texts.len(), "{same}");
-        assert!(rt; are(alloc, header.names(), same)?, "{same}");
-        assert!(rt; are(alloc, header.keys(), distinct)?, "{same}");
-    }
+    assert_eq!(rt; first_misnamed(rt.alloc())?, None);
     Ok(())
 }
 
@@ -116,89 +149,113 @@ const FILES: [(&str, &str, bool); 5] = [
     ("data/2024-01/input.dkvp", "data/2024-01/input.json", false),
 ];
 
-const PREFIXES: [&str; 2] = ["%", "-- a prefix of more bytes than lie inline"];
+/// Whether two inputs of these names are one, and neither is standard input.
+fn are_one_input(alloc: Global, first: &str, second: &str) -> Result<Option<bool>, NoMemory> {
+    let stdin = InputName::Stdin.copy(alloc)?;
+    let input = InputName::File(Bytes::copy_of(alloc, first.as_bytes())?);
+    let other = InputName::File(Bytes::copy_of(alloc, second.as_bytes())?).copy(alloc)?;
+    if input.is(&stdin) || stdin.is(&other) || !stdin.is(&InputName::Stdin) {
+        return Ok(None);
+    }
+    Ok(Some(input.is(&other)))
+}
+
+/// Whether two targets of these names are one, and neither is a standard stream.
+fn are_one_target(alloc: Global, first: &str, second: &str) -> Result<Option<bool>, NoMemory> {
+    let stdout = Target::Stdout.copy(alloc)?;
+    let stderr = Target::Stderr.copy(alloc)?;
+    let target = Target::File(Bytes::copy_of(alloc, first.as_bytes())?);
+    let other = Target::File(Bytes::copy_of(alloc, second.as_bytes())?).copy(alloc)?;
+    if target.is(&stdout) || stderr.is(&other) || stdout.is(&stderr) {
+        return Ok(None);
+    }
+    Ok(Some(target.is(&other)))
+}
+
+fn first_wrong_files(alloc: Global) -> Result<Option<usize>, NoMemory> {
+    for (i, (first, second, same)) in FILES.iter().enumerate() {
+        if are_one_input(alloc, *first, *second)? != Some(*same)
+            || are_one_target(alloc, *first, *second)? != Some(*same)
+        {
+            return Ok(Some(i));
+        }
+    }
+    Ok(None)
+}
+
+/// Whether copies of options with comments of this prefix are equal.
+fn are_copies_equal(alloc: Global, prefix: &str) -> Result<bool, NoMemory> {
+    let pass = Comments::Pass(Bytes::copy_of(alloc, prefix.as_bytes())?);
+    let skip = Comments::Skip(Bytes::copy_of(alloc, prefix.as_bytes())?);
+    let opts = options(alloc, ";", "::", true, pass)?;
+    Ok(opts.copy(alloc)? == opts && skip.copy(alloc)? == skip && skip != opts.comments)
+}
+
+/// Whether the standard streams are themselves alone.
+fn are_streams(alloc: Global) -> Result<bool, NoMemory> {
+    let stdout = Target::Stdout.copy(alloc)?;
+    let stderr = Target::Stderr.copy(alloc)?;
+    Ok(stdout.is(&Target::Stdout) && stderr.is(&Target::Stderr))
+}
 
 #[test]
 fn copies_of_names_and_options_are_equal(rt: HostRuntime) -> Result<(), NoMemory> {
     let alloc = rt.alloc();
-    let stdin = InputName::Stdin.copy(alloc)?;
-    let stdout = Target::Stdout.copy(alloc)?;
-    let stderr = Target::Stderr.copy(alloc)?;
-    assert!(rt; stdin.is(&InputName::Stdin));
-    assert!(rt; stdout.is(&Target::Stdout) && stderr.is(&Target::Stderr));
-    assert!(rt; !stdout.is(&stderr));
-    for (first, second, same) in &FILES {
-        let input = InputName::File(Bytes::copy_of(alloc, first.as_bytes())?);
-        let other = InputName::File(Bytes::copy_of(alloc, second.as_bytes())?).copy(alloc)?;
-        assert_eq!(rt; input.is(&other), *same, "{first} and {second}");
-        assert!(rt;
-            !input.is(&stdin) && !stdin.is(&other),
-            "{first} and {second}"
-        );
-        let target = Target::File(Bytes::copy_of(alloc, first.as_bytes())?);
-        let other = Target::File(Bytes::copy_of(alloc, second.as_bytes())?).copy(alloc)?;
-        assert_eq!(rt; target.is(&other), *same, "{first} and {second}");
-        assert!(rt;
-            !target.is(&stdout) && !stderr.is(&other),
-            "{first} and {second}"
-        );
-    }
-    for prefix in &PREFIXES {
-        let pass = Comments::Pass(Bytes::copy_of(alloc, prefix.as_bytes())?);
-        let skip = Comments::Skip(Bytes::copy_of(alloc, prefix.as_bytes())?);
-        let opts = options(alloc, ";", "::", true, pass)?;
-        assert!(rt; opts.copy(alloc)? == opts, "{prefix}");
-        assert!(rt;
-            skip.copy(alloc)? == skip && skip != opts.comments,
-            "{prefix}"
-        );
-    }
+    assert_eq!(rt; first_wrong_files(alloc)?, None);
+    assert!(rt; are_streams(alloc)?);
+    assert!(rt; are_copies_equal(alloc, "%")?);
+    assert!(rt; are_copies_equal(alloc, "-- a prefix of more bytes than lie inline")?);
     assert!(rt; Comments::Keep.copy(alloc)? == Comments::Keep);
     Ok(())
 }
 
-/// Texts become fields, with a suffix for a name that is there or in its place.
-fn put_fields(rt: &impl Abort, alloc: Global) -> Result<(), NoMemory> {
+/// The names of a record in which a name is put a second time as a text.
+fn two_texts(alloc: Global) -> Result<Record, NoMemory> {
     let opts = options(alloc, ",", "=", false, Comments::Keep)?;
     let mut record = Record::new(alloc)?;
     push_text(alloc, &opts, b"a", b"0x10", &mut record)?;
     put_text(alloc, &opts, b"a", b"x", &mut record)?;
-    assert_eq!(rt; names_of(alloc, &record)?.as_slice(), b"a;a_2;".as_slice());
-    assert!(rt; matches!(record.get(b"a"), Some(Value::Int(number)) if number.n == 16));
-    assert!(rt; matches!(record.get(b"a_2"), Some(Value::Str(_))));
+    Ok(record)
+}
+
+/// Whether a text is put with a suffix where its name is there.
+fn are_texts_put(alloc: Global) -> Result<bool, NoMemory> {
+    let record = two_texts(alloc)?;
+    Ok(
+        names_of(alloc, &record)?.as_slice() == b"a;a_2;".as_slice()
+            && matches!(record.get(b"a"), Some(Value::Int(number)) if number.n == 16)
+            && matches!(record.get(b"a_2"), Some(Value::Str(_))),
+    )
+}
+
+/// Whether a value is put in its name's place where names aren't made distinct.
+fn is_value_replaced(alloc: Global) -> Result<bool, NoMemory> {
     let mut record = Record::new(alloc)?;
     put_field(alloc, &mut record, b"a", Value::Empty, false)?;
     put_field(alloc, &mut record, b"a", Value::Bool(true), false)?;
-    assert_eq!(rt; record.len(), 1);
-    assert!(rt; matches!(record.get(b"a"), Some(Value::Bool(true))));
-    Ok(())
+    Ok(record.len() == 1 && matches!(record.get(b"a"), Some(Value::Bool(true))))
 }
 
-/// Comments are known by their prefix and passed on where the options say so, and contexts are counted.
-fn pass_comments(rt: &impl Abort, alloc: Global) -> Result<(), NoMemory> {
+/// Whether comments are known by their prefix.
+fn are_comments_known(alloc: Global) -> Result<bool, NoMemory> {
     let pass = Comments::Pass(Bytes::copy_of(alloc, b"//")?);
-    assert!(rt; is_comment(&pass, b"//a"));
-    assert!(rt; !is_comment(&pass, b"/"));
-    assert!(rt; !is_comment(&Comments::Keep, b"//a"));
+    Ok(
+        is_comment(&pass, b"//a")
+            && !is_comment(&pass, b"/")
+            && !is_comment(&Comments::Keep, b"//a"),
+    )
+}
+
+/// Whether a comment is passed on as a line where the options say so, and only there.
+fn are_comments_passed(alloc: Global) -> Result<bool, NoMemory> {
+    let pass = Comments::Pass(Bytes::copy_of(alloc, b"//")?);
+    let skip = Comments::Skip(Bytes::new(alloc));
     let mut out = Events::new(alloc);
     push_comment(alloc, &pass, b"//a", &mut out)?;
-    push_comment(alloc, &Comments::Skip(Bytes::new(alloc)), b"b", &mut out)?;
-    assert_eq!(rt; out.len(), 1);
-    assert!(rt;
-        matches!(out.at(0), Some(Event::Text(text)) if text.as_slice() == b"//a\n".as_slice())
-    );
-    let second = Ctx {
-        nr: 4,
-        fnr: 0,
-        filenum: 2,
-    };
-    let next = Ctx {
-        nr: 5,
-        fnr: 1,
-        filenum: 2,
-    };
-    assert_eq!(rt; next_ctx(second), next);
-    Ok(())
+    push_comment(alloc, &skip, b"b", &mut out)?;
+    let line: &[u8] = b"//a\n";
+    let first = matches!(out.at(0), Some(Event::Text(text)) if text.as_slice() == line);
+    Ok(first && out.len() == 1)
 }
 
 /// The context of the record with this number in the first file.
@@ -210,8 +267,22 @@ fn first_file(nr: u64) -> Ctx {
     }
 }
 
-/// `Tac` gives the records at the end, the last first.
-fn take_events(rt: &impl Abort, alloc: Global) -> Result<(), NoMemory> {
+/// A letter for each kind of event, and the number of its record.
+fn shown(alloc: Global, events: &Events) -> Result<Bytes, NoMemory> {
+    let mut text = Bytes::new(alloc);
+    for place in 0..events.len() {
+        match events.at(place) {
+            Some(Event::Rec(_, at)) if at.nr < 10 => text.push(b'0' + at.nr as u8)?,
+            Some(Event::Text(_)) => text.push(b't')?,
+            Some(Event::End(_)) => text.push(b'e')?,
+            _ => text.push(b'?')?,
+        }
+    }
+    Ok(text)
+}
+
+/// The events that `Tac` gives at the end for three records and a text.
+fn reversed(alloc: Global) -> Result<Bytes, NoMemory> {
     let mut held = Vec::new(alloc);
     let mut out = Events::new(alloc);
     for nr in 1..4 {
@@ -221,36 +292,39 @@ fn take_events(rt: &impl Abort, alloc: Global) -> Result<(), NoMemory> {
     let text = Event::Text(Bytes::copy_of(alloc, b"text")?);
     take(&mut held, text, &mut out)?;
     give(&mut held, &mut out)?;
-    assert_eq!(rt; out.len(), 4);
-    assert!(rt; matches!(out.at(0), Some(Event::Text(_))));
-    for place in 1..4 {
-        assert!(rt;
-            matches!(out.at(place), Some(Event::Rec(_, at)) if at.nr == 4 - place as u64),
-            "at {place}"
-        );
+    shown(alloc, &out)
+}
+
+/// The events that `Cat` gives for a record, a text and the end, if it stays as it was.
+fn passed(alloc: Global) -> Result<Bytes, NoMemory> {
+    let mut cat = Cat::new();
+    let mut out = Events::new(alloc);
+    cat.step(Event::Rec(Record::new(alloc)?, first_file(1)), &mut out)?;
+    cat.step(Event::Text(Bytes::copy_of(alloc, b"text")?), &mut out)?;
+    cat.step(Event::End(first_file(1)), &mut out)?;
+    if cat.closed() || cat.has_effects() || cat.is_broken() {
+        return Ok(Bytes::new(alloc));
     }
-    Ok(())
+    shown(alloc, &out)
 }
 
 #[test]
 fn events_and_fields_come_in_their_order(rt: HostRuntime) -> Result<(), NoMemory> {
     let alloc = rt.alloc();
-    let mut cat = Cat::new();
-    let mut out = Events::new(alloc);
-    let mut fields = Record::new(alloc)?;
-    fields.put(b"a", Value::Empty)?;
-    cat.step(Event::Rec(fields, first_file(1)), &mut out)?;
-    cat.step(Event::Text(Bytes::copy_of(alloc, b"text")?), &mut out)?;
-    cat.step(Event::End(first_file(1)), &mut out)?;
-    assert_eq!(rt; out.len(), 3);
-    assert!(rt; matches!(out.at(0), Some(Event::Rec(_, _))));
-    assert!(rt; matches!(out.at(1), Some(Event::Text(_))));
-    assert!(rt; matches!(out.at(2), Some(Event::End(_))));
-    assert!(rt; !cat.closed());
-    assert!(rt; !cat.has_effects());
-    assert!(rt; !cat.is_broken());
-    take_events(&rt, alloc)?;
-    pass_comments(&rt, alloc)?;
-    put_fields(&rt, alloc)?;
+    let second = Ctx {
+        nr: 4,
+        fnr: 0,
+        filenum: 2,
+    };
+    let next = Ctx {
+        nr: 5,
+        fnr: 1,
+        filenum: 2,
+    };
+    assert_eq!(rt; next_ctx(second), next);
+    assert!(rt; are_texts_put(alloc)? && is_value_replaced(alloc)?);
+    assert!(rt; are_comments_known(alloc)? && are_comments_passed(alloc)?);
+    assert_eq!(rt; reversed(alloc)?.as_slice(), b"t321".as_slice());
+    assert_eq!(rt; passed(alloc)?.as_slice(), b"1te".as_slice());
     Ok(())
 }

@@ -3,16 +3,10 @@
 #![tactic(auto)]
 
 mod groups;
-#[cfg(test)]
-mod groups_tests;
 mod keys;
-#[cfg(test)]
-mod keys_tests;
-#[cfg(test)]
-mod samples;
 mod tallies;
 #[cfg(test)]
-mod tallies_tests;
+mod tests;
 
 pub use groups::Groups;
 pub use keys::{KeyTable, append_text, append_texts};

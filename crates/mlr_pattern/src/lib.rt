@@ -4,14 +4,10 @@
 
 mod patterns;
 mod read;
-#[cfg(test)]
-mod read_tests;
 mod replace;
 #[cfg(test)]
-mod replace_tests;
+mod tests;
 mod values;
-#[cfg(test)]
-mod values_tests;
 mod weight;
 mod which;
 mod word;

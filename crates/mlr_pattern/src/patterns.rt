@@ -84,33 +84,3 @@ impl Patterns {
         })
     }
 }
-
-#[cfg(test)]
-mod tests {
-    use super::*;
-    use crate::{matches, read_pattern};
-    use std::test::Fail;
-
-    #[test]
-    fn patterns_kept_in_order(rt: HostRuntime) -> Result<(), Fail> {
-        let alloc = rt.alloc();
-        let mut patterns = Patterns::new(alloc);
-        for text in [b"^a".as_slice(), b"b$"] {
-            let Ok(pattern) = read_pattern(alloc, text, false) else {
-                assert!(rt; false);
-                return Ok(());
-            };
-            patterns.push(Arc::new(alloc, pattern)?)?;
-        }
-        let copy = patterns.copy()?;
-        assert_eq!(rt; copy.len(), 2);
-        assert_eq!(rt; copy.as_slice().len(), 2);
-        assert!(rt; copy.at(2).is_none());
-        let Some(first) = copy.at(0) else {
-            return Ok(());
-        };
-        assert!(rt; matches(alloc, first, b"ab")? && !matches(alloc, first, b"ba")?);
-        assert_eq!(rt; patterns.into_vec().len(), 2);
-        Ok(())
-    }
-}

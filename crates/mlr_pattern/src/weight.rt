@@ -48,32 +48,3 @@ fn number_at_start(text: &[u8]) -> usize
     }
     number.min(HEAVY)
 }
-
-#[cfg(test)]
-mod tests {
-    use super::*;
-
-    #[test]
-    fn heavy_patterns(rt: HostRuntime) {
-        let table: [(&[u8], bool); 13] = [
-            (b"", false),
-            (b"abc", false),
-            (b"a{1000}", true),
-            (b"a{166}", false),
-            (b"a{167}", true),
-            (b"a{0}{0}{0}", false),
-            (b"a{2,50}", false),
-            (b"a{2,80}", true),
-            (b"a{,99}", false),
-            (b"a{,200}", true),
-            (b"a 1000", false),
-            (b"a{99999999999999999999999999}", true),
-            (b"a{x1000}", false),
-        ];
-        for (i, row) in table.iter().enumerate() {
-            let (text, heavy) = *row;
-            assert_eq!(rt; is_heavy(text), heavy, "at {i}");
-        }
-        assert!(rt; is_heavy(&[b'a'; 1000]) && !is_heavy(&[b'a'; 999]));
-    }
-}

@@ -32,34 +32,3 @@ pub fn pattern_word(word: &[u8]) -> PatternWord<'_>
         },
     }
 }
-
-#[cfg(test)]
-mod tests {
-    use super::*;
-
-    #[test]
-    fn words_shed_their_quotes(rt: HostRuntime) {
-        let table: [(&[u8], &[u8], bool); 14] = [
-            (b"abc", b"abc", false),
-            (b"\"abc\"", b"abc", false),
-            (b"\"abc\"i", b"abc", true),
-            (b"\"\"", b"", false),
-            (b"\"\"i", b"", true),
-            (b"\"", b"\"", false),
-            (b"\"i", b"\"i", false),
-            (b"", b"", false),
-            (b"i", b"i", false),
-            (b"abci", b"abci", false),
-            (b"\"abc", b"\"abc", false),
-            (b"abc\"i", b"abc\"i", false),
-            (b"\"abc\"I", b"\"abc\"I", false),
-            (b"\"a\"b\"i", b"a\"b", true),
-        ];
-        for (i, row) in table.iter().enumerate() {
-            let (word, text, either_case) = *row;
-            let found = pattern_word(word);
-            assert_eq!(rt; found.text, text, "at {i}");
-            assert_eq!(rt; found.either_case, either_case, "at {i}");
-        }
-    }
-}

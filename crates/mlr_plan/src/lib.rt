@@ -3,18 +3,12 @@
 #![tactic(auto)]
 
 mod chain;
-#[cfg(test)]
-mod chain_tests;
 mod plan;
 mod run;
 #[cfg(test)]
 mod tests;
-#[cfg(test)]
-mod trying;
 mod verb;
 mod verb_spec;
-#[cfg(test)]
-mod watching;
 
 pub use chain::chain_of;
 pub use plan::Plan;

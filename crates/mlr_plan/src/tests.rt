@@ -1,137 +1,480 @@
-//! Plans that are run over inputs and outputs in memory.
-ghost use Rattle.std.specs.Prelude.{IfOk, IfSome};
-ghost use Rattle.mlr_plan.specs.Plans.{AreSound};
+//! Chains of verbs that are given three records, and plans that are run over inputs and outputs in memory.
+ghost use Rattle.std.specs.Prelude.{◌≡◌, [], true, IfOk, OnOk};
+ghost use Rattle.mlr_event.specs.Verb.{is_list};
+ghost use Rattle.read_files.specs.Represents.{can_read};
+ghost use Rattle.verbs_stream.specs.Each.{IsSound as IsSoundSpec};
+ghost use Rattle.mlr_plan.specs.Plans.{AreSound, IsSound};
 
-use crate::trying::{
-    both_make, heads, inputs_of, makes, names, outputs_of, plan_of, push, push_head,
-};
-use crate::watching::{Counting, Noting};
-use crate::{VerbSpec, run_serial};
-use mlr_event::{InputName, Target};
-use mlr_spec::NoMemory;
+use crate::{Plan, VerbSpec, chain_of, run_serial};
+use mlr_event::{Comments, Ctx, Event, Events, Format, InputName, Mode, Names, ReadOpts, Target};
+use mlr_record::Record;
+use mlr_spec::{InferOpts, NoMemory};
 use mlr_value::Bytes;
-use mlr_world::{Inputs, Opened};
+use mlr_world::{Done, Got, Inputs, MemInputs, MemOutputs, Opened, Outputs};
 use serial_core::Ended;
 use std::alloc::Global;
 use std::cell::Cell;
 use verbs_seq::SeqSpec;
-use verbs_stream::{Cat, FillDown, Spec};
+use verbs_stream::{Cat, FillDown, Head, Spec};
 use verbs_values::Sec2Gmt;
+use writers::WriteOpts;
 
-/// A plan's verbs that begin with `seqgen`.
-fn seq(alloc: Global, start: i64, stop: i64, step: i64) -> Result<Option<Vec<VerbSpec>>, NoMemory>
-    ensures { IfOk result (λ made. IfSome made (λ verbs. AreSound verbs.items)) }
+/// DKVP, as it is read.
+fn read_opts(alloc: Global) -> Result<ReadOpts, NoMemory>
+    ensures { IfOk result (λ opts. can_read opts ≡ true) }
 {
-    let seq = SeqSpec {
-        field: Bytes::copy_of(alloc, b"i")?,
-        start,
-        stop,
-        step,
-    };
-    if !seq.is_sound() {
-        return Ok(None);
+    Ok(ReadOpts {
+        format: Format::Dkvp,
+        ifs: Bytes::copy_of(alloc, b",")?,
+        ips: Bytes::copy_of(alloc, b"=")?,
+        implicit: false,
+        ragged: false,
+        dedupe: true,
+        comments: Comments::Keep,
+        infer: InferOpts::plain(),
+    })
+}
+
+/// A format, as it is written.
+fn write_opts(alloc: Global, format: Format) -> Result<WriteOpts, NoMemory> {
+    Ok(WriteOpts {
+        format,
+        ofs: Bytes::copy_of(alloc, b",")?,
+        ops: Bytes::copy_of(alloc, b"=")?,
+        headerless: false,
+        quote_all: false,
+        barred: false,
+        stacked: true,
+        listwrap: true,
+        flatten: false,
+        unflatten: false,
+        flatsep: Bytes::copy_of(alloc, b".")?,
+    })
+}
+
+/// The styles of a plan: DKVP, and one that standard output doesn't have.
+fn styles(alloc: Global) -> Result<Vec<WriteOpts>, NoMemory>
+    ensures { IfOk result (λ styles. styles.items ≡ [] → ⊥) }
+{
+    let mut styles = Vec::new(alloc);
+    styles.push(write_opts(alloc, Format::Dkvp)?)?;
+    styles.push(write_opts(alloc, Format::Json)?)?;
+    Ok(styles)
+}
+
+/// Standard input alone.
+fn stdin(alloc: Global) -> Result<Vec<InputName>, NoMemory> {
+    let mut names = Vec::new(alloc);
+    names.push(InputName::Stdin)?;
+    Ok(names)
+}
+
+/// A plan that reads standard input as DKVP, and writes DKVP.
+fn plan_of(alloc: Global, verbs: Vec<VerbSpec>) -> Result<Plan, NoMemory>
+    requires { AreSound verbs.items }
+    ensures { IfOk result IsSound }
+{
+    Ok(Plan {
+        read: read_opts(alloc)?,
+        inputs: stdin(alloc)?,
+        no_input: false,
+        verbs,
+        styles: styles(alloc)?,
+        per_batch: 500,
+        turns: 1_000_000,
+        serial: true,
+    })
+}
+
+/// Appends a verb.
+fn push(verbs: &mut Vec<VerbSpec>, spec: Spec) -> Result<(), NoMemory>
+    requires options { IsSoundSpec spec }
+    requires verbs { AreSound verbs.old.items }
+    ensures { OnOk result (AreSound verbs.new.items) }
+{
+    verbs.push(VerbSpec::Stream(spec))?;
+    Ok(())
+}
+
+/// The names of a text such as `a,b`.
+fn names(alloc: Global, text: &str) -> Result<Names, NoMemory> {
+    let mut made = Names::new(alloc);
+    for name in text.split(',') {
+        made.push(Bytes::copy_of(alloc, name.as_bytes())?)?;
     }
-    let mut verbs = Vec::new(alloc);
-    verbs.push(VerbSpec::Seq(seq))?;
-    Ok(Some(verbs))
+    Ok(made)
 }
 
-#[test]
-fn no_verb(rt: HostRuntime) -> Result<(), NoMemory> {
-    let alloc = rt.alloc();
-    let plan = plan_of(alloc, Vec::new(alloc))?;
-    assert!(rt; makes(alloc, &plan, "a=1\nb=2\n", "a=1\nb=2\n")?);
-    Ok(())
+/// Standard input with a text that comes in pieces of these sizes, and whose calls of these numbers fail.
+fn inputs_of(
+    alloc: Global,
+    text: &str,
+    pieces: &[usize],
+    failing: &[u64],
+) -> Result<MemInputs, NoMemory> {
+    let mut contents = Vec::new(alloc);
+    contents.push((InputName::Stdin, Bytes::copy_of(alloc, text.as_bytes())?))?;
+    let pieces = Vec::from_slice(alloc, pieces)?;
+    MemInputs::new(alloc, contents, pieces, Vec::from_slice(alloc, failing)?)
 }
 
-#[test]
-fn two_heads(rt: HostRuntime) -> Result<(), NoMemory> {
-    let alloc = rt.alloc();
-    let plan = plan_of(alloc, heads(alloc, &[3, 2])?)?;
-    assert!(rt; both_make(alloc, &plan, "a=1\na=2\na=3\na=4\n", "a=1\na=2\n")?);
-    Ok(())
+/// Outputs with room for a few records.
+fn outputs_of(alloc: Global) -> Result<MemOutputs, NoMemory> {
+    MemOutputs::new(alloc, Vec::new(alloc), 1000, Vec::new(alloc))
 }
 
-#[test]
-fn nothing_is_opened(rt: HostRuntime) -> Result<(), NoMemory> {
-    let alloc = rt.alloc();
-    let plan = plan_of(alloc, heads(alloc, &[1, 0])?)?;
-    let mut inputs = inputs_of(alloc, "a=1\n", &[], &[1])?;
-    let mut outputs = outputs_of(alloc)?;
-    let ended = run_serial(alloc, &plan, &mut inputs, &mut outputs);
-    assert_eq!(rt; ended, Ended::Done);
-    assert_eq!(rt; outputs.bytes_of(&Target::Stdout), Some(b"".as_slice()));
-    // The first call, which fails, is still to come.
-    assert_eq!(rt; inputs.open(&InputName::Stdin), Opened::Failed);
-    Ok(())
+/// A verb with its options as plain words, where names are such as `a,b`.
+#[derive(Clone, Copy)]
+enum Words {
+    Head(u64),
+    FillDown(&'static str),
+    /// The number's name, and the grouping names.
+    Cat(&'static str, &'static str),
+    Sec2Gmt(&'static str),
 }
 
-#[test]
-fn no_input_is_read(rt: HostRuntime) -> Result<(), NoMemory> {
-    let alloc = rt.alloc();
-    let mut plan = plan_of(alloc, Vec::new(alloc))?;
-    plan.no_input = true;
-    let mut inputs = inputs_of(alloc, "a=1\n", &[], &[1])?;
-    let mut outputs = outputs_of(alloc)?;
-    let ended = run_serial(alloc, &plan, &mut inputs, &mut outputs);
-    assert_eq!(rt; ended, Ended::Done);
-    assert_eq!(rt; outputs.bytes_of(&Target::Stdout), Some(b"".as_slice()));
-    assert_eq!(rt; inputs.open(&InputName::Stdin), Opened::Failed);
-    Ok(())
-}
-
-#[test]
-fn verbs_beyond_the_words(rt: HostRuntime) -> Result<(), NoMemory> {
-    let alloc = rt.alloc();
-    let mut verbs = Vec::new(alloc);
-    push(
-        &mut verbs,
-        Spec::FillDown(FillDown {
-            names: names(alloc, "g")?,
+fn spec_of(alloc: Global, words: Words) -> Result<Spec, NoMemory>
+    ensures { IfOk result (λ spec. IsSoundSpec spec) }
+{
+    match words {
+        Words::Head(count) => Ok(Spec::Head(Head {
+            count,
+            groups: None,
+        })),
+        Words::FillDown(text) => Ok(Spec::FillDown(FillDown {
+            names: names(alloc, text)?,
             blank: false,
-        }),
-    )?;
-    push(
-        &mut verbs,
-        Spec::Cat(Cat {
+        })),
+        Words::Cat(name, by) => Ok(Spec::Cat(Cat {
             number: true,
-            name: Bytes::copy_of(alloc, b"n")?,
-            groups: Some(names(alloc, "g")?),
-        }),
-    )?;
-    push(
-        &mut verbs,
-        Spec::Sec2Gmt(Sec2Gmt {
-            names: names(alloc, "t")?,
-        }),
-    )?;
-    let plan = plan_of(alloc, verbs)?;
-    let text = "g=x,t=0\nt=1500000000\ng=y,t=1\n";
-    let want =
-        "n=1,g=x,t=1970-01-01T00:00:00Z\nn=2,t=2017-07-14T02:40:00Z,g=x\nn=1,g=y,t=1970-01-01T00:00:01Z\n";
-    assert!(rt; both_make(alloc, &plan, text, want)?);
-    Ok(())
+            name: Bytes::copy_of(alloc, name.as_bytes())?,
+            groups: Some(names(alloc, by)?),
+        })),
+        Words::Sec2Gmt(text) => Ok(Spec::Sec2Gmt(Sec2Gmt {
+            names: names(alloc, text)?,
+        })),
+    }
 }
 
-#[test]
-fn numbers_first(rt: HostRuntime) -> Result<(), NoMemory> {
-    let alloc = rt.alloc();
-    let table: [(i64, i64, i64, &str); 4] = [
-        (1, 10, 4, "i=1\ni=5\n"),
-        (3, -100, -2, "i=3\ni=1\n"),
-        (5, 5, -1, "i=5\n"),
-        (5, 1, 1, ""),
-    ];
-    for (i, row) in table.iter().enumerate() {
-        let (start, stop, step, want) = *row;
-        if let Some(verbs) = seq(alloc, start, stop, step)? {
-            let mut verbs = verbs;
-            push_head(&mut verbs, 2)?;
-            let plan = plan_of(alloc, verbs)?;
-            assert!(rt; both_make(alloc, &plan, "a=1\n", want)?, "at {i}");
+/// What a plan reads.
+#[derive(Clone, Copy)]
+enum Source {
+    Stdin,
+    /// Standard input, whose first call would fail, and isn't made.
+    Unopened,
+    /// The same, as the plan reads no input.
+    NoInput,
+    /// `seqgen` by its start, stop and step, and no input.
+    Numbers(i64, i64, i64),
+}
+
+/// A plan's verbs that begin with `seqgen`, or no verbs.
+fn first_verbs(alloc: Global, source: Source) -> Result<Vec<VerbSpec>, NoMemory>
+    ensures { IfOk result (λ verbs. AreSound verbs.items) }
+{
+    let mut verbs = Vec::new(alloc);
+    if let Source::Numbers(start, stop, step) = source {
+        let seq = SeqSpec {
+            field: Bytes::copy_of(alloc, b"i")?,
+            start,
+            stop,
+            step,
+        };
+        if seq.is_sound() {
+            verbs.push(VerbSpec::Seq(seq))?;
         }
     }
+    Ok(verbs)
+}
+
+/// A plan's verbs, of which the first may be `seqgen`.
+fn verbs_of(alloc: Global, source: Source, verbs: &[Words]) -> Result<Vec<VerbSpec>, NoMemory>
+    ensures { IfOk result (λ verbs. AreSound verbs.items) }
+{
+    let mut made = first_verbs(alloc, source)?;
+    for verb in verbs {
+        push(&mut made, spec_of(alloc, *verb)?)?;
+    }
+    Ok(made)
+}
+
+/// The context of record `nr`.
+fn at(nr: u64) -> Ctx {
+    Ctx {
+        nr,
+        fnr: nr,
+        filenum: 1,
+    }
+}
+
+/// The numbers of the first records that came out, 9 for an end and 0 where nothing came.
+fn numbers(out: &Events) -> [u64; 4] {
+    let mut shown = [0; 4];
+    for place in 0..4 {
+        shown[place] = match out.at(place) {
+            Some(Event::Rec(_, ctx)) => ctx.nr,
+            Some(Event::End(_)) => 9,
+            Some(_) => 8,
+            None => 0,
+        };
+    }
+    shown
+}
+
+fn three_records(alloc: Global) -> Result<Events, NoMemory>
+    ensures { IfOk result (λ events. is_list events ≡ true) }
+{
+    let mut events = Events::new(alloc);
+    events.push(Event::Rec(Record::new(alloc)?, at(1)))?;
+    events.push(Event::Rec(Record::new(alloc)?, at(2)))?;
+    events.push(Event::Rec(Record::new(alloc)?, at(3)))?;
+    Ok(events)
+}
+
+/// A chain, what comes out before the first record, what comes out then, and whether the chain
+/// is stopped.
+type Row = (&'static [Words], [u64; 4], [u64; 4], bool);
+
+/// Whether a chain of such verbs makes this of three records.
+fn makes_of_three(alloc: Global, row: &Row) -> Result<bool, NoMemory> {
+    let verbs = verbs_of(alloc, Source::Stdin, row.0)?;
+    let mut first = Events::new(alloc);
+    let mut stages = chain_of(alloc, &verbs, &mut first)?;
+    let mut events = three_records(alloc)?;
+    stages.take_all(&mut events)?;
+    Ok(numbers(&first) == row.1 && numbers(&events) == row.2 && stages.stopped() == row.3)
+}
+
+const NONE: [u64; 4] = [0; 4];
+
+/// Heads after one another.
+const CHAINS: [Row; 6] = [
+    (&[], NONE, [1, 2, 3, 0], false),
+    (&[Words::Head(4), Words::Head(5)], NONE, [1, 2, 3, 0], false),
+    (&[Words::Head(3)], NONE, [1, 2, 3, 9], true),
+    (&[Words::Head(2), Words::Head(1)], NONE, [1, 9, 0, 0], true),
+    (&[Words::Head(1), Words::Head(2)], NONE, [1, 9, 0, 0], true),
+    (&[Words::Head(1), Words::Head(0)], [9, 0, 0, 0], NONE, true),
+];
+
+fn first_wrong_chain(alloc: Global) -> Result<Option<usize>, NoMemory> {
+    for (i, row) in CHAINS.iter().enumerate() {
+        if !makes_of_three(alloc, row)? {
+            return Ok(Some(i));
+        }
+    }
+    Ok(None)
+}
+
+#[test]
+fn heads_stop_their_chain(rt: HostRuntime) -> Result<(), NoMemory> {
+    assert_eq!(rt; first_wrong_chain(rt.alloc())?, None);
     Ok(())
+}
+
+/// A plan, and what it makes of standard input with a text.
+struct Case {
+    name: &'static str,
+    source: Source,
+    verbs: &'static [Words],
+    text: &'static str,
+    want: &'static str,
+}
+
+/// Plans over standard input, and without it.
+const CASES: [Case; 9] = [
+    Case {
+        name: "no verb",
+        source: Source::Stdin,
+        verbs: &[],
+        text: "a=1\nb=2\n",
+        want: "a=1\nb=2\n",
+    },
+    Case {
+        name: "two heads",
+        source: Source::Stdin,
+        verbs: &[Words::Head(3), Words::Head(2)],
+        text: "a=1\na=2\na=3\na=4\n",
+        want: "a=1\na=2\n",
+    },
+    Case {
+        name: "a head of no records",
+        source: Source::Unopened,
+        verbs: &[Words::Head(1), Words::Head(0)],
+        text: "a=1\n",
+        want: "",
+    },
+    Case {
+        name: "no input",
+        source: Source::NoInput,
+        verbs: &[],
+        text: "a=1\n",
+        want: "",
+    },
+    Case {
+        name: "verbs beyond the words",
+        source: Source::Stdin,
+        verbs: &[
+            Words::FillDown("g"),
+            Words::Cat("n", "g"),
+            Words::Sec2Gmt("t"),
+        ],
+        text: "g=x,t=0\nt=1500000000\ng=y,t=1\n",
+        want: "n=1,g=x,t=1970-01-01T00:00:00Z\nn=2,t=2017-07-14T02:40:00Z,g=x\nn=1,g=y,t=1970-01-01T00:00:01Z\n",
+    },
+    Case {
+        name: "numbers",
+        source: Source::Numbers(1, 10, 4),
+        verbs: &[Words::Head(2)],
+        text: "a=1\n",
+        want: "i=1\ni=5\n",
+    },
+    Case {
+        name: "numbers that fall",
+        source: Source::Numbers(3, -100, -2),
+        verbs: &[Words::Head(2)],
+        text: "a=1\n",
+        want: "i=3\ni=1\n",
+    },
+    Case {
+        name: "one number",
+        source: Source::Numbers(5, 5, -1),
+        verbs: &[Words::Head(2)],
+        text: "a=1\n",
+        want: "i=5\n",
+    },
+    Case {
+        name: "no number",
+        source: Source::Numbers(5, 1, 1),
+        verbs: &[Words::Head(2)],
+        text: "a=1\n",
+        want: "",
+    },
+];
+
+/// Whether a plan makes what the case wants, and ends well.
+fn makes(alloc: Global, plan: &Plan, case: &Case) -> Result<bool, NoMemory>
+    requires { IsSound plan.now }
+{
+    let stdin = matches!(case.source, Source::Stdin);
+    let failing: &[u64] = if stdin { &[] } else { &[1] };
+    let mut inputs = inputs_of(alloc, case.text, &[], failing)?;
+    let mut outputs = outputs_of(alloc)?;
+    let ended = run_serial(alloc, plan, &mut inputs, &mut outputs);
+    let made = outputs.bytes_of(&Target::Stdout) == Some(case.want.as_bytes());
+    // The call that fails is still to come.
+    let unopened = inputs.open(&InputName::Stdin) == Opened::Failed;
+    Ok(ended == Ended::Done && made && (stdin || unopened))
+}
+
+/// Whether a copy of a plan does so.
+fn copy_makes(alloc: Global, plan: &Plan, case: &Case) -> Result<bool, NoMemory>
+    requires { IsSound plan.now }
+{
+    match plan.copy(alloc) {
+        Ok(copy) => makes(alloc, &copy, case),
+        Err(error) => Err(error),
+    }
+}
+
+/// Whether a case's plan and its copy make the wanted text.
+fn both_make(alloc: Global, case: &Case) -> Result<bool, NoMemory> {
+    let mut plan = plan_of(alloc, verbs_of(alloc, case.source, case.verbs)?)?;
+    plan.no_input = matches!(case.source, Source::NoInput);
+    Ok(makes(alloc, &plan, case)? && copy_makes(alloc, &plan, case)?)
+}
+
+/// The name of the first case whose plan makes another text.
+fn first_wrong_plan(alloc: Global) -> Result<Option<&'static str>, NoMemory> {
+    for case in CASES.iter() {
+        if !both_make(alloc, case)? {
+            return Ok(Some(case.name));
+        }
+    }
+    Ok(None)
+}
+
+#[test]
+fn plans_and_their_copies_make_the_wanted_text(rt: HostRuntime) -> Result<(), NoMemory> {
+    assert_eq!(rt; first_wrong_plan(rt.alloc())?, None);
+    Ok(())
+}
+
+/// Outputs that count the bytes that they are given.
+#[derive(Drop)]
+struct Counting<'a> {
+    outputs: MemOutputs,
+    written: &'a Cell<usize>,
+}
+
+impl<'a> Counting<'a> {
+    fn new(outputs: MemOutputs, written: &'a Cell<usize>) -> Self {
+        Counting { outputs, written }
+    }
+}
+
+impl Outputs for Counting<'_> {
+    ghost held = { λ s. ⟦<MemOutputs as Outputs>⟧.held s.outputs };
+
+    ghost faults = { λ s. ⟦<MemOutputs as Outputs>⟧.faults s.outputs };
+
+    ghost shortages = { λ s. ⟦<MemOutputs as Outputs>⟧.shortages s.outputs };
+
+    fn open(&mut self, target: &Target, mode: Mode) -> Done {
+        self.outputs.open(target, mode)
+    }
+
+    fn write(&mut self, target: &Target, bytes: &[u8]) -> Done {
+        self.written
+            .set(self.written.get().saturating_add(bytes.len()));
+        self.outputs.write(target, bytes)
+    }
+
+    fn close(&mut self, target: &Target) -> Done {
+        self.outputs.close(target)
+    }
+}
+
+/// Inputs that note how many bytes had been written at each of the first two reads.
+#[derive(Drop)]
+struct Noting<'a> {
+    inputs: MemInputs,
+    written: &'a Cell<usize>,
+    reads: usize,
+    seen: [usize; 2],
+}
+
+impl<'a> Noting<'a> {
+    fn new(inputs: MemInputs, written: &'a Cell<usize>) -> Self {
+        Noting {
+            inputs,
+            written,
+            reads: 0,
+            seen: [usize::MAX; 2],
+        }
+    }
+}
+
+impl Inputs for Noting<'_> {
+    ghost contents = { λ s. ⟦<MemInputs as Inputs>⟧.contents s.inputs };
+
+    ghost taken = { λ s. ⟦<MemInputs as Inputs>⟧.taken s.inputs };
+
+    ghost open_name = { λ s. ⟦<MemInputs as Inputs>⟧.open_name s.inputs };
+
+    ghost faults = { λ s. ⟦<MemInputs as Inputs>⟧.faults s.inputs };
+
+    fn open(&mut self, name: &InputName) -> Opened {
+        self.inputs.open(name)
+    }
+
+    fn read(&mut self, max: usize, into: &mut Bytes) -> Got {
+        if let Some(seen) = self.seen.get_mut(self.reads) {
+            *seen = self.written.get();
+        }
+        self.reads = self.reads.saturating_add(1);
+        self.inputs.read(max, into)
+    }
 }
 
 #[test]

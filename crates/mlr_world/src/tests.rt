@@ -6,7 +6,6 @@ use mlr_event::{InputName, Mode, Target};
 use mlr_spec::NoMemory;
 use mlr_value::Bytes;
 use std::alloc::Global;
-use std::process::Abort;
 
 /// The input file of this name.
 fn input(alloc: Global, name: &[u8]) -> Result<InputName, NoMemory> {
@@ -86,25 +85,32 @@ const READS: [(&[usize], usize, &[u64], [Got; 5]); 6] = [
     ),
 ];
 
-/// Inputs in memory give their texts in pieces, and fail where they are set to.
-fn read_memory(rt: &impl Abort, alloc: Global) -> Result<(), NoMemory> {
-    for (pieces, max, failing, want) in &READS {
-        let mut inputs = abc(alloc, *pieces, *failing)?;
-        let mut all = Bytes::new(alloc);
-        let got = five_reads(&mut inputs, (*max).max(1), &mut all);
-        assert_eq!(rt; got, Ok(*want), "in pieces of {pieces:?}");
-        assert_eq!(rt;
-            all.as_slice(),
-            b"abc".as_slice(),
-            "in pieces of {pieces:?}"
-        );
+/// Whether five reads give what a row says, and `abc` in all.
+fn are_read(alloc: Global, row: &(&[usize], usize, &[u64], [Got; 5])) -> Result<bool, NoMemory> {
+    let (pieces, max, failing, want) = *row;
+    let mut inputs = abc(alloc, pieces, failing)?;
+    let mut all = Bytes::new(alloc);
+    let got = five_reads(&mut inputs, max.max(1), &mut all);
+    Ok(got == Ok(want) && all.as_slice() == b"abc".as_slice())
+}
+
+/// The first row whose reads give something else.
+fn first_misread(alloc: Global) -> Result<Option<usize>, NoMemory> {
+    for (i, row) in READS.iter().enumerate() {
+        if !are_read(alloc, row)? {
+            return Ok(Some(i));
+        }
     }
+    Ok(None)
+}
+
+/// Opens a file that isn't there, and standard input twice, where the second call fails.
+fn three_opens(alloc: Global) -> Result<[Opened; 3], NoMemory> {
     let mut inputs = abc(alloc, &[], &[2])?;
     let file = input(alloc, b"abc")?;
-    assert_eq!(rt; inputs.open(&file), Opened::Failed);
-    assert_eq!(rt; inputs.open(&InputName::Stdin), Opened::Failed);
-    assert_eq!(rt; inputs.open(&InputName::Stdin), Opened::Ok);
-    Ok(())
+    let missing = inputs.open(&file);
+    let failed = inputs.open(&InputName::Stdin);
+    Ok([missing, failed, inputs.open(&InputName::Stdin)])
 }
 
 /// Opens an input and reads three times.
@@ -135,39 +141,45 @@ fn sure_inputs(alloc: Global) -> Result<SureInputs, NoMemory> {
     SureInputs::new(alloc, contents)
 }
 
-/// Inputs that never fail give the first entry of a name, and no bytes for other names.
-fn read_sure(rt: &impl Abort, alloc: Global) -> Result<(), NoMemory> {
+/// Whether a file's first entry alone is read.
+fn is_first_entry_read(alloc: Global) -> Result<bool, NoMemory> {
     let mut inputs = sure_inputs(alloc)?;
-    let file = input(alloc, b"in")?;
     let mut all = Bytes::new(alloc);
-    let got = three_reads(&mut inputs, &file, 2, &mut all);
-    assert_eq!(rt; got, Ok([Got::Some(2), Got::Some(1), Got::End]));
-    assert_eq!(rt; all.as_slice(), b"abc".as_slice());
+    let got = three_reads(&mut inputs, &input(alloc, b"in")?, 2, &mut all);
+    Ok(got == Ok([Got::Some(2), Got::Some(1), Got::End]) && all.as_slice() == b"abc".as_slice())
+}
 
+/// Whether a file without an entry is empty, each time that it is opened.
+fn is_other_empty(alloc: Global) -> Result<bool, NoMemory> {
     let mut inputs = sure_inputs(alloc)?;
     let other = input(alloc, b"other")?;
     let mut all = Bytes::new(alloc);
-    for _ in 0..2 {
-        let got = three_reads(&mut inputs, &other, 9, &mut all);
-        assert_eq!(rt; got, Ok([Got::End, Got::End, Got::End]));
-    }
-    assert!(rt; all.is_empty());
-
-    let mut inputs = sure_inputs(alloc)?;
-    for name in [&InputName::Stdin, &other, &InputName::Stdin] {
-        let got = three_reads(&mut inputs, name, 1, &mut all);
-        assert!(rt; got.is_ok());
-    }
-    assert_eq!(rt; all.as_slice(), b"xyxy".as_slice());
-    Ok(())
+    let first = three_reads(&mut inputs, &other, 9, &mut all);
+    let second = three_reads(&mut inputs, &other, 9, &mut all);
+    let empty = Ok([Got::End, Got::End, Got::End]);
+    Ok(first == empty && second == empty && all.is_empty())
 }
 
-/// Writes `new` in two pieces.
-fn write_new<O: Outputs>(rt: &impl Abort, outputs: &mut O, target: &Target, mode: Mode) {
-    assert_eq!(rt; outputs.open(target, mode), Done::Ok);
-    assert_eq!(rt; outputs.write(target, b"ne"), Done::Ok);
-    assert_eq!(rt; outputs.write(target, b"w"), Done::Ok);
-    assert_eq!(rt; outputs.close(target), Done::Ok);
+/// What standard input, another file and standard input again give, a byte a read.
+fn read_again(alloc: Global) -> Result<Bytes, NoMemory> {
+    let mut inputs = sure_inputs(alloc)?;
+    let other = input(alloc, b"other")?;
+    let mut all = Bytes::new(alloc);
+    for name in [&InputName::Stdin, &other, &InputName::Stdin] {
+        if three_reads(&mut inputs, name, 1, &mut all).is_err() {
+            all.push(b'!')?;
+        }
+    }
+    Ok(all)
+}
+
+/// Whether `new` is written in two pieces.
+fn is_new_written<O: Outputs>(outputs: &mut O, target: &Target, mode: Mode) -> bool {
+    let opened = outputs.open(target, mode);
+    let first = outputs.write(target, b"ne");
+    let second = outputs.write(target, b"w");
+    let closed = outputs.close(target);
+    [opened, first, second, closed] == [Done::Ok; 4]
 }
 
 /// Outputs that hold `old` in a file.
@@ -177,32 +189,51 @@ fn outputs(alloc: Global, room: usize, failing: &[u64]) -> Result<MemOutputs, No
     MemOutputs::new(alloc, held, room, Vec::from_slice(alloc, failing)?)
 }
 
-/// Outputs in memory keep the bytes written while they have room, and fail where they are set to.
-fn write_memory(rt: &impl Abort, alloc: Global) -> Result<(), NoMemory> {
+/// Whether a file holds this after `new` was written to it, and standard output nothing.
+fn holds_after_new(alloc: Global, mode: Mode, want: &[u8]) -> Result<bool, NoMemory> {
     let file = target(alloc, b"out")?;
-    for (mode, want) in [(Mode::Fresh, b"new" as &[u8]), (Mode::Append, b"oldnew")] {
-        let mut outputs = outputs(alloc, 100, &[])?;
-        assert_eq!(rt; outputs.bytes_of(&file), Some(b"old" as &[u8]));
-        write_new(rt, &mut outputs, &file, mode);
-        assert_eq!(rt; outputs.bytes_of(&file), Some(want));
-        assert_eq!(rt; outputs.bytes_of(&Target::Stdout), Some(b"" as &[u8]));
-    }
-    let other = target(alloc, b"other")?;
-    let mut given = outputs(alloc, 100, &[])?;
-    assert_eq!(rt; given.bytes_of(&other), None);
-    assert_eq!(rt; given.write(&other, b"text"), Done::Failed);
-    assert_eq!(rt; given.close(&other), Done::Failed);
-    assert_eq!(rt; given.bytes_of(&other), None);
-    assert_eq!(rt; given.open(&other, Mode::Append), Done::Ok);
-    assert_eq!(rt; given.bytes_of(&other), Some(b"" as &[u8]));
+    let mut outputs = outputs(alloc, 100, &[])?;
+    let before = outputs.bytes_of(&file) == Some(b"old");
+    let written = is_new_written(&mut outputs, &file, mode);
+    let nothing: &[u8] = b"";
+    Ok(
+        before
+            && written
+            && outputs.bytes_of(&file) == Some(want)
+            && outputs.bytes_of(&Target::Stdout) == Some(nothing),
+    )
+}
 
+/// Whether a file that isn't open is neither written nor closed, and is empty once it is opened.
+fn is_opened_first(alloc: Global) -> Result<bool, NoMemory> {
+    let other = target(alloc, b"other")?;
+    let mut outputs = outputs(alloc, 100, &[])?;
+    let written = outputs.write(&other, b"text");
+    let closed = outputs.close(&other);
+    let missing = outputs.bytes_of(&other).is_none();
+    let opened = outputs.open(&other, Mode::Append);
+    let nothing: &[u8] = b"";
+    Ok(
+        [written, closed, opened] == [Done::Failed, Done::Failed, Done::Ok]
+            && missing
+            && outputs.bytes_of(&other) == Some(nothing),
+    )
+}
+
+/// Whether a write that fails leaves half of its bytes, and one without room as many as there is
+/// room for.
+fn is_room_kept(alloc: Global) -> Result<bool, NoMemory> {
     let mut full = outputs(alloc, 7, &[2])?;
-    assert_eq!(rt; full.write(&Target::Stdout, b"ab"), Done::Ok);
-    assert_eq!(rt; full.write(&Target::Stdout, b"cdef"), Done::Failed);
-    assert_eq!(rt; full.bytes_of(&Target::Stdout), Some(b"abcd" as &[u8]));
-    assert_eq!(rt; full.write(&Target::Stderr, b"past the room"), Done::Failed);
-    assert_eq!(rt; full.bytes_of(&Target::Stderr), Some(b"pas" as &[u8]));
-    Ok(())
+    let first = full.write(&Target::Stdout, b"ab");
+    let second = full.write(&Target::Stdout, b"cdef");
+    let third = full.write(&Target::Stderr, b"past the room");
+    let half: &[u8] = b"abcd";
+    let rest: &[u8] = b"pas";
+    Ok(
+        [first, second, third] == [Done::Ok, Done::Failed, Done::Failed]
+            && full.bytes_of(&Target::Stdout) == Some(half)
+            && full.bytes_of(&Target::Stderr) == Some(rest),
+    )
 }
 
 /// Outputs that never fail: `old` and then `second` in entries of one file.
@@ -213,38 +244,64 @@ fn sure_outputs(alloc: Global) -> Result<SureOutputs, NoMemory> {
     SureOutputs::new(alloc, held)
 }
 
-/// Outputs that never fail keep what is written to targets that are open.
-fn write_sure(rt: &impl Abort, alloc: Global) -> Result<(), NoMemory> {
+/// Whether a file of outputs that never fail holds this after `new` was written to it.
+fn surely_holds_after_new(alloc: Global, mode: Mode, want: &[u8]) -> Result<bool, NoMemory> {
     let file = target(alloc, b"out")?;
-    for (mode, want) in [(Mode::Fresh, b"new" as &[u8]), (Mode::Append, b"oldnew")] {
-        let mut outputs = sure_outputs(alloc)?;
-        assert_eq!(rt; outputs.bytes_of(&file), Some(b"old" as &[u8]));
-        write_new(rt, &mut outputs, &file, mode);
-        assert_eq!(rt; outputs.bytes_of(&file), Some(want));
-    }
     let mut outputs = sure_outputs(alloc)?;
-    assert_eq!(rt; outputs.write(&Target::Stdout, b"a"), Done::Ok);
-    assert_eq!(rt; outputs.write(&Target::Stdout, b"b"), Done::Ok);
-    assert_eq!(rt; outputs.bytes_of(&Target::Stdout), Some(b"ab" as &[u8]));
-    assert_eq!(rt; outputs.bytes_of(&Target::Stderr), Some(b"" as &[u8]));
+    let before = outputs.bytes_of(&file) == Some(b"old");
+    let written = is_new_written(&mut outputs, &file, mode);
+    Ok(before && written && outputs.bytes_of(&file) == Some(want))
+}
 
+/// Whether standard output takes two writes and standard error is empty.
+fn are_streams_apart(alloc: Global) -> Result<bool, NoMemory> {
+    let mut outputs = sure_outputs(alloc)?;
+    let first = outputs.write(&Target::Stdout, b"a");
+    let second = outputs.write(&Target::Stdout, b"b");
+    let both: &[u8] = b"ab";
+    let nothing: &[u8] = b"";
+    Ok(
+        [first, second] == [Done::Ok; 2]
+            && outputs.bytes_of(&Target::Stdout) == Some(both)
+            && outputs.bytes_of(&Target::Stderr) == Some(nothing),
+    )
+}
+
+/// Whether a file takes a write once it is open, and not before.
+fn is_surely_opened_first(alloc: Global) -> Result<bool, NoMemory> {
     let other = target(alloc, b"other")?;
     let mut outputs = sure_outputs(alloc)?;
-    assert_eq!(rt; outputs.close(&other), Done::Ok);
-    assert_eq!(rt; outputs.write(&other, b"text"), Done::NoMemory);
-    assert_eq!(rt; outputs.bytes_of(&other), None);
-    assert_eq!(rt; outputs.open(&other, Mode::Append), Done::Ok);
-    assert_eq!(rt; outputs.write(&other, b"text"), Done::Ok);
-    assert_eq!(rt; outputs.bytes_of(&other), Some(b"text" as &[u8]));
-    Ok(())
+    let closed = outputs.close(&other);
+    let unopened = outputs.write(&other, b"text");
+    let missing = outputs.bytes_of(&other).is_none();
+    let opened = outputs.open(&other, Mode::Append);
+    let written = outputs.write(&other, b"text");
+    let text: &[u8] = b"text";
+    Ok(
+        [closed, unopened, opened, written] == [Done::Ok, Done::NoMemory, Done::Ok, Done::Ok]
+            && missing
+            && outputs.bytes_of(&other) == Some(text),
+    )
 }
 
 #[test]
 fn memory_gives_its_texts_and_keeps_what_is_written(rt: HostRuntime) -> Result<(), NoMemory> {
     let alloc = rt.alloc();
-    read_memory(&rt, alloc)?;
-    read_sure(&rt, alloc)?;
-    write_memory(&rt, alloc)?;
-    write_sure(&rt, alloc)?;
+    assert_eq!(rt; first_misread(alloc)?, None);
+    assert_eq!(rt;
+        three_opens(alloc)?,
+        [Opened::Failed, Opened::Failed, Opened::Ok]
+    );
+    assert!(rt; is_first_entry_read(alloc)?);
+    assert!(rt; is_other_empty(alloc)?);
+    assert_eq!(rt; read_again(alloc)?.as_slice(), b"xyxy".as_slice());
+    assert!(rt; holds_after_new(alloc, Mode::Fresh, b"new")?);
+    assert!(rt; holds_after_new(alloc, Mode::Append, b"oldnew")?);
+    assert!(rt; is_opened_first(alloc)?);
+    assert!(rt; is_room_kept(alloc)?);
+    assert!(rt; surely_holds_after_new(alloc, Mode::Fresh, b"new")?);
+    assert!(rt; surely_holds_after_new(alloc, Mode::Append, b"oldnew")?);
+    assert!(rt; are_streams_apart(alloc)?);
+    assert!(rt; is_surely_opened_first(alloc)?);
     Ok(())
 }

@@ -4,7 +4,7 @@
 mod laws;
 mod outlet;
 #[cfg(test)]
-mod outlet_tests;
+mod tests;
 
 pub use laws::outlet_laws;
 pub use outlet::{Let, Outlet};

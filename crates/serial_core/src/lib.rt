@@ -7,7 +7,7 @@ mod first_record;
 mod reader;
 mod serial;
 #[cfg(test)]
-mod serial_tests;
+mod tests;
 
 pub use answer::{Ended, Refusal, Why};
 pub use reader::Reader;

@@ -3,27 +3,19 @@
 #![tactic(auto)]
 
 mod copies;
-#[cfg(test)]
-mod copies_tests;
 mod each;
-#[cfg(test)]
-mod fields_tests;
 mod kind;
 mod options;
 mod outcome;
 mod repeat;
 mod spec;
 #[cfg(test)]
-mod state_tests;
+mod test_rows;
 #[cfg(test)]
-mod thread_tests;
+mod test_verbs;
 #[cfg(test)]
-mod trying;
-#[cfg(test)]
-mod values_tests;
+mod tests;
 mod verb;
-#[cfg(test)]
-mod verb_tests;
 
 pub use spec::{
     Cut, CutFields, HavingFields, Label, Rename, Reorder, Repeat, SortWithinRecords, Sparsify,

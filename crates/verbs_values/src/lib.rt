@@ -2,8 +2,6 @@
 //! `flatten` and `unflatten`; and values as JSON texts and back.
 #![tactic(auto)]
 
-#[cfg(test)]
-mod copies_tests;
 mod fill_empty;
 mod flatten;
 mod json;

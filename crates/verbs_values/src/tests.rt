@@ -1,6 +1,4 @@
-//! Records before and after the verbs that change values.
-ghost use Rattle.std.specs.Prelude.{◌≡◌, IfOk, codes};
-
+//! The output of the verbs for records that are JSON texts, and values as JSON texts and back.
 use crate::{
     FillEmpty, Flatten, JsonParse, JsonStringify, Sec2Gmt, Sec2GmtDate, Unflatten, decoded_law,
     json_decode, json_encode,
@@ -12,11 +10,29 @@ use mlr_value::{Bytes, Value, append_text, from_data};
 use std::alloc::Global;
 use text_forms::append_shown;
 
+/// A verb with its options as plain texts.
+#[derive(Clone, Copy)]
+enum Verb {
+    /// The text, and whether it is a string.
+    FillEmpty(&'static str, bool),
+    Sec2Gmt(&'static [&'static str]),
+    Sec2GmtDate(&'static [&'static str]),
+    JsonParse(Given),
+    JsonStringify(Given),
+    /// The names, and the separator.
+    Flatten(Given, &'static str),
+    /// The names, and the separator.
+    Unflatten(Given, &'static str),
+}
+
+/// The names that a verb is given, if any.
+type Given = Option<&'static [&'static str]>;
+
 /// Names of fields, as the options of verbs have them.
-fn names(alloc: Global, of: &[&[u8]]) -> Result<Names, NoMemory> {
+fn names(alloc: Global, of: &[&str]) -> Result<Names, NoMemory> {
     let mut names = Names::new(alloc);
     for name in of {
-        names.push(Bytes::copy_of(alloc, name)?)?;
+        names.push(Bytes::copy_of(alloc, name.as_bytes())?)?;
     }
     Ok(names)
 }
@@ -61,309 +77,422 @@ fn kind(value: &Value) -> u8 {
     }
 }
 
-#[test]
-fn empty_values_filled(rt: HostRuntime) -> Result<(), NoMemory> {
-    let alloc = rt.alloc();
-    let table: [(&[u8], bool, &[u8]); 6] = [
-        (b"N/A", false, b"a#1 b:N/A c:x d:N/A e@{\"f\": \"\"} "),
-        (b"N/A", true, b"a#1 b:N/A c:x d:N/A e@{\"f\": \"\"} "),
-        (b"0", false, b"a#1 b#0 c:x d#0 e@{\"f\": \"\"} "),
-        (b"0", true, b"a#1 b:0 c:x d:0 e@{\"f\": \"\"} "),
-        (b"", false, b"a#1 b= c:x d= e@{\"f\": \"\"} "),
-        (b"", true, b"a#1 b= c:x d= e@{\"f\": \"\"} "),
-    ];
-    for (i, row) in table.iter().enumerate() {
-        let (text, as_string, want) = *row;
-        let verb = FillEmpty {
-            text: Bytes::copy_of(alloc, text)?,
-            as_string,
-        };
-        let from = record_of(
-            alloc,
-            br#"{"a": 1, "b": "", "c": "x", "d": "", "e": {"f": ""}}"#,
-        )?;
-        let made = verb.take(alloc, from)?;
-        assert_eq!(rt; printed(alloc, &made)?.as_slice(), want, "at {i}");
+/// The names that a verb is given, if any.
+fn some_names(alloc: Global, given: Given) -> Result<Option<Names>, NoMemory> {
+    match given {
+        Some(given) => Ok(Some(names(alloc, given)?)),
+        None => Ok(None),
     }
-    Ok(())
+}
+
+/// What a copy of a verb makes of a record. The verb itself holds the same options.
+fn made(alloc: Global, verb: Verb, from: Record) -> Result<Record, NoMemory> {
+    match verb {
+        Verb::FillEmpty(text, as_string) => {
+            let text = Bytes::copy_of(alloc, text.as_bytes())?;
+            FillEmpty { text, as_string }.copy(alloc)?.take(alloc, from)
+        }
+        Verb::Sec2Gmt(given) => {
+            let names = names(alloc, given)?;
+            Sec2Gmt { names }.copy(alloc)?.take(alloc, from)
+        }
+        Verb::Sec2GmtDate(given) => {
+            let names = names(alloc, given)?;
+            Sec2GmtDate { names }.copy(alloc)?.take(alloc, from)
+        }
+        Verb::JsonParse(given) => {
+            let names = some_names(alloc, given)?;
+            JsonParse { names }.copy(alloc)?.take(alloc, from)
+        }
+        Verb::JsonStringify(given) => {
+            let names = some_names(alloc, given)?;
+            JsonStringify { names }.copy(alloc)?.take(alloc, from)
+        }
+        Verb::Flatten(given, separator) => {
+            let names = some_names(alloc, given)?;
+            let separator = Bytes::copy_of(alloc, separator.as_bytes())?;
+            Flatten { names, separator }.copy(alloc)?.take(alloc, from)
+        }
+        Verb::Unflatten(given, separator) => {
+            let names = some_names(alloc, given)?;
+            let separator = Bytes::copy_of(alloc, separator.as_bytes())?;
+            if 0 < separator.len() {
+                Unflatten { names, separator }.copy(alloc)?.take(from)
+            } else {
+                Ok(from)
+            }
+        }
+    }
+}
+
+/// A verb, the record that it takes as JSON, and what it makes of it, as `printed` shows it.
+type Row = (Verb, &'static str, &'static str);
+
+/// A name or a text that is allocated.
+const LONG: &str = "a text of more bytes than lie inline";
+
+const EMPTY: &str = r#"{"a": 1, "b": "", "c": "x", "d": "", "e": {"f": ""}}"#;
+
+const SECONDS: &str = r#"{"t": 1500000000, "u": "hello", "v": 0, "w": ""}"#;
+
+/// Empty values that are filled, and seconds as dates.
+const FILLED: [Row; 11] = [
+    (
+        Verb::FillEmpty("N/A", false),
+        EMPTY,
+        r#"a#1 b:N/A c:x d:N/A e@{"f": ""} "#,
+    ),
+    (
+        Verb::FillEmpty("N/A", true),
+        EMPTY,
+        r#"a#1 b:N/A c:x d:N/A e@{"f": ""} "#,
+    ),
+    (
+        Verb::FillEmpty("0", false),
+        EMPTY,
+        r#"a#1 b#0 c:x d#0 e@{"f": ""} "#,
+    ),
+    (
+        Verb::FillEmpty("0", true),
+        EMPTY,
+        r#"a#1 b:0 c:x d:0 e@{"f": ""} "#,
+    ),
+    (
+        Verb::FillEmpty("", false),
+        EMPTY,
+        r#"a#1 b= c:x d= e@{"f": ""} "#,
+    ),
+    (
+        Verb::FillEmpty("", true),
+        EMPTY,
+        r#"a#1 b= c:x d= e@{"f": ""} "#,
+    ),
+    (
+        Verb::FillEmpty(LONG, true),
+        r#"{"a": ""}"#,
+        "a:a text of more bytes than lie inline ",
+    ),
+    (
+        Verb::Sec2Gmt(&["t", "u", "w", "x"]),
+        SECONDS,
+        "t:2017-07-14T02:40:00Z u:hello v#0 w= ",
+    ),
+    (
+        Verb::Sec2GmtDate(&["v", "t"]),
+        SECONDS,
+        "t:2017-07-14 u:hello v:1970-01-01 w= ",
+    ),
+    (
+        Verb::Sec2Gmt(&["a", LONG]),
+        r#"{"a": 0, "a text of more bytes than lie inline": 1, "b": 2}"#,
+        "a:1970-01-01T00:00:00Z a text of more bytes than lie inline:1970-01-01T00:00:01Z b#2 ",
+    ),
+    (
+        Verb::Sec2GmtDate(&["a", LONG]),
+        r#"{"a": 0, "a text of more bytes than lie inline": 1, "b": 2}"#,
+        "a:1970-01-01 a text of more bytes than lie inline:1970-01-01 b#2 ",
+    ),
+];
+
+const KINDS: &str =
+    r#"{"a": 0x1F, "b": "x", "c": "", "d": true, "e": {"f": [1, {"g": 2}]}, "h": [], "i": 1.50}"#;
+
+/// Values as JSON texts, and texts that are parsed.
+const JSON: [Row; 5] = [
+    (
+        Verb::JsonParse(Some(&["b", "c", "z"])),
+        r#"{"a": "3", "b": "4", "c": true, "d": {"e": "5"}, "f": ["6"]}"#,
+        r#"a:3 b#4 c?true d@{"e": "5"} f&["6"] "#,
+    ),
+    (
+        Verb::JsonStringify(None),
+        KINDS,
+        r#"a:0x1F b:"x" c:"" d:true e:{"f": [1, {"g": 2}]} h:[] i:1.50 "#,
+    ),
+    (
+        Verb::JsonStringify(Some(&["e", "a"])),
+        KINDS,
+        r#"a:0x1F b:x c= d?true e:{"f": [1, {"g": 2}]} h&[] i~1.50 "#,
+    ),
+    (
+        Verb::JsonParse(Some(&["a", LONG])),
+        r#"{"a": "3", "a text of more bytes than lie inline": "4", "b": "5"}"#,
+        "a#3 a text of more bytes than lie inline#4 b:5 ",
+    ),
+    (
+        Verb::JsonStringify(Some(&["a", LONG])),
+        r#"{"a": 3, "a text of more bytes than lie inline": 4, "b": 5}"#,
+        "a:3 a text of more bytes than lie inline:4 b#5 ",
+    ),
+];
+
+const NESTED: &str =
+    r#"{"a": {"x": 1, "y": {"z": 2}}, "b": [3, {}], "a:y:z": 4, "c": {"d": []}, "e": ""}"#;
+
+/// Maps and arrays that are flattened.
+const FLATTENED: [Row; 8] = [
+    (
+        Verb::Flatten(None, ":"),
+        NESTED,
+        "a:x#1 a:y:z#4 b:1#3 b:2:{} c:d:[] e= ",
+    ),
+    (
+        Verb::Flatten(Some(&["a"]), ":"),
+        NESTED,
+        r#"a:x#1 a:y:z#4 b&[3, {}] c@{"d": []} e= "#,
+    ),
+    (
+        Verb::Flatten(Some(&["c", "e", "b"]), ":"),
+        NESTED,
+        r#"a@{"x": 1, "y": {"z": 2}} b:1#3 b:2:{} a:y:z#4 c:d:[] e= "#,
+    ),
+    (
+        Verb::Flatten(Some(&["a:y:z", "e"]), ":"),
+        NESTED,
+        r#"a@{"x": 1, "y": {"z": 2}} b&[3, {}] a:y:z#4 c@{"d": []} e= "#,
+    ),
+    (
+        Verb::Flatten(Some(&["x"]), ":"),
+        NESTED,
+        r#"a@{"x": 1, "y": {"z": 2}} b&[3, {}] a:y:z#4 c@{"d": []} e= "#,
+    ),
+    (
+        Verb::Flatten(Some(&[]), ":"),
+        NESTED,
+        r#"a@{"x": 1, "y": {"z": 2}} b&[3, {}] a:y:z#4 c@{"d": []} e= "#,
+    ),
+    (
+        Verb::Flatten(None, ".."),
+        r#"{"a": {"b": [{"c": 1}]}}"#,
+        "a..b..1..c#1 ",
+    ),
+    (
+        Verb::Flatten(Some(&["a", LONG]), "a"),
+        r#"{"a": {"x": 1}, "a text of more bytes than lie inline": {"y": 2}, "b": {"z": 3}}"#,
+        r#"aax#1 a text of more bytes than lie inlineay#2 b@{"z": 3} "#,
+    ),
+];
+
+const PATHS: &str = r#"{"a.b": 1, "c.d": 2, "a.e": 3}"#;
+
+const TEXTS: &str = r#"{"x": "{}", "y": "{}", "z.1": "[]", "w": "[]", "v.1": "{}"}"#;
+
+const IN_THE_WAY: &str = r#"{"a": 1, "c": 5, "a.b": 2, "c.d": 3, "a.b.e": 4}"#;
+
+/// Fields that are unflattened to maps and arrays.
+const UNFLATTENED: [Row; 17] = [
+    (
+        Verb::Unflatten(None, "."),
+        PATHS,
+        r#"a@{"b": 1, "e": 3} c@{"d": 2} "#,
+    ),
+    (
+        Verb::Unflatten(Some(&["a"]), "."),
+        PATHS,
+        r#"a@{"b": 1, "e": 3} c.d#2 "#,
+    ),
+    (
+        Verb::Unflatten(Some(&["c"]), "."),
+        PATHS,
+        r#"a.b#1 c@{"d": 2} a.e#3 "#,
+    ),
+    (
+        Verb::Unflatten(Some(&["c", "x", "a"]), "."),
+        PATHS,
+        r#"a@{"b": 1, "e": 3} c@{"d": 2} "#,
+    ),
+    (
+        Verb::Unflatten(Some(&["b", "a.b", ""]), "."),
+        PATHS,
+        "a.b#1 c.d#2 a.e#3 ",
+    ),
+    (Verb::Unflatten(Some(&[]), "."), PATHS, "a.b#1 c.d#2 a.e#3 "),
+    (
+        Verb::Unflatten(None, "."),
+        TEXTS,
+        "x@{} y@{} z&[[]] w&[] v&[{}] ",
+    ),
+    (
+        Verb::Unflatten(Some(&["z", "x"]), "."),
+        TEXTS,
+        "x@{} y:{} z&[[]] w:[] v.1:{} ",
+    ),
+    (
+        Verb::Unflatten(Some(&["w"]), "."),
+        TEXTS,
+        "x:{} y:{} z.1:[] w&[] v.1:{} ",
+    ),
+    (
+        Verb::Unflatten(None, "."),
+        IN_THE_WAY,
+        r#"a@{"b": {"e": 4}} c@{"d": 3} "#,
+    ),
+    (
+        Verb::Unflatten(Some(&["a"]), "."),
+        IN_THE_WAY,
+        r#"a@{"b": {"e": 4}} c#5 c.d#3 "#,
+    ),
+    (
+        Verb::Unflatten(Some(&["c"]), "."),
+        IN_THE_WAY,
+        r#"a#1 c@{"d": 3} a.b#2 a.b.e#4 "#,
+    ),
+    (
+        Verb::Unflatten(Some(&["a"]), "."),
+        r#"{"a.b": 1, "z": 0, "a": 2}"#,
+        "a#2 z#0 ",
+    ),
+    (
+        Verb::Unflatten(Some(&["a"]), "."),
+        r#"{"a": {"x": 1}, "a.y": 2}"#,
+        r#"a@{"x": 1, "y": 2} "#,
+    ),
+    (
+        Verb::Unflatten(Some(&["a", ""]), "."),
+        r#"{"a.": 1, ".b": 2, "": 3}"#,
+        r#"a@{"": 1} #3 "#,
+    ),
+    (
+        Verb::Unflatten(Some(&["a", "b:"]), "::"),
+        r#"{"a::b:c": 1, "a:d": 2, "b:::1": "{}", "c::d": 3}"#,
+        r#"a@{"b:c": 1} a:d#2 b:::1:{} c::d#3 "#,
+    ),
+    (
+        Verb::Unflatten(None, LONG),
+        r#"{"xa text of more bytes than lie inliney": 1, "z": 2}"#,
+        r#"x@{"y": 1} z#2 "#,
+    ),
+];
+
+/// The first row whose verb makes another record.
+fn first_wrong(alloc: Global, rows: &[Row]) -> Result<Option<usize>, NoMemory> {
+    for (i, row) in rows.iter().enumerate() {
+        let (verb, json, want) = *row;
+        let made = made(alloc, verb, record_of(alloc, json.as_bytes())?)?;
+        if printed(alloc, &made)?.as_slice() != want.as_bytes() {
+            return Ok(Some(i));
+        }
+    }
+    Ok(None)
+}
+
+fn first_wrong_filled(alloc: Global) -> Result<Option<usize>, NoMemory> {
+    first_wrong(alloc, &FILLED)
+}
+
+fn first_wrong_json(alloc: Global) -> Result<Option<usize>, NoMemory> {
+    first_wrong(alloc, &JSON)
+}
+
+fn first_wrong_flattened(alloc: Global) -> Result<Option<usize>, NoMemory> {
+    first_wrong(alloc, &FLATTENED)
+}
+
+fn first_wrong_unflattened(alloc: Global) -> Result<Option<usize>, NoMemory> {
+    first_wrong(alloc, &UNFLATTENED)
 }
 
 #[test]
-fn named_seconds_dated(rt: HostRuntime) -> Result<(), NoMemory> {
+fn verbs_make_the_wanted_records(rt: HostRuntime) -> Result<(), NoMemory> {
     let alloc = rt.alloc();
-    let json = br#"{"t": 1500000000, "u": "hello", "v": 0, "w": ""}"#;
-    let verb = Sec2Gmt {
-        names: names(alloc, &[b"t", b"u", b"w", b"x"])?,
-    };
-    let made = verb.take(alloc, record_of(alloc, json)?)?;
-    assert_eq!(rt;
-        printed(alloc, &made)?.as_slice(),
-        b"t:2017-07-14T02:40:00Z u:hello v#0 w= ".as_slice()
-    );
-    let verb = Sec2GmtDate {
-        names: names(alloc, &[b"v", b"t"])?,
-    };
-    let made = verb.take(alloc, record_of(alloc, json)?)?;
-    assert_eq!(rt;
-        printed(alloc, &made)?.as_slice(),
-        b"t:2017-07-14 u:hello v:1970-01-01 w= ".as_slice()
-    );
+    assert_eq!(rt; first_wrong_filled(alloc)?, None);
+    assert_eq!(rt; first_wrong_json(alloc)?, None);
+    assert_eq!(rt; first_wrong_flattened(alloc)?, None);
+    assert_eq!(rt; first_wrong_unflattened(alloc)?, None);
     Ok(())
 }
 
-#[test]
-fn texts_parsed_as_json(rt: HostRuntime) -> Result<(), NoMemory> {
-    let alloc = rt.alloc();
-    let table: [(&[u8], &[u8]); 14] = [
-        (b"3", b"a#3 "),
-        (b"0x1F", b"a#0x1F "),
-        (b"-0.50", b"a~-0.50 "),
-        (b"9223372036854775808", b"a^9223372036854775808 "),
-        (b"abc", b"a!(error) "),
-        (b"true", b"a?true "),
-        (b"\"x y\"", b"a:x y "),
-        (b"\"\"", b"a= "),
-        (b" {\"a\": [1, {}]} ", b"a@{\"a\": [1, {}]} "),
-        (b"[]", b"a&[] "),
-        (b"{\"a\":1} 2", b"a!(error) "),
-        (b"{\"a\":", b"a!(error) "),
-        (b"1 2", b"a!(error) "),
-        (b"", b"a= "),
-    ];
-    let verb = JsonParse { names: None };
-    for (i, row) in table.iter().enumerate() {
-        let (text, want) = *row;
+/// The kind of an array in an array and so on, of this many levels, that is parsed.
+fn kind_of_nested(alloc: Global, levels: usize) -> Result<u8, NoMemory> {
+    let mut text = b"[".repeat(alloc, levels)?;
+    text.append(&mut b"]".repeat(alloc, levels)?)?;
+    Ok(kind(&json_decode(alloc, text.as_slice())?))
+}
+
+/// Texts of data, and the field `a` that `json-parse` makes of each.
+const PARSED: [(&str, &str); 14] = [
+    ("3", "a#3 "),
+    ("0x1F", "a#0x1F "),
+    ("-0.50", "a~-0.50 "),
+    ("9223372036854775808", "a^9223372036854775808 "),
+    ("abc", "a!(error) "),
+    ("true", "a?true "),
+    ("\"x y\"", "a:x y "),
+    ("\"\"", "a= "),
+    (" {\"a\": [1, {}]} ", "a@{\"a\": [1, {}]} "),
+    ("[]", "a&[] "),
+    ("{\"a\":1} 2", "a!(error) "),
+    ("{\"a\":", "a!(error) "),
+    ("1 2", "a!(error) "),
+    ("", "a= "),
+];
+
+/// The first text that `json-parse` makes another field of.
+fn first_misparsed(alloc: Global) -> Result<Option<usize>, NoMemory> {
+    for (i, (text, want)) in PARSED.iter().enumerate() {
         let mut from = Record::new(alloc)?;
-        from.put(b"a", from_data(alloc, text, InferOpts::plain())?)?;
-        let made = verb.take(alloc, from)?;
-        assert_eq!(rt; printed(alloc, &made)?.as_slice(), want, "at {i}");
+        from.put(b"a", from_data(alloc, text.as_bytes(), InferOpts::plain())?)?;
+        let made = made(alloc, Verb::JsonParse(None), from)?;
+        if printed(alloc, &made)?.as_slice() != want.as_bytes() {
+            return Ok(Some(i));
+        }
     }
-    decoded_law();
-    Ok(())
+    Ok(None)
 }
 
-#[test]
-fn deep_texts_parsed(rt: HostRuntime) -> Result<(), NoMemory> {
-    let alloc = rt.alloc();
-    let mut open = Bytes::new(alloc);
-    let mut close = Bytes::new(alloc);
-    for _level in 0..100 {
-        open.push(b'[')?;
-        close.push(b']')?;
-    }
-    let mut text = Bytes::copy_of(alloc, open.as_slice())?;
-    text.append(close.as_slice())?;
-    assert_eq!(rt; kind(&json_decode(alloc, text.as_slice())?), b'&');
-    let mut text = Bytes::copy_of(alloc, b"[")?;
-    text.append(open.as_slice())?;
-    text.append(close.as_slice())?;
-    text.append(b"]")?;
-    assert_eq!(rt; kind(&json_decode(alloc, text.as_slice())?), b'!');
-    Ok(())
-}
-
-#[test]
-fn values_that_are_not_parsed(rt: HostRuntime) -> Result<(), NoMemory> {
-    let alloc = rt.alloc();
+/// What `json-parse` makes of an absent value, an error, and values that aren't texts.
+fn others_parsed(alloc: Global) -> Result<Bytes, NoMemory> {
     let json = br#"{"a": "3", "b": "4", "c": true, "d": {"e": "5"}, "f": ["6"]}"#;
     let mut from = record_of(alloc, json)?;
     from.put(b"g", Value::Absent)?;
     from.put(b"h", Value::Error)?;
-    let made = JsonParse { names: None }.take(alloc, from)?;
-    assert_eq!(rt;
-        printed(alloc, &made)?.as_slice(),
-        b"a#3 b#4 c?true d@{\"e\": \"5\"} f&[\"6\"] g- h!(error) ".as_slice()
-    );
-    let verb = JsonParse {
-        names: Some(names(alloc, &[b"b", b"c", b"z"])?),
-    };
-    let made = verb.take(alloc, record_of(alloc, json)?)?;
-    assert_eq!(rt;
-        printed(alloc, &made)?.as_slice(),
-        b"a:3 b#4 c?true d@{\"e\": \"5\"} f&[\"6\"] ".as_slice()
-    );
-    Ok(())
+    printed(alloc, &made(alloc, Verb::JsonParse(None), from)?)
 }
 
-#[test]
-fn values_stringified(rt: HostRuntime) -> Result<(), NoMemory> {
-    let alloc = rt.alloc();
-    let json =
-        br#"{"a": 0x1F, "b": "x", "c": "", "d": true, "e": {"f": [1, {"g": 2}]}, "h": [], "i": 1.50}"#;
-    let made = JsonStringify { names: None }.take(alloc, record_of(alloc, json)?)?;
-    assert_eq!(rt;
-        printed(alloc, &made)?.as_slice(),
-        br#"a:0x1F b:"x" c:"" d:true e:{"f": [1, {"g": 2}]} h:[] i:1.50 "#.as_slice()
-    );
-    let verb = JsonStringify {
-        names: Some(names(alloc, &[b"e", b"a"])?),
-    };
-    let made = verb.take(alloc, record_of(alloc, json)?)?;
-    assert_eq!(rt;
-        printed(alloc, &made)?.as_slice(),
-        br#"a:0x1F b:x c= d?true e:{"f": [1, {"g": 2}]} h&[] i~1.50 "#.as_slice()
-    );
+/// The JSON texts of an absent value and an error.
+fn others_encoded(alloc: Global) -> Result<Bytes, NoMemory> {
     let mut text = Bytes::new(alloc);
     append_text(&json_encode(alloc, &Value::Absent)?, &mut text)?;
     append_text(&json_encode(alloc, &Value::Error)?, &mut text)?;
-    assert_eq!(rt; text.as_slice(), b"\"\"(error)".as_slice());
-    Ok(())
+    Ok(text)
 }
 
 #[test]
-fn fields_flattened(rt: HostRuntime) -> Result<(), NoMemory> {
+fn json_texts_are_values(rt: HostRuntime) -> Result<(), NoMemory> {
     let alloc = rt.alloc();
-    let json =
-        br#"{"a": {"x": 1, "y": {"z": 2}}, "b": [3, {}], "a:y:z": 4, "c": {"d": []}, "e": ""}"#;
-    let table: [(Option<&[&[u8]]>, &[u8]); 6] = [
-        (None, b"a:x#1 a:y:z#4 b:1#3 b:2:{} c:d:[] e= "),
-        (Some(&[b"a"]), b"a:x#1 a:y:z#4 b&[3, {}] c@{\"d\": []} e= "),
-        (
-            Some(&[b"c", b"e", b"b"]),
-            b"a@{\"x\": 1, \"y\": {\"z\": 2}} b:1#3 b:2:{} a:y:z#4 c:d:[] e= ",
-        ),
-        (
-            Some(&[b"a:y:z", b"e"]),
-            b"a@{\"x\": 1, \"y\": {\"z\": 2}} b&[3, {}] a:y:z#4 c@{\"d\": []} e= ",
-        ),
-        (
-            Some(&[b"x"]),
-            b"a@{\"x\": 1, \"y\": {\"z\": 2}} b&[3, {}] a:y:z#4 c@{\"d\": []} e= ",
-        ),
-        (
-            Some(&[]),
-            b"a@{\"x\": 1, \"y\": {\"z\": 2}} b&[3, {}] a:y:z#4 c@{\"d\": []} e= ",
-        ),
-    ];
-    for (i, row) in table.iter().enumerate() {
-        let (given, want) = *row;
-        let verb = Flatten {
-            names: match given {
-                Some(given) => Some(names(alloc, given)?),
-                None => None,
-            },
-            separator: Bytes::copy_of(alloc, b":")?,
-        };
-        let made = verb.take(alloc, record_of(alloc, json)?)?;
-        assert_eq!(rt; printed(alloc, &made)?.as_slice(), want, "at {i}");
-    }
-    let verb = Flatten {
-        names: None,
-        separator: Bytes::copy_of(alloc, b"..")?,
-    };
-    let made = verb.take(alloc, record_of(alloc, br#"{"a": {"b": [{"c": 1}]}}"#)?)?;
+    decoded_law();
+    assert_eq!(rt; first_misparsed(alloc)?, None);
+    let want = br#"a#3 b#4 c?true d@{"e": "5"} f&["6"] g- h!(error) "#;
+    assert_eq!(rt; others_parsed(alloc)?.as_slice(), want.as_slice());
     assert_eq!(rt;
-        printed(alloc, &made)?.as_slice(),
-        b"a..b..1..c#1 ".as_slice()
+        others_encoded(alloc)?.as_slice(),
+        b"\"\"(error)".as_slice()
     );
+    // A text may have 100 levels and no more.
+    assert_eq!(rt; kind_of_nested(alloc, 100)?, b'&');
+    assert_eq!(rt; kind_of_nested(alloc, 101)?, b'!');
     Ok(())
 }
 
-/// The verb `unflatten` with these names at `.`, or without names.
-fn unflattening(alloc: Global, given: Option<&[&[u8]]>) -> Result<Unflatten, NoMemory>
-    ensures { IfOk result (λ verb. verb.separator ≡ codes ".") }
-{
-    Ok(Unflatten {
-        names: match given {
-            Some(given) => Some(names(alloc, given)?),
-            None => None,
-        },
-        separator: Bytes::copy_of(alloc, b".")?,
-    })
-}
-
-/// The names that the verb is given, if any, what it takes, and what it makes of it.
-type Unflattened = (
-    Option<&'static [&'static [u8]]>,
-    &'static [u8],
-    &'static [u8],
-);
-
-const PATHS: &[u8] = br#"{"a.b": 1, "c.d": 2, "a.e": 3}"#;
-
-const TEXTS: &[u8] = br#"{"x": "{}", "y": "{}", "z.1": "[]", "w": "[]", "v.1": "{}"}"#;
-
-const IN_THE_WAY: &[u8] = br#"{"a": 1, "c": 5, "a.b": 2, "c.d": 3, "a.b.e": 4}"#;
-
-const UNFLATTENED: [Unflattened; 15] = [
-    (None, PATHS, br#"a@{"b": 1, "e": 3} c@{"d": 2} "#),
-    (Some(&[b"a"]), PATHS, br#"a@{"b": 1, "e": 3} c.d#2 "#),
-    (Some(&[b"c"]), PATHS, br#"a.b#1 c@{"d": 2} a.e#3 "#),
-    (
-        Some(&[b"c", b"x", b"a"]),
-        PATHS,
-        br#"a@{"b": 1, "e": 3} c@{"d": 2} "#,
-    ),
-    (Some(&[b"b", b"a.b", b""]), PATHS, b"a.b#1 c.d#2 a.e#3 "),
-    (Some(&[]), PATHS, b"a.b#1 c.d#2 a.e#3 "),
-    (None, TEXTS, b"x@{} y@{} z&[[]] w&[] v&[{}] "),
-    (Some(&[b"z", b"x"]), TEXTS, b"x@{} y:{} z&[[]] w:[] v.1:{} "),
-    (Some(&[b"w"]), TEXTS, b"x:{} y:{} z.1:[] w&[] v.1:{} "),
-    (None, IN_THE_WAY, br#"a@{"b": {"e": 4}} c@{"d": 3} "#),
-    (
-        Some(&[b"a"]),
-        IN_THE_WAY,
-        br#"a@{"b": {"e": 4}} c#5 c.d#3 "#,
-    ),
-    (
-        Some(&[b"c"]),
-        IN_THE_WAY,
-        b"a#1 c@{\"d\": 3} a.b#2 a.b.e#4 ",
-    ),
-    (Some(&[b"a"]), br#"{"a.b": 1, "z": 0, "a": 2}"#, b"a#2 z#0 "),
-    (
-        Some(&[b"a"]),
-        br#"{"a": {"x": 1}, "a.y": 2}"#,
-        br#"a@{"x": 1, "y": 2} "#,
-    ),
-    (
-        Some(&[b"a", b""]),
-        br#"{"a.": 1, ".b": 2, "": 3}"#,
-        br#"a@{"": 1} #3 "#,
-    ),
-];
-
-#[test]
-fn fields_unflattened(rt: HostRuntime) -> Result<(), NoMemory> {
-    let alloc = rt.alloc();
-    for (i, row) in UNFLATTENED.iter().enumerate() {
-        let (given, json, want) = *row;
-        let made = unflattening(alloc, given)?.take(record_of(alloc, json)?)?;
-        assert_eq!(rt; printed(alloc, &made)?.as_slice(), want, "at {i}");
-    }
-    let verb = Unflatten {
-        names: Some(names(alloc, &[b"a", b"b:"])?),
-        separator: Bytes::copy_of(alloc, b"::")?,
-    };
-    let from = record_of(
-        alloc,
-        br#"{"a::b:c": 1, "a:d": 2, "b:::1": "{}", "c::d": 3}"#,
-    )?;
-    let made = verb.take(from)?;
-    assert_eq!(rt;
-        printed(alloc, &made)?.as_slice(),
-        br#"a@{"b:c": 1} a:d#2 b:::1:{} c::d#3 "#.as_slice()
-    );
-    Ok(())
+/// Whether a path of 200 names is unflattened and one of 201 names stays.
+fn is_long_path_kept(alloc: Global, given: Given) -> Result<bool, NoMemory> {
+    let mut name = Bytes::copy_of(alloc, b"a.".repeat(alloc, 199)?.as_slice())?;
+    let mut from = Record::new(alloc)?;
+    from.put(name.as_slice(), Value::Empty)?;
+    name.append(b"a.")?;
+    from.put(name.as_slice(), Value::Empty)?;
+    let made = made(alloc, Verb::Unflatten(given, "."), from)?;
+    Ok(
+        made.len() == 2
+            && matches!(made.get(b"a"), Some(Value::Map(_)))
+            && matches!(made.get(name.as_slice()), Some(Value::Empty)),
+    )
 }
 
 #[test]
-fn long_paths_left(rt: HostRuntime) -> Result<(), NoMemory> {
+fn a_path_of_more_than_200_names_stays(rt: HostRuntime) -> Result<(), NoMemory> {
     let alloc = rt.alloc();
-    let given: [Option<&[&[u8]]>; 2] = [None, Some(&[b"a"])];
-    for given in given {
-        let mut name = Bytes::new(alloc);
-        for _ in 0..199 {
-            name.append(b"a.")?;
-        }
-        let mut from = Record::new(alloc)?;
-        from.put(name.as_slice(), Value::Empty)?;
-        name.append(b"a.")?;
-        from.put(name.as_slice(), Value::Empty)?;
-        let made = unflattening(alloc, given)?.take(from)?;
-        assert_eq!(rt; made.len(), 2);
-        assert!(rt; matches!(made.get(b"a"), Some(Value::Map(_))));
-        assert!(rt; matches!(made.get(name.as_slice()), Some(Value::Empty)));
-    }
+    assert!(rt; is_long_path_kept(alloc, None)?);
+    assert!(rt; is_long_path_kept(alloc, Some(&["a"]))?);
     Ok(())
 }
