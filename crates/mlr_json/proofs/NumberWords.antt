@@ -10,8 +10,8 @@ use Rattle.mlr_spec.specs.declared.infer.Kind.TheVariants.{Empty, Str, Int, Frac
 use Rattle.mlr_spec.specs.Infer.{digit, are_digits, number, is_negative, unsigned, base_of, base_of_letter, is_based, is_e, is_fraction, whole, word as word_kind, kind_after_sign, kind_of}
 use Rattle.mlr_spec.specs.Tree.{Tree}
 use Rattle.mlr_spec.specs.JsonTokens.{is_word_byte, number_of_kind, word_value, Token, word_token, token_of_word}
-use Rattle.mlr_value.specs.Fraction.{fraction_from}
-use Rattle.mlr_value.proofs.Fractions.{fraction_from-whole}
+use Rattle.mlr_infer.specs.Fraction.{fraction_from}
+use Rattle.mlr_infer.proofs.Fractions.{fraction_from-whole}
 use Rattle.mlr_json.specs.Readable.{plain}
 
 or-left : (a b : Bool) → a ≡ true → (a || b) ≡ true

@@ -1,4 +1,5 @@
 mod Rows
+mod ArithRows
 pub mod Pairs
 pub mod Splitting
 pub mod Flattening

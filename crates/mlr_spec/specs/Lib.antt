@@ -2,6 +2,8 @@ pub mod Ascii
 pub mod Tree
 pub mod TreeCode
 pub mod Infer
+pub mod Arith
+pub mod Order
 pub mod Pairs
 pub mod Lines
 pub mod Json

@@ -71,3 +71,17 @@ abbrev pub is_collection : Tree → Bool
 is_collection (mapping pairs) = true
 is_collection (array items) = true
 is_collection _ = false
+
+abbrev pub is_absent : Tree → Bool
+is_absent absent = true
+is_absent _ = false
+
+abbrev pub is_empty : Tree → Bool
+is_empty empty = true
+is_empty _ = false
+
+abbrev pub is_number : Tree → Bool
+is_number (int n spelling) = true
+is_number (fraction text) = true
+is_number (wide text) = true
+is_number _ = false

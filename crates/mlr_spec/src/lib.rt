@@ -2,10 +2,12 @@
 //! texts, over plain lists and trees; `src/` has the few plain types that they speak of.
 #![tactic(auto)]
 
+mod arith;
 mod infer;
 mod json;
 mod memory;
 
+pub use arith::{Op, Op1, Order};
 pub use infer::{InferOpts, Kind};
 pub use json::{JsonMark, JsonStyle};
 pub use memory::NoMemory;

@@ -1,7 +1,5 @@
-pub mod Magnitudes
-pub mod Fractions
-pub mod Rows
 pub mod Columns
+pub mod Folding
 pub mod Depth
 mod Prefixes
 mod Overlaps

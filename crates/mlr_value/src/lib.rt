@@ -2,17 +2,22 @@
 //! the inference of texts from data. Contracts see a value as a `Tree`.
 #![tactic(auto)]
 
+mod arithmetic;
 mod array_value;
 mod bytes;
-mod inference;
 mod map_value;
+mod order;
 mod short;
 #[cfg(test)]
 mod tests;
 mod value;
 
+pub use arithmetic::{arith, arith1};
 pub use array_value::ArrayValue;
 pub use bytes::Bytes;
-pub use inference::infer;
 pub use map_value::MapValue;
+pub use mlr_infer::infer;
+pub use mlr_spec::{InferOpts, Kind, Op, Op1, Order};
+pub use mlr_tables::{FLAG_ROWS, Table, functions, main_flags, separators, verbs};
+pub use order::compare;
 pub use value::{IntValue, Value, append_text, from_data, text_of};

@@ -1,7 +1,16 @@
 //! What texts, values and collections become, by tables.
 
-use crate::{ArrayValue, Bytes, IntValue, MapValue, Value, append_text, from_data, infer, text_of};
+mod operands;
+
+use crate::{
+    ArrayValue, Bytes, IntValue, MapValue, Order, Value, append_text, arith, arith1, compare,
+    from_data, infer, text_of,
+};
 use mlr_spec::{InferOpts, Kind, NoMemory};
+use operands::{
+    BY_FOLDED, BY_FOLDED_DOWN, BY_KIND, BY_NUMBER, BY_NUMBER_DOWN, BY_TEXT, BY_TEXT_DOWN, Binary,
+    MIXED, OF_INTS, Ranked, UNARY,
+};
 use std::alloc::Global;
 use std::test::Fail;
 
@@ -121,30 +130,151 @@ fn kind(value: &Value) -> Option<Kind> {
     }
 }
 
+/// Whether a text is read as this kind, and it and its copy print the text.
+fn is_read(alloc: Global, row: &(&str, InferOpts, Kind)) -> Result<bool, NoMemory> {
+    let (text, opts, want) = *row;
+    let value = from_data(alloc, text.as_bytes(), opts)?;
+    let copy = value.copy(alloc)?;
+    let mut printed = Bytes::new(alloc);
+    append_text(&value, &mut printed)?;
+    let mut copied = Bytes::new(alloc);
+    append_text(&copy, &mut copied)?;
+    Ok(
+        infer(text.as_bytes(), opts) == want
+            && kind(&value) == Some(want)
+            && kind(&copy) == Some(want)
+            && printed.as_slice() == text.as_bytes()
+            && copied == printed,
+    )
+}
+
+fn first_misread(alloc: Global) -> Result<Option<usize>, NoMemory> {
+    for (i, row) in DATA.iter().enumerate() {
+        if !is_read(alloc, row)? {
+            return Ok(Some(i));
+        }
+    }
+    Ok(None)
+}
+
+/// Whether a value that was made prints this text, also after another one.
+fn is_printed(alloc: Global, made: &Made, want: &str) -> Result<bool, NoMemory> {
+    let value = value_of(alloc, made);
+    if value.is_collection() {
+        return Ok(false);
+    }
+    let mut text = text_of(alloc, &value)?;
+    let alone = text.as_slice() == want.as_bytes();
+    append_text(&value, &mut text)?;
+    Ok(alone && &text.as_slice()[want.len()..] == want.as_bytes())
+}
+
+fn first_misprinted(alloc: Global) -> Result<Option<usize>, NoMemory> {
+    for (i, (made, want)) in MADE.iter().enumerate() {
+        if !is_printed(alloc, made, *want)? {
+            return Ok(Some(i));
+        }
+    }
+    Ok(None)
+}
+
+/// The value of a text from data, or the one of another kind that the text names.
+fn operand(alloc: Global, text: &str) -> Result<Value, NoMemory> {
+    match text {
+        "absent" => Ok(Value::Absent),
+        "error" => Ok(Value::Error),
+        "true" => Ok(Value::Bool(true)),
+        "false" => Ok(Value::Bool(false)),
+        "map" => Ok(Value::Map(MapValue::new(alloc)?)),
+        "array" => Ok(Value::Array(ArrayValue::new(alloc))),
+        text => from_data(alloc, text.as_bytes(), PLAIN),
+    }
+}
+
+/// Whether a value prints a text, where `absent` is no value.
+fn shows(alloc: Global, value: &Value, text: &str) -> Result<bool, NoMemory> {
+    if text == "absent" {
+        return Ok(value.is_absent());
+    }
+    let mut printed = Bytes::new(alloc);
+    append_text(value, &mut printed)?;
+    Ok(!value.is_absent() && printed.as_slice() == text.as_bytes())
+}
+
+fn first_wrong_result(alloc: Global, rows: &[Binary]) -> Result<Option<usize>, NoMemory> {
+    for (i, (op, x, y, want)) in rows.iter().enumerate() {
+        let result = arith(alloc, *op, &operand(alloc, *x)?, &operand(alloc, *y)?)?;
+        if !shows(alloc, &result, *want)? {
+            return Ok(Some(i));
+        }
+    }
+    Ok(None)
+}
+
+fn first_wrong_unary(alloc: Global) -> Result<Option<usize>, NoMemory> {
+    for (i, (op, x, want)) in UNARY.iter().enumerate() {
+        let result = arith1(alloc, *op, &operand(alloc, *x)?)?;
+        if !shows(alloc, &result, *want)? {
+            return Ok(Some(i));
+        }
+    }
+    Ok(None)
+}
+
+/// Whether an order has a value to each of these as their ranks are.
+fn is_ranked(
+    alloc: Global,
+    order: Order,
+    first: &Ranked,
+    rows: &[Ranked],
+) -> Result<bool, NoMemory> {
+    let value = operand(alloc, first.1)?;
+    for (rank, text) in rows {
+        let other = operand(alloc, *text)?;
+        if compare(order, &value, &other) != first.0.cmp(rank) {
+            return Ok(false);
+        }
+    }
+    Ok(true)
+}
+
+fn first_unordered(
+    alloc: Global,
+    order: Order,
+    rows: &[Ranked],
+) -> Result<Option<usize>, NoMemory> {
+    for (i, row) in rows.iter().enumerate() {
+        if !is_ranked(alloc, order, row, rows)? {
+            return Ok(Some(i));
+        }
+    }
+    Ok(None)
+}
+
 #[test]
-fn values_print_as_they_were_read_or_made(rt: HostRuntime) -> Result<(), Fail> {
+fn values_are_read_printed_computed_and_compared(rt: HostRuntime) -> Result<(), Fail> {
     let alloc = rt.alloc();
-    for (text, opts, want) in &DATA {
-        assert_eq!(rt; infer(text.as_bytes(), *opts), *want, "{text}");
-        let value = from_data(alloc, text.as_bytes(), *opts)?;
-        let copy = value.copy(alloc)?;
-        for one in [&value, &copy] {
-            assert_eq!(rt; kind(one), Some(*want), "{text}");
-            let mut printed = Bytes::new(alloc);
-            append_text(one, &mut printed)?;
-            assert_eq!(rt; printed.as_slice(), text.as_bytes(), "{text}");
-        }
-    }
-    for (made, want) in &MADE {
-        let value = value_of(alloc, made);
-        if matches!(value, Value::Map(_) | Value::Array(_)) {
-            continue;
-        }
-        let mut text = text_of(alloc, &value)?;
-        assert_eq!(rt; text.as_slice(), want.as_bytes(), "{want}");
-        append_text(&value, &mut text)?;
-        assert_eq!(rt; &text.as_slice()[want.len()..], want.as_bytes(), "{want}");
-    }
+    assert_eq!(rt; first_misread(alloc)?, None);
+    assert_eq!(rt; first_misprinted(alloc)?, None);
+    assert_eq!(rt; first_wrong_result(alloc, &BY_KIND)?, None);
+    assert_eq!(rt; first_wrong_result(alloc, &OF_INTS)?, None);
+    assert_eq!(rt; first_wrong_unary(alloc)?, None);
+    assert_eq!(rt; first_unordered(alloc, Order::Text, &BY_TEXT)?, None);
+    assert_eq!(rt;
+        first_unordered(alloc, Order::TextDown, &BY_TEXT_DOWN)?,
+        None
+    );
+    assert_eq!(rt; first_unordered(alloc, Order::Folded, &BY_FOLDED)?, None);
+    assert_eq!(rt;
+        first_unordered(alloc, Order::FoldedDown, &BY_FOLDED_DOWN)?,
+        None
+    );
+    assert_eq!(rt; first_unordered(alloc, Order::Number, &BY_NUMBER)?, None);
+    assert_eq!(rt;
+        first_unordered(alloc, Order::NumberDown, &BY_NUMBER_DOWN)?,
+        None
+    );
+    assert_eq!(rt; first_unordered(alloc, Order::Mixed, &MIXED)?, None);
     Ok(())
 }
 

@@ -1,7 +1,7 @@
 //! Values of the ten kinds, and what they print.
 ghost use Rattle.std.specs.Prelude.{◌≡◌, ◌++◌, false, is_ok, if◌then◌else◌, IfOk};
 ghost use Rattle.mlr_spec.specs.Infer.{tree_of_data};
-ghost use Rattle.mlr_spec.specs.Tree.{text_of, is_collection};
+ghost use Rattle.mlr_spec.specs.Tree.{text_of, is_absent, is_empty, is_number, is_collection};
 ghost use Rattle.mlr_value.specs.Value.{tree_of, int_text};
 
 use crate::{ArrayValue, Bytes, MapValue, infer};
@@ -46,6 +46,36 @@ pub enum Value {
 const _: () = prove!(size_of::<Value>() <= 48);
 
 impl Value {
+    #[inline]
+    pub fn is_absent(&self) -> bool
+        ensures { result ≡ is_absent (tree_of self.now) }
+    {
+        matches!(self, Value::Absent)
+    }
+
+    #[inline]
+    pub fn is_empty(&self) -> bool
+        ensures { result ≡ is_empty (tree_of self.now) }
+    {
+        matches!(self, Value::Empty)
+    }
+
+    /// Whether it is an int, a fraction or wide.
+    #[inline]
+    pub fn is_number(&self) -> bool
+        ensures { result ≡ is_number (tree_of self.now) }
+    {
+        matches!(self, Value::Int(_) | Value::Frac(_) | Value::Wide(_))
+    }
+
+    /// Whether it is a map or an array.
+    #[inline]
+    pub fn is_collection(&self) -> bool
+        ensures { result ≡ is_collection (tree_of self.now) }
+    {
+        matches!(self, Value::Map(_) | Value::Array(_))
+    }
+
     /// A copy. It takes memory for maps, arrays and texts of more than 16 bytes.
     #[cycle(copy)]
     pub fn copy(&self, alloc: Global) -> Result<Value, NoMemory>

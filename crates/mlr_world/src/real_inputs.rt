@@ -1,5 +1,6 @@
 //! The inputs of the system: files and standard input.
-ghost use Rattle.std.specs.Prelude.{◌≡◌, ◌↔◌, ◌≤◌, [], ◌++◌, length, take, drop, min, None, IsTrue, IfOk, OnOk, OnErr};
+ghost use Rattle.std.specs.Prelude.{◌≡◌, ◌↔◌, ◌≤◌, [], ◌++◌, length, take, drop, min, None, IsTrue, IsErr, IfOk, OnOk, OnErr};
+ghost use Rattle.std.specs.declared.result.Result.TheVariants.{Ok};
 ghost use Rattle.mlr_event.specs.declared.names.InputName.{InputName};
 ghost use Rattle.std.specs.Io.KnownBytes.{Consumes, IsAtEnd, Keeps};
 
@@ -97,13 +98,13 @@ impl<R: Files + Input> Inputs for RealInputs<R> {
                 Some(file) => self.unread.fill(file, max),
                 None => self.unread.fill(&mut self.stdin, max),
             };
-            match answer {
-                Ok(0) => {
+            match filled_of(answer) {
+                Filled::Some => {}
+                Filled::End => {
                     self.ended = true;
                     return Got::End;
                 }
-                Ok(_) => {}
-                Err(_) => {
+                Filled::Failed => {
                     self.faults = self.faults.saturating_add(1);
                     return Got::Failed;
                 }
@@ -113,6 +114,28 @@ impl<R: Files + Input> Inputs for RealInputs<R> {
             Ok(count) => Got::Some(count),
             Err(_) => Got::NoMemory,
         }
+    }
+}
+
+/// What a read of the system gave.
+#[derive(Clone, Copy)]
+enum Filled {
+    /// One byte or more.
+    Some,
+    /// No byte, as the input has ended.
+    End,
+    Failed,
+}
+
+/// What the system's answer to a read of one byte or more says.
+fn filled_of(answer: io::Result<usize>) -> Filled
+    ensures end { (result ≡ Filled.End) ↔ (answer ≡ Ok 0) }
+    ensures failed { (result ≡ Filled.Failed) ↔ IsErr answer }
+{
+    match answer {
+        Ok(0) => Filled::End,
+        Ok(_) => Filled::Some,
+        Err(_) => Filled::Failed,
     }
 }
 

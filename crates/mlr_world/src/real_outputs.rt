@@ -252,20 +252,26 @@ mod tests {
         assert_eq!(test; outputs.write(&two, b"other\n"), Done::Ok);
         assert_eq!(test; outputs.write(&one, b"second\n"), Done::Ok);
         assert_eq!(test; outputs.close(&one), Done::Ok);
+        // The other file is still open.
+        assert_eq!(test; outputs.write(&one, b"closed\n"), Done::Failed);
+        assert_eq!(test; outputs.write(&two, b"more\n"), Done::Ok);
         assert_eq!(test; outputs.open(&one, Mode::Append), Done::Ok);
         assert_eq!(test; outputs.write(&one, b"third\n"), Done::Ok);
         assert_eq!(test;
             fs::read_to_string(&rt, "one.txt")?.as_str(),
             "first\nsecond\nthird\n"
         );
-        assert_eq!(test; fs::read_to_string(&rt, "two.txt")?.as_str(), "other\n");
+        assert_eq!(test;
+            fs::read_to_string(&rt, "two.txt")?.as_str(),
+            "other\nmore\n"
+        );
         assert_eq!(test; outputs.open(&one, Mode::Fresh), Done::Ok);
         assert_eq!(test; outputs.write(&one, b"again\n"), Done::Ok);
         assert_eq!(test; outputs.close(&one), Done::Ok);
         assert_eq!(test; fs::read_to_string(&rt, "one.txt")?.as_str(), "again\n");
         fs::remove_file(&rt, "one.txt")?;
         fs::remove_file(&rt, "two.txt")?;
-        assert_eq!(test; outputs.counts.faults, 0);
+        assert_eq!(test; outputs.counts.faults, 1);
         Ok(())
     }
 

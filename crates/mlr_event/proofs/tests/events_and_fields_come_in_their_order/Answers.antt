@@ -1,8 +1,0 @@
-use Rattle.std.proofs.Common.{[], refl}
-use Rattle.mlr_event.proofs.tests.events_and_fields_come_in_their_order.Goals as goal
-
-pub step-requires-2 : goal.step-requires-2
-step-requires-2 g c = ([], c.in_ok-step.ensures.represents [] c.new-cat.ensures refl, refl)
-
-pub step-requires-3 : goal.step-requires-3
-step-requires-3 g c = ([], c.in_ok-step-2.ensures.represents [] (c.in_ok-step.ensures.represents [] c.new-cat.ensures refl) refl, refl)

@@ -1,0 +1,3 @@
+pub mod Magnitudes
+pub mod Fractions
+pub mod Rows
