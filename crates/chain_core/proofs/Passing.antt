@@ -1,6 +1,6 @@
--- A verb at its place takes all events of a list. The remaining events are in reverse order.
-use Rattle.std.proofs.Common.{◌≡◌, true, List, [], ◌∷◌, ◌++◌, reverse, refl, ap, sym, ◌∙◌, subst, append_assoc}
-use Rattle.std.proofs.lemmas.List.{append-nil, reverse-append}
+-- A verb at its place takes all events of a list.
+use Rattle.std.proofs.Common.{◌≡◌, true, List, [], ◌∷◌, ◌++◌, refl, ap, sym, ◌∙◌, subst, append_assoc}
+use Rattle.std.proofs.lemmas.List.{append-nil}
 use Rattle.mlr_event.specs.Adding.{Adds}
 use Rattle.mlr_event.specs.declared.event.Event.{Event}
 use Rattle.mlr_event.specs.Verb.{Verb, is_list, is_open, made}
@@ -16,26 +16,26 @@ module _ {S : Type 0} (verb : S → Verb) (represents : S → List Event → Typ
 
   pub record Passed (gate : Gate S) (events out : List Event) (now : Gate S) (left out_now : List Event) : Type 0 where
     pub passed : List Event
-    pub all : events ≡ passed ++ reverse left
+    pub all : events ≡ passed ++ left
     pub same : IsSameGate verb now gate
     pub at : (given : List Event) → GateRepresents verb represents given gate → is_list (given ++ events) ≡ true → GateRepresents verb represents (given ++ passed) now
     pub adds : (given : List Event) → GateRepresents verb represents given gate → is_list (given ++ events) ≡ true → Adds out out_now (MadeBy gate given) (MadeBy gate (given ++ passed))
 
-  pub none-passed : (gate : Gate S) (events left out : List Event) → events ≡ reverse left → Passed gate events out gate left out
-  none-passed gate events left out all = record {
+  pub none-passed : (gate : Gate S) (events out : List Event) → Passed gate events out gate events out
+  none-passed gate events out = record {
     passed = [];
-    all = all;
+    all = refl;
     same = (refl, refl);
     at = λ given at list. subst (λ t. GateRepresents verb represents t gate) (sym (append-nil given)) at;
     adds = λ given at list. adds-none out (MadeBy gate given) (MadeBy gate (given ++ [])) (ap (MadeBy gate) (append-nil given));
   }
 
-  module _ (gate : Gate S) (events out : List Event) (now : Gate S) (left : List Event) (e : Event) (out_now : List Event) (before : Passed gate events out now (left ++ e ∷ []) out_now) where
-    rest-is : events ≡ before.passed ++ e ∷ reverse left
-    rest-is = before.all ∙ ap (λ t. before.passed ++ t) (reverse-append left (e ∷ []))
+  module _ (gate : Gate S) (events out : List Event) (now : Gate S) (left : List Event) (e : Event) (out_now : List Event) (before : Passed gate events out now (e ∷ left) out_now) where
+    rest-is : events ≡ before.passed ++ e ∷ left
+    rest-is = before.all
 
     pub still-open : (given : List Event) → is_list (given ++ events) ≡ true → is_open (given ++ before.passed) ≡ true
-    still-open given list = open-before (given ++ before.passed) e (reverse left) (ap is_list (append_assoc given before.passed (e ∷ reverse left) ∙ ap (λ t. given ++ t) (sym rest-is)) ∙ list)
+    still-open given list = open-before (given ++ before.passed) e left (ap is_list (append_assoc given before.passed (e ∷ left) ∙ ap (λ t. given ++ t) (sym rest-is)) ∙ list)
 
     pub one-passed : (then_ : Gate S) (out_then : List Event) → IsSameGate verb then_ now
         → ((given : List Event) → GateRepresents verb represents given now → is_open given ≡ true → GateRepresents verb represents (given ++ e ∷ []) then_)
@@ -43,7 +43,7 @@ module _ {S : Type 0} (verb : S → Verb) (represents : S → List Event → Typ
         → Passed gate events out then_ left out_then
     one-passed then_ out_then same at adds = record {
       passed = before.passed ++ e ∷ [];
-      all = rest-is ∙ sym (append_assoc before.passed (e ∷ []) (reverse left));
+      all = rest-is ∙ sym (append_assoc before.passed (e ∷ []) left);
       same = (same.0 ∙ before.same.0, same.1 ∙ before.same.1);
       at = λ given stood list.
           subst (λ t. GateRepresents verb represents t then_) (append_assoc given before.passed (e ∷ [])) (at (given ++ before.passed) (before.at given stood list) (still-open given list));

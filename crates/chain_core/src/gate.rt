@@ -100,8 +100,7 @@ impl<S: Step + Drop> Gate<S> {
             → Adds out.old out.new (made_at self.old.quiet (S.verb self.old.verb) given)
             (made_at self.old.quiet (S.verb self.old.verb) (given ++ events.old))) }
     {
-        events.reverse();
-        while let Some(event) = events.pop() {
+        while let Some(event) = events.pop_first() {
             self.take(event, out)?;
         }
         Ok(())

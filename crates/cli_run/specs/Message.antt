@@ -1,11 +1,16 @@
 -- The message of each outcome, one line on standard error.
-use Rattle.std.specs.Prelude.{◌≡◌, ℕ, List, [], ◌∷◌, codes, Option}
+use Rattle.std.specs.Prelude.{◌≡◌, ℕ, List, [], ◌∷◌, codes, slice_index_or, Option}
 use Rattle.std.specs.List.{flat_map}
 use Rattle.std.specs.Fmt.{decimal}
 use Rattle.mlr_event.specs.declared.fault.Fault.{Fault}
 use Rattle.mlr_event.specs.declared.fault.Fault.TheVariants as fault
 use Rattle.mlr_event.specs.declared.names.FileRef.{FileRef}
 use Rattle.mlr_event.specs.declared.names.FileRef.TheVariants.{Main, Left}
+use Rattle.mlr_event.specs.declared.names.Mode.{Mode}
+use Rattle.mlr_event.specs.declared.names.Mode.TheVariants.{Fresh, Append}
+use Rattle.mlr_event.specs.declared.names.StyleId.{StyleId}
+use Rattle.mlr_event.specs.declared.options.Format.{Format}
+use Rattle.mlr_event.specs.declared.options.Format.TheVariants.{Csv, Tsv, Json, Jsonl, Dkvp, Nidx, Xtab, Pprint, Markdown}
 use Rattle.mlr_event.specs.declared.names.InputName.{InputName}
 use Rattle.mlr_event.specs.declared.names.InputName.TheVariants as input
 use Rattle.mlr_event.specs.declared.names.Target.{Target}
@@ -46,26 +51,64 @@ abbrev pub length_pieces : List ℕ → ℕ → ℕ → ℕ → List (List ℕ)
 length_pieces file line want have =
     codes "mlr: " ∷ file ∷ codes ": line " ∷ decimal line ∷ codes ": data length " ∷ decimal have ∷ codes ", header length " ∷ decimal want ∷ codes "\n" ∷ []
 
-abbrev pub fault_pieces : List (List ℕ) → Fault → List (List ℕ)
-fault_pieces names (fault.Length file line want have) = length_pieces (file_text names file) line want have
-fault_pieces names (fault.Quote file line) = line_pieces (file_text names file) line (codes ": unclosed quote\n")
-fault_pieces names (fault.Table file line) = line_pieces (file_text names file) line (codes ": bad table line\n")
-fault_pieces names (fault.JsonSyntax file byte) = byte_pieces (file_text names file) byte (codes ": bad JSON\n")
-fault_pieces names (fault.JsonDeep file byte) = byte_pieces (file_text names file) byte (codes ": nested deeper than 100\n")
-fault_pieces names (fault.JsonKind file byte) = byte_pieces (file_text names file) byte (codes ": not a map\n")
+-- a fault in a verb, at a record
+abbrev pub verb_pieces : ℕ → ℕ → List ℕ → List ℕ → List ℕ → List (List ℕ)
+verb_pieces verb nr what name rest = codes "mlr: verb " ∷ decimal verb ∷ codes ": record " ∷ decimal nr ∷ what ∷ name ∷ rest ∷ []
 
--- the pieces of a message, by the words and the file names of a command line
-abbrev pub pieces_of : List (List ℕ) → List (List ℕ) → Ended → List (List ℕ)
-pieces_of words names answer.Done = []
-pieces_of words names (answer.Refused refusal) = codes "mlr: word " ∷ decimal refusal.word ∷ codes ": not built: " ∷ word_at words refusal.word ∷ codes "\n" ∷ []
-pieces_of words names (answer.Data fault) = fault_pieces names fault
-pieces_of words names (answer.Read name) = codes "mlr: cannot read " ∷ input_text name ∷ codes "\n" ∷ []
-pieces_of words names (answer.Written target) = codes "mlr: cannot write " ∷ target_text target ∷ codes "\n" ∷ []
-pieces_of words names answer.TooLong = codes "mlr: input too long\n" ∷ []
-pieces_of words names answer.NoMemory = codes "mlr: out of memory\n" ∷ []
+abbrev pub turns_pieces : ℕ → ℕ → ℕ → List (List ℕ)
+turns_pieces verb nr limit = verb_pieces verb nr (codes ": turn limit ") (decimal limit) (codes " reached\n")
 
-abbrev pub message_of : List (List ℕ) → List (List ℕ) → Ended → List ℕ
-message_of words names ended = flat_map (λ piece. piece) (pieces_of words names ended)
+-- how an output was opened, and the format of its style; a style of no row is written by row 0
+abbrev pub mode_text : Mode → List ℕ
+mode_text Fresh = codes "> "
+mode_text Append = codes ">> "
+
+abbrev pub format_text : Format → List ℕ
+format_text Csv = codes "csv"
+format_text Tsv = codes "tsv"
+format_text Json = codes "json"
+format_text Jsonl = codes "jsonl"
+format_text Dkvp = codes "dkvp"
+format_text Nidx = codes "nidx"
+format_text Xtab = codes "xtab"
+format_text Pprint = codes "pprint"
+format_text Markdown = codes "markdown"
+
+abbrev pub style_text : List Format → StyleId → List ℕ
+style_text [] style = []
+style_text (format ∷ formats) style = format_text (slice_index_or (format ∷ formats) style format)
+
+abbrev pub output_pieces : List ℕ → Mode → List ℕ → Mode → List ℕ → List (List ℕ)
+output_pieces name first_mode first second_mode second =
+    codes "mlr: output " ∷ name ∷ codes ": first " ∷ mode_text first_mode ∷ first ∷ codes ", then " ∷ mode_text second_mode ∷ second ∷ codes "\n" ∷ []
+
+abbrev pub fault_pieces : List (List ℕ) → List Format → Fault → List (List ℕ)
+fault_pieces names formats (fault.Length file line want have) = length_pieces (file_text names file) line want have
+fault_pieces names formats (fault.Quote file line) = line_pieces (file_text names file) line (codes ": unclosed quote\n")
+fault_pieces names formats (fault.Table file line) = line_pieces (file_text names file) line (codes ": bad table line\n")
+fault_pieces names formats (fault.JsonSyntax file byte) = byte_pieces (file_text names file) byte (codes ": bad JSON\n")
+fault_pieces names formats (fault.JsonDeep file byte) = byte_pieces (file_text names file) byte (codes ": nested deeper than 100\n")
+fault_pieces names formats (fault.JsonKind file byte) = byte_pieces (file_text names file) byte (codes ": not a map\n")
+fault_pieces names formats (fault.Turns verb nr limit) = turns_pieces verb nr limit
+fault_pieces names formats (fault.Depth verb nr) = verb_pieces verb nr (codes ": call limit 500 reached") [] (codes "\n")
+fault_pieces names formats (fault.Assert verb nr name) = verb_pieces verb nr (codes ": assertion ") name (codes " failed\n")
+fault_pieces names formats (fault.WrongType verb nr name) = verb_pieces verb nr (codes ": wrong type for ") name (codes "\n")
+fault_pieces names formats (fault.Index verb nr) = verb_pieces verb nr (codes ": bad index") [] (codes "\n")
+fault_pieces names formats (fault.OutputTwice name first_mode first second_mode second) =
+    output_pieces name first_mode (style_text formats first) second_mode (style_text formats second)
+
+-- the pieces of a message, by the words and the file names of a command line and the formats of its outputs
+abbrev pub pieces_of : List (List ℕ) → List (List ℕ) → List Format → Ended → List (List ℕ)
+pieces_of words names formats answer.Done = []
+pieces_of words names formats (answer.Refused refusal) = codes "mlr: word " ∷ decimal refusal.word ∷ codes ": not built: " ∷ word_at words refusal.word ∷ codes "\n" ∷ []
+pieces_of words names formats (answer.Data fault) = fault_pieces names formats fault
+pieces_of words names formats (answer.Read name) = codes "mlr: cannot read " ∷ input_text name ∷ codes "\n" ∷ []
+pieces_of words names formats (answer.Written target) = codes "mlr: cannot write " ∷ target_text target ∷ codes "\n" ∷ []
+pieces_of words names formats answer.TooLong = codes "mlr: input too long" ∷ [] ∷ codes "\n" ∷ []
+pieces_of words names formats answer.NoMemory = codes "mlr: out of memory" ∷ [] ∷ codes "\n" ∷ []
+
+abbrev pub message_of : List (List ℕ) → List (List ℕ) → List Format → Ended → List ℕ
+message_of words names formats ended = flat_map (λ piece. piece) (pieces_of words names formats ended)
 
 -- a target after a text was written to it in pieces: all of it, or a prefix where a call couldn't write
 abbrev pub Appends : List ℕ → Done → Option (List ℕ) → Option (List ℕ) → Type 0

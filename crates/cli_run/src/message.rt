@@ -4,11 +4,11 @@ ghost use Rattle.std.specs.List.{flat_map};
 ghost use Rattle.mlr_event.specs.declared.names.Target.TheVariants.{Stderr};
 ghost use Rattle.mlr_world.specs.Counts.{Counted, Tallied};
 ghost use Rattle.mlr_world.specs.Outputs.{ChangesAt, call_failed, lacked_memory};
-ghost use Rattle.cli_run.specs.Message.{Appends, message_of, fault_pieces, length_pieces, line_pieces, byte_pieces, file_text, named, input_text, target_text};
+ghost use Rattle.cli_run.specs.Message.{Appends, message_of, fault_pieces, length_pieces, line_pieces, byte_pieces, verb_pieces, turns_pieces, file_text, named, input_text, target_text, mode_text, style_text, format_text};
 ghost use Rattle.cli_run.specs.Meaning.{word_at};
 
 use itoa::Buffer;
-use mlr_event::{Fault, FileRef, InputName, Target};
+use mlr_event::{Fault, FileRef, Format, InputName, Mode, StyleId, Target};
 use mlr_value::Bytes;
 use mlr_world::{Done, Outputs};
 use serial_core::Ended;
@@ -22,261 +22,210 @@ pub(crate) struct Digits {
 }
 
 /// Writes the message of an outcome to standard error, piece by piece from where its texts are. Numbers are
-/// formatted in the buffer, so that a message doesn't allocate. A message names a word, or a file by its
-/// place among the file names.
+/// formatted in the buffers, so that a message doesn't allocate. A message names a word, a file by its place among
+/// the file names, or a format by its place among the formats of the outputs.
 pub(crate) fn write_message<O: Outputs>(
     words: &[Bytes],
     names: &[Bytes],
+    formats: &[Format],
     ended: &Ended,
     digits: &mut Digits,
     outputs: &mut O,
 ) -> Done
     ensures none { ended.now ≡ Ended.Done → result ≡ Done.Ok }
-    ensures bytes { ChangesAt Stderr (Appends (message_of words.now names.now ended.now) result)
-        (O.held outputs.old) (O.held outputs.new) }
+    ensures bytes { ChangesAt Stderr (Appends (message_of words.now names.now formats.now ended.now)
+        result) (O.held outputs.old) (O.held outputs.new) }
     ensures counts { Counted (call_failed result) (O.faults outputs.old) (O.faults outputs.new)
         Stderr }
     ensures memory { Tallied (lacked_memory result) (O.shortages outputs.old)
         (O.shortages outputs.new) }
 {
+    if let Ended::Done = ended {
+        return Done::Ok;
+    }
+    let pieces = message_pieces(words, names, formats, ended, digits);
+    write_pieces(outputs, &pieces)
+}
+
+/// The pieces of the message of an outcome. Those that it doesn't need are empty.
+fn message_pieces<'a>(
+    words: &'a [Bytes],
+    names: &'a [Bytes],
+    formats: &[Format],
+    ended: &'a Ended,
+    digits: &'a mut Digits,
+) -> [&'a [u8]; 9]
+    ensures { flat_map (λ piece. piece.now) result
+        ≡ message_of words.now names.now formats.now ended.now }
+{
     match ended {
-        Ended::Done => Done::Ok,
+        Ended::Done => [b""; 9],
         Ended::Refused(refusal) => {
             let number = digits.first.format(refusal.word).as_bytes();
             let word = word_at(words, refusal.word);
-            say(
-                outputs,
-                b"mlr: word ",
-                number,
-                b": not built: ",
-                word,
-                b"\n",
-                b"",
-                b"",
-                b"",
-                b"",
-            )
+            [
+                b"mlr: word ", number, b": not built: ", word, b"\n", b"", b"", b"", b"",
+            ]
         }
-        Ended::Data(fault) => write_fault(names, fault, digits, outputs),
-        Ended::Read(name) => say(
-            outputs,
-            b"mlr: cannot read ",
-            input_text(name),
-            b"\n",
-            b"",
-            b"",
-            b"",
-            b"",
-            b"",
-            b"",
-        ),
-        Ended::Written(target) => say(
-            outputs,
-            b"mlr: cannot write ",
-            target_text(target),
-            b"\n",
-            b"",
-            b"",
-            b"",
-            b"",
-            b"",
-            b"",
-        ),
-        Ended::TooLong => say(
-            outputs,
-            b"mlr: input too long\n",
-            b"",
-            b"",
-            b"",
-            b"",
-            b"",
-            b"",
-            b"",
-            b"",
-        ),
-        Ended::NoMemory => say(
-            outputs,
-            b"mlr: out of memory\n",
-            b"",
-            b"",
-            b"",
-            b"",
-            b"",
-            b"",
-            b"",
-            b"",
-        ),
+        Ended::Data(fault) => fault_pieces(names, formats, fault, digits),
+        Ended::Read(name) => one_line(b"mlr: cannot read ", input_text(name)),
+        Ended::Written(target) => one_line(b"mlr: cannot write ", target_text(target)),
+        Ended::TooLong => one_line(b"mlr: input too long", b""),
+        Ended::NoMemory => one_line(b"mlr: out of memory", b""),
     }
 }
 
-/// Writes the message of a fault.
-fn write_fault<O: Outputs>(
-    names: &[Bytes],
-    fault: &Fault,
-    digits: &mut Digits,
-    outputs: &mut O,
-) -> Done
-    ensures bytes { ChangesAt Stderr (Appends (flat_map (λ piece. piece)
-        (fault_pieces names.now fault.now)) result) (O.held outputs.old) (O.held outputs.new) }
-    ensures counts { Counted (call_failed result) (O.faults outputs.old) (O.faults outputs.new)
-        Stderr }
-    ensures memory { Tallied (lacked_memory result) (O.shortages outputs.old)
-        (O.shortages outputs.new) }
+/// The pieces of a line of two texts.
+fn one_line<'a>(first: &'a [u8], second: &'a [u8]) -> [&'a [u8]; 9]
+    ensures { flat_map (λ piece. piece.now) result
+        ≡ flat_map (λ piece. piece) (first.now ∷ second.now ∷ 10 ∷ [] ∷ []) }
+{
+    [
+        first, second, b"\n", b"", b"", b"", b"", b"", b"",
+    ]
+}
+
+/// The pieces of the message of a fault.
+fn fault_pieces<'a>(
+    names: &'a [Bytes],
+    formats: &[Format],
+    fault: &'a Fault,
+    digits: &'a mut Digits,
+) -> [&'a [u8]; 9]
+    ensures { flat_map (λ piece. piece.now) result
+        ≡ flat_map (λ piece. piece) (fault_pieces names.now formats.now fault.now) }
 {
     match fault {
-        Fault::Length {
-            file,
-            line,
-            want,
-            have,
-        } => write_length(
-            file_text(names, *file),
-            *line,
-            *want,
-            *have,
-            digits,
-            outputs,
-        ),
-        Fault::Quote { file, line } => say_line(
-            file_text(names, *file),
-            *line,
-            b": unclosed quote\n",
-            digits,
-            outputs,
-        ),
-        Fault::Table { file, line } => say_line(
-            file_text(names, *file),
-            *line,
-            b": bad table line\n",
-            digits,
-            outputs,
-        ),
-        Fault::JsonSyntax { file, byte } => say_byte(
-            file_text(names, *file),
-            *byte,
-            b": bad JSON\n",
-            digits,
-            outputs,
-        ),
-        Fault::JsonDeep { file, byte } => say_byte(
-            file_text(names, *file),
-            *byte,
-            b": nested deeper than 100\n",
-            digits,
-            outputs,
-        ),
-        Fault::JsonKind { file, byte } => say_byte(
-            file_text(names, *file),
-            *byte,
-            b": not a map\n",
-            digits,
-            outputs,
-        ),
+        Fault::Length { file, line, want, have } => {
+            length_pieces(file_text(names, *file), *line, *want, *have, digits)
+        }
+        Fault::Quote { file, line } => {
+            line_pieces(file_text(names, *file), *line, b": unclosed quote\n", digits)
+        }
+        Fault::Table { file, line } => {
+            line_pieces(file_text(names, *file), *line, b": bad table line\n", digits)
+        }
+        Fault::JsonSyntax { file, byte } => {
+            byte_pieces(file_text(names, *file), *byte, b": bad JSON\n", digits)
+        }
+        Fault::JsonDeep { file, byte } => {
+            byte_pieces(file_text(names, *file), *byte, b": nested deeper than 100\n", digits)
+        }
+        Fault::JsonKind { file, byte } => {
+            byte_pieces(file_text(names, *file), *byte, b": not a map\n", digits)
+        }
+        Fault::Turns { verb, nr, limit } => turns_pieces(*verb, *nr, *limit, digits),
+        Fault::Depth { verb, nr } => {
+            verb_pieces(*verb, *nr, b": call limit 500 reached", b"", b"\n", digits)
+        }
+        Fault::Assert { verb, nr, name } => {
+            verb_pieces(*verb, *nr, b": assertion ", name.as_slice(), b" failed\n", digits)
+        }
+        Fault::WrongType { verb, nr, name } => {
+            verb_pieces(*verb, *nr, b": wrong type for ", name.as_slice(), b"\n", digits)
+        }
+        Fault::Index { verb, nr } => verb_pieces(*verb, *nr, b": bad index", b"", b"\n", digits),
+        Fault::OutputTwice {
+            name,
+            first_mode,
+            first,
+            second_mode,
+            second,
+        } => [
+            b"mlr: output ",
+            name.as_slice(),
+            b": first ",
+            mode_text(*first_mode),
+            style_text(formats, *first),
+            b", then ",
+            mode_text(*second_mode),
+            style_text(formats, *second),
+            b"\n",
+        ],
     }
 }
 
-/// Writes the message of a row of another length than its header.
-fn write_length<O: Outputs>(
-    file: &[u8],
+/// The pieces of the message of a row of another length than its header.
+fn length_pieces<'a>(
+    file: &'a [u8],
     line: u64,
     want: u64,
     have: u64,
-    digits: &mut Digits,
-    outputs: &mut O,
-) -> Done
-    ensures bytes { ChangesAt Stderr (Appends (flat_map (λ piece. piece)
-        (length_pieces file.now line want have)) result) (O.held outputs.old) (O.held outputs.new) }
-    ensures counts { Counted (call_failed result) (O.faults outputs.old) (O.faults outputs.new)
-        Stderr }
-    ensures memory { Tallied (lacked_memory result) (O.shortages outputs.old)
-        (O.shortages outputs.new) }
+    digits: &'a mut Digits,
+) -> [&'a [u8]; 9]
+    ensures { flat_map (λ piece. piece.now) result
+        ≡ flat_map (λ piece. piece) (length_pieces file.now line want have) }
 {
     let line = digits.first.format(line).as_bytes();
     let have = digits.second.format(have).as_bytes();
     let want = digits.third.format(want).as_bytes();
-    say(
-        outputs,
-        b"mlr: ",
-        file,
-        b": line ",
-        line,
-        b": data length ",
-        have,
-        b", header length ",
-        want,
-        b"\n",
-    )
+    [
+        b"mlr: ", file, b": line ", line, b": data length ", have, b", header length ", want, b"\n",
+    ]
 }
 
-/// Writes what is wrong on a line.
-fn say_line<O: Outputs>(
-    file: &[u8],
+/// The pieces that say what is wrong on a line.
+fn line_pieces<'a>(
+    file: &'a [u8],
     line: u64,
-    what: &[u8],
-    digits: &mut Digits,
-    outputs: &mut O,
-) -> Done
-    ensures bytes { ChangesAt Stderr (Appends (flat_map (λ piece. piece)
-        (line_pieces file.now line what.now)) result) (O.held outputs.old) (O.held outputs.new) }
-    ensures counts { Counted (call_failed result) (O.faults outputs.old) (O.faults outputs.new)
-        Stderr }
-    ensures memory { Tallied (lacked_memory result) (O.shortages outputs.old)
-        (O.shortages outputs.new) }
+    what: &'a [u8],
+    digits: &'a mut Digits,
+) -> [&'a [u8]; 9]
+    ensures { flat_map (λ piece. piece.now) result
+        ≡ flat_map (λ piece. piece) (line_pieces file.now line what.now) }
 {
     let line = digits.first.format(line).as_bytes();
-    say(
-        outputs, b"mlr: ", file, b": line ", line, what, b"", b"", b"", b"",
-    )
+    [
+        b"mlr: ", file, b": line ", line, what, b"", b"", b"", b"",
+    ]
 }
 
-/// Writes what is wrong at a byte.
-fn say_byte<O: Outputs>(
-    file: &[u8],
+/// The pieces that say what is wrong at a byte.
+fn byte_pieces<'a>(
+    file: &'a [u8],
     byte: u64,
-    what: &[u8],
-    digits: &mut Digits,
-    outputs: &mut O,
-) -> Done
-    ensures bytes { ChangesAt Stderr (Appends (flat_map (λ piece. piece)
-        (byte_pieces file.now byte what.now)) result) (O.held outputs.old) (O.held outputs.new) }
-    ensures counts { Counted (call_failed result) (O.faults outputs.old) (O.faults outputs.new)
-        Stderr }
-    ensures memory { Tallied (lacked_memory result) (O.shortages outputs.old)
-        (O.shortages outputs.new) }
+    what: &'a [u8],
+    digits: &'a mut Digits,
+) -> [&'a [u8]; 9]
+    ensures { flat_map (λ piece. piece.now) result
+        ≡ flat_map (λ piece. piece) (byte_pieces file.now byte what.now) }
 {
     let byte = digits.first.format(byte).as_bytes();
-    say(
-        outputs, b"mlr: ", file, b": byte ", byte, what, b"", b"", b"", b"",
-    )
+    [
+        b"mlr: ", file, b": byte ", byte, what, b"", b"", b"", b"",
+    ]
 }
 
-/// Writes up to nine pieces to standard error.
-fn say<'a, O: Outputs>(
-    outputs: &mut O,
-    first: &'a [u8],
-    second: &'a [u8],
-    third: &'a [u8],
-    fourth: &'a [u8],
-    fifth: &'a [u8],
-    sixth: &'a [u8],
-    seventh: &'a [u8],
-    eighth: &'a [u8],
-    ninth: &'a [u8],
-) -> Done
-    ensures bytes { ChangesAt Stderr (Appends (flat_map (λ piece. piece)
-        (first.now ∷ second.now ∷ third.now ∷ fourth.now ∷ fifth.now ∷ sixth.now ∷ seventh.now
-        ∷ eighth.now ∷ ninth.now ∷ [])) result) (O.held outputs.old) (O.held outputs.new) }
-    ensures counts { Counted (call_failed result) (O.faults outputs.old) (O.faults outputs.new)
-        Stderr }
-    ensures memory { Tallied (lacked_memory result) (O.shortages outputs.old)
-        (O.shortages outputs.new) }
+/// The pieces that say what a verb found wrong at a record.
+fn verb_pieces<'a>(
+    verb: u32,
+    nr: u64,
+    what: &'a [u8],
+    name: &'a [u8],
+    rest: &'a [u8],
+    digits: &'a mut Digits,
+) -> [&'a [u8]; 9]
+    ensures { flat_map (λ piece. piece.now) result
+        ≡ flat_map (λ piece. piece) (verb_pieces verb nr what.now name.now rest.now) }
 {
-    write_pieces(
-        outputs,
-        &[
-            first, second, third, fourth, fifth, sixth, seventh, eighth, ninth,
-        ],
-    )
+    let verb = digits.first.format(verb).as_bytes();
+    let nr = digits.second.format(nr).as_bytes();
+    [
+        b"mlr: verb ", verb, b": record ", nr, what, name, rest, b"", b"",
+    ]
+}
+
+/// The pieces that say that a verb took all its turns at a record.
+fn turns_pieces<'a>(verb: u32, nr: u64, limit: u64, digits: &'a mut Digits) -> [&'a [u8]; 9]
+    ensures { flat_map (λ piece. piece.now) result
+        ≡ flat_map (λ piece. piece) (turns_pieces verb nr limit) }
+{
+    let verb = digits.first.format(verb).as_bytes();
+    let nr = digits.second.format(nr).as_bytes();
+    let limit = digits.third.format(limit).as_bytes();
+    [
+        b"mlr: verb ", verb, b": record ", nr, b": turn limit ", limit, b" reached\n", b"", b"",
+    ]
 }
 
 /// Writes the pieces that have bytes to standard error one by one, up to the first that can't be written.
@@ -311,6 +260,43 @@ fn write_some<O: Outputs>(outputs: &mut O, piece: &[u8]) -> Done
         return Done::Ok;
     }
     outputs.write(&Target::Stderr, piece)
+}
+
+/// How an output was opened, as messages say it.
+fn mode_text(mode: Mode) -> &'static [u8]
+    ensures { result.now ≡ mode_text mode }
+{
+    match mode {
+        Mode::Fresh => b"> ",
+        Mode::Append => b">> ",
+    }
+}
+
+/// The name of the format of this row; the name of the first row's where there is none of this number.
+fn style_text(formats: &[Format], style: StyleId) -> &'static [u8]
+    ensures { result.now ≡ style_text formats.now style }
+{
+    match formats.get(style.0 as usize).or(formats.first()) {
+        Some(format) => format_text(*format),
+        None => b"",
+    }
+}
+
+/// The name of a format.
+fn format_text(format: Format) -> &'static [u8]
+    ensures { result.now ≡ format_text format }
+{
+    match format {
+        Format::Csv => b"csv",
+        Format::Tsv => b"tsv",
+        Format::Json => b"json",
+        Format::Jsonl => b"jsonl",
+        Format::Dkvp => b"dkvp",
+        Format::Nidx => b"nidx",
+        Format::Xtab => b"xtab",
+        Format::Pprint => b"pprint",
+        Format::Markdown => b"markdown",
+    }
 }
 
 /// The word with this number from 1, or no bytes if there is none.

@@ -1,10 +1,10 @@
 -- What a verb makes of a list of events is a list of events.
-use Rattle.std.proofs.Common.{◌≡◌, Bool, true, false, not, cond, ◌&&◌, ◌||◌, List, [], ◌∷◌, ◌++◌, refl, ap, ap₂, sym, ◌∙◌, subst, inl, inr}
-use Rattle.std.specs.List.{list_any, list_all}
+use Rattle.std.proofs.Common.{◌≡◌, true, false, not, cond, ◌&&◌, ◌||◌, List, [], ◌∷◌, ◌++◌, refl, ap, ap₂, ◌∙◌, inl, inr}
+use Rattle.std.specs.List.{list_any}
 use Rattle.std.proofs.lemmas.Bool.{and_parts, cases_Bool, not-true, or_parts}
 use Rattle.mlr_event.specs.declared.event.Event.{Event}
 use Rattle.mlr_event.specs.declared.event.Event.TheVariants as event
-use Rattle.mlr_event.specs.Verb.{KeepsOrder, Verb, gives, is_end, is_fault, is_last, is_list, is_open, is_part, is_record, made, made_after, then_unless_fault}
+use Rattle.mlr_event.specs.Verb.{KeepsOrder, Verb, gives, is_end, is_fault, is_last, is_list, is_open, is_part, made, made_after, then_unless_fault}
 use Rattle.mlr_event.proofs.Making.{no-fault, then-nothing}
 
 -- a list that ends in one event more is open before it

@@ -1,15 +1,16 @@
 //! Lists of events.
-ghost use Rattle.std.specs.Prelude.{◌≡◌, ◌++◌, ◌∷◌, [], length, if◌then◌else◌, is_ok, slice_get, None, reverse};
+ghost use Rattle.std.specs.Prelude.{◌≡◌, ◌++◌, ◌∷◌, [], length, if◌then◌else◌, is_ok, slice_get, None};
 ghost use Rattle.std.specs.Option.{option_map, option_to_list};
 
 use crate::Event;
 use mlr_spec::NoMemory;
 use std::alloc::Global;
+use std::collections::VecDeque;
 use std::marker::Model;
 
-/// A list of events, in order.
+/// A list of events, in order. It is filled at its end and emptied from its start, and keeps its memory.
 pub struct Events {
-    events: Vec<Event>,
+    events: VecDeque<Event>,
 }
 
 // Written by hand, so that the crates above call it instead of dropping the fields themselves.
@@ -40,7 +41,7 @@ impl Events {
         ensures { result ≡ [] }
     {
         Events {
-            events: Vec::new(alloc),
+            events: VecDeque::new(alloc),
         }
     }
 
@@ -63,25 +64,17 @@ impl Events {
     pub fn push(&mut self, event: Event) -> Result<(), NoMemory>
         ensures { self.new ≡ (if is_ok result then self.old ++ event ∷ [] else self.old) }
     {
-        self.events.push(event)?;
+        self.events.push_back(event)?;
         Ok(())
     }
 
-    /// Takes the last event out, if there is one. It takes no memory.
+    /// Takes the first event out, if there is one. It doesn't allocate.
     #[inline]
-    pub fn pop(&mut self) -> Option<Event>
-        ensures events { self.old ≡ self.new ++ option_to_list result }
-        ensures none { result ≡ None → self.old ≡ [] }
+    pub fn pop_first(&mut self) -> Option<Event>
+        ensures events { self.old ≡ option_to_list result ++ self.new }
+        ensures none { result ≡ None → self.new ≡ [] }
     {
-        self.events.pop()
-    }
-
-    /// Turns the order round. It takes no memory.
-    #[inline]
-    pub fn reverse(&mut self)
-        ensures { self.new ≡ reverse self.old }
-    {
-        self.events.reverse();
+        self.events.pop_front()
     }
 
     /// Appends all events of another list, and leaves it empty.
@@ -98,6 +91,6 @@ impl Events {
         ensures { result.items ≡ self }
     {
         let Events { events } = self;
-        events
+        Vec::from(events)
     }
 }

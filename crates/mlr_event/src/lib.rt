@@ -2,6 +2,7 @@
 //! reader makes, that verbs pass on and that the outlet writes.
 #![tactic(auto)]
 
+mod batch;
 mod event;
 mod events;
 mod fault;
@@ -9,6 +10,7 @@ mod field_names;
 mod header;
 mod laws;
 pub mod models;
+mod name_list;
 mod names;
 mod options;
 pub mod rows;
@@ -16,12 +18,14 @@ mod step;
 #[cfg(test)]
 mod tests;
 
+pub use batch::{Batch, Tail};
 pub use event::{Body, Ctx, Event, Piece};
 pub use events::Events;
 pub use fault::Fault;
 pub use field_names::Names;
 pub use header::Header;
 pub use laws::verb_laws;
+pub use name_list::NameList;
 pub use names::{FileRef, InputName, Mode, StyleId, Target};
 pub use options::{Comments, Format, ReadOpts};
 pub use step::Step;

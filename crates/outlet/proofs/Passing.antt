@@ -1,7 +1,7 @@
--- The events of a list are appended one after another; the remaining ones are in reverse order.
-use Rattle.std.proofs.Common.{◌≡◌, ℕ, Bool, true, false, not, ◌&&◌, List, [], ◌∷◌, ◌++◌, reverse, Option, Some, None, refl, ap, sym, ◌∙◌, subst, append_assoc}
+-- The events of a list are appended one after another.
+use Rattle.std.proofs.Common.{◌≡◌, ℕ, Bool, true, false, not, ◌&&◌, List, [], ◌∷◌, ◌++◌, Option, Some, None, refl, ap, sym, ◌∙◌, subst, append_assoc}
 use Rattle.std.proofs.lemmas.Bool.{and_parts, not-true, true≢false}
-use Rattle.std.proofs.lemmas.List.{append-nil, reverse-append, reverse-reverse}
+use Rattle.std.proofs.lemmas.List.{append-nil}
 use Rattle.mlr_event.specs.Adding.{Adds}
 use Rattle.mlr_event.specs.declared.event.Event.{Event}
 use Rattle.mlr_event.specs.declared.event.Event.TheVariants as event
@@ -36,24 +36,24 @@ over-last (event.Fault f) fault is = refl
 -- how far it has come
 pub record Passed (first : Outlet) (events : List Event) (now : Outlet) (left : List Event) : Type 0 where
   pub passed : List Event
-  pub all : events ≡ passed ++ reverse left
+  pub all : events ≡ passed ++ left
   pub at : (opts : WriteOpts) (before : List Event) → IsAt opts before first → is_list (before ++ events) ≡ true → IsAt opts (before ++ passed) now
   pub adds : (opts : WriteOpts) (before : List Event) → IsAt opts before first → is_list (before ++ events) ≡ true → Adds first.text now.text (out_of opts before) (out_of opts (before ++ passed))
 
-pub none-passed : (first : Outlet) (events turned : List Event) → turned ≡ reverse events → Passed first events first turned
-none-passed first events turned is = record {
+pub none-passed : (first : Outlet) (events : List Event) → Passed first events first events
+none-passed first events = record {
   passed = [];
-  all = sym (ap reverse is ∙ reverse-reverse events);
+  all = refl;
   at = λ opts before at list. subst (λ t. IsAt opts t first) (sym (append-nil before)) at;
   adds = λ opts before at list. adds-nothing first.text (out_of opts before) (out_of opts (before ++ [])) (ap (out_of opts) (append-nil before));
 }
 
-module _ (first : Outlet) (events : List Event) (now : Outlet) (left : List Event) (e : Event) (so_far : Passed first events now (left ++ e ∷ [])) where
-  rest-is : events ≡ so_far.passed ++ e ∷ reverse left
-  rest-is = so_far.all ∙ ap (λ t. so_far.passed ++ t) (reverse-append left (e ∷ []))
+module _ (first : Outlet) (events : List Event) (now : Outlet) (left : List Event) (e : Event) (so_far : Passed first events now (e ∷ left)) where
+  rest-is : events ≡ so_far.passed ++ e ∷ left
+  rest-is = so_far.all
 
-  list-is : (before : List Event) → is_list (before ++ events) ≡ true → is_list ((before ++ so_far.passed) ++ e ∷ reverse left) ≡ true
-  list-is before list = ap is_list (append_assoc before so_far.passed (e ∷ reverse left) ∙ ap (λ t. before ++ t) (sym rest-is)) ∙ list
+  list-is : (before : List Event) → is_list (before ++ events) ≡ true → is_list ((before ++ so_far.passed) ++ e ∷ left) ≡ true
+  list-is before list = ap is_list (append_assoc before so_far.passed (e ∷ left) ∙ ap (λ t. before ++ t) (sym rest-is)) ∙ list
 
   one-more : (before : List Event) → (before ++ so_far.passed) ++ e ∷ [] ≡ before ++ (so_far.passed ++ e ∷ [])
   one-more before = append_assoc before so_far.passed (e ∷ [])
@@ -70,7 +70,7 @@ module _ (first : Outlet) (events : List Event) (now : Outlet) (left : List Even
     pub one-passed : over ≡ None → Passed first events later left
     one-passed none = record {
       passed = so_far.passed ++ e ∷ [];
-      all = rest-is ∙ sym (append_assoc so_far.passed (e ∷ []) (reverse left));
+      all = rest-is ∙ sym (append_assoc so_far.passed (e ∷ []) left);
       at = λ opts before at list. subst (λ t. IsAt opts t later) (one-more before) ((then-appends opts before at list).more none);
       adds = adds-more;
     }
@@ -87,15 +87,15 @@ module _ (first : Outlet) (events : List Event) (now : Outlet) (left : List Even
       says-of : List Event → Type 0
       says-of t = LetSays (let_of (Some fault)) t
 
-      nothing-left : reverse left ≡ []
-      nothing-left = last-alone (before ++ so_far.passed) e (reverse left) (list-is before list) (over-last e fault is)
+      nothing-left : left ≡ []
+      nothing-left = last-alone (before ++ so_far.passed) e left (list-is before list) (over-last e fault is)
 
       whole : events ≡ so_far.passed ++ e ∷ []
       whole = rest-is ∙ ap (λ t. so_far.passed ++ e ∷ t) nothing-left
 
   -- so nothing remains
   pub last-left : (fault : Option Fault) → over_by e ≡ Some fault → (before : List Event) → is_list (before ++ events) ≡ true → left ≡ []
-  last-left fault is before list = sym (reverse-reverse left) ∙ ap reverse (last-alone (before ++ so_far.passed) e (reverse left) (list-is before list) (over-last e fault is))
+  last-left fault is before list = last-alone (before ++ so_far.passed) e left (list-is before list) (over-last e fault is)
 
   pub is-open : (opts : WriteOpts) (before : List Event) → IsAt opts before first → is_list (before ++ events) ≡ true → (opts : WriteOpts) × (before : List Event) × IsAt opts before now
   is-open opts before at list = (opts, before ++ so_far.passed, so_far.at opts before at list)

@@ -165,8 +165,7 @@ impl Outlet {
             → Appends over opts before events.old self.old self.new) }
         ensures emptied { OnOk result (events.new ≡ []) }
     {
-        events.reverse();
-        while let Some(event) = events.pop() {
+        while let Some(event) = events.pop_first() {
             if let Some(fault) = self.put(event)? {
                 return Ok(Some(fault));
             }
