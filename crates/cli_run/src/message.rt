@@ -64,7 +64,15 @@ fn message_pieces<'a>(
             let number = digits.first.format(refusal.word).as_bytes();
             let word = word_at(words, refusal.word);
             [
-                b"mlr: word ", number, b": not built: ", word, b"\n", b"", b"", b"", b"",
+                b"mlr: word ",
+                number,
+                b": not built: ",
+                word,
+                b"\n",
+                b"",
+                b"",
+                b"",
+                b"",
             ]
         }
         Ended::Data(fault) => fault_pieces(names, formats, fault, digits),
@@ -80,9 +88,7 @@ fn one_line<'a>(first: &'a [u8], second: &'a [u8]) -> [&'a [u8]; 9]
     ensures { flat_map (λ piece. piece.now) result
         ≡ flat_map (λ piece. piece) (first.now ∷ second.now ∷ 10 ∷ [] ∷ []) }
 {
-    [
-        first, second, b"\n", b"", b"", b"", b"", b"", b"",
-    ]
+    [first, second, b"\n", b"", b"", b"", b"", b"", b""]
 }
 
 /// The pieces of the message of a fault.
@@ -96,20 +102,38 @@ fn fault_pieces<'a>(
         ≡ flat_map (λ piece. piece) (fault_pieces names.now formats.now fault.now) }
 {
     match fault {
-        Fault::Length { file, line, want, have } => {
-            length_pieces(file_text(names, *file), *line, *want, *have, digits)
-        }
+        Fault::Length {
+            file,
+            line,
+            want,
+            have,
+        } => { length_pieces(file_text(names, *file), *line, *want, *have, digits) }
         Fault::Quote { file, line } => {
-            line_pieces(file_text(names, *file), *line, b": unclosed quote\n", digits)
+            line_pieces(
+                file_text(names, *file),
+                *line,
+                b": unclosed quote\n",
+                digits,
+            )
         }
         Fault::Table { file, line } => {
-            line_pieces(file_text(names, *file), *line, b": bad table line\n", digits)
+            line_pieces(
+                file_text(names, *file),
+                *line,
+                b": bad table line\n",
+                digits,
+            )
         }
         Fault::JsonSyntax { file, byte } => {
             byte_pieces(file_text(names, *file), *byte, b": bad JSON\n", digits)
         }
         Fault::JsonDeep { file, byte } => {
-            byte_pieces(file_text(names, *file), *byte, b": nested deeper than 100\n", digits)
+            byte_pieces(
+                file_text(names, *file),
+                *byte,
+                b": nested deeper than 100\n",
+                digits,
+            )
         }
         Fault::JsonKind { file, byte } => {
             byte_pieces(file_text(names, *file), *byte, b": not a map\n", digits)
@@ -119,10 +143,24 @@ fn fault_pieces<'a>(
             verb_pieces(*verb, *nr, b": call limit 500 reached", b"", b"\n", digits)
         }
         Fault::Assert { verb, nr, name } => {
-            verb_pieces(*verb, *nr, b": assertion ", name.as_slice(), b" failed\n", digits)
+            verb_pieces(
+                *verb,
+                *nr,
+                b": assertion ",
+                name.as_slice(),
+                b" failed\n",
+                digits,
+            )
         }
         Fault::WrongType { verb, nr, name } => {
-            verb_pieces(*verb, *nr, b": wrong type for ", name.as_slice(), b"\n", digits)
+            verb_pieces(
+                *verb,
+                *nr,
+                b": wrong type for ",
+                name.as_slice(),
+                b"\n",
+                digits,
+            )
         }
         Fault::Index { verb, nr } => verb_pieces(*verb, *nr, b": bad index", b"", b"\n", digits),
         Fault::OutputTwice {
@@ -160,7 +198,15 @@ fn length_pieces<'a>(
     let have = digits.second.format(have).as_bytes();
     let want = digits.third.format(want).as_bytes();
     [
-        b"mlr: ", file, b": line ", line, b": data length ", have, b", header length ", want, b"\n",
+        b"mlr: ",
+        file,
+        b": line ",
+        line,
+        b": data length ",
+        have,
+        b", header length ",
+        want,
+        b"\n",
     ]
 }
 
@@ -175,9 +221,7 @@ fn line_pieces<'a>(
         ≡ flat_map (λ piece. piece) (line_pieces file.now line what.now) }
 {
     let line = digits.first.format(line).as_bytes();
-    [
-        b"mlr: ", file, b": line ", line, what, b"", b"", b"", b"",
-    ]
+    [b"mlr: ", file, b": line ", line, what, b"", b"", b"", b""]
 }
 
 /// The pieces that say what is wrong at a byte.
@@ -191,9 +235,7 @@ fn byte_pieces<'a>(
         ≡ flat_map (λ piece. piece) (byte_pieces file.now byte what.now) }
 {
     let byte = digits.first.format(byte).as_bytes();
-    [
-        b"mlr: ", file, b": byte ", byte, what, b"", b"", b"", b"",
-    ]
+    [b"mlr: ", file, b": byte ", byte, what, b"", b"", b"", b""]
 }
 
 /// The pieces that say what a verb found wrong at a record.
@@ -211,7 +253,15 @@ fn verb_pieces<'a>(
     let verb = digits.first.format(verb).as_bytes();
     let nr = digits.second.format(nr).as_bytes();
     [
-        b"mlr: verb ", verb, b": record ", nr, what, name, rest, b"", b"",
+        b"mlr: verb ",
+        verb,
+        b": record ",
+        nr,
+        what,
+        name,
+        rest,
+        b"",
+        b"",
     ]
 }
 
@@ -224,7 +274,15 @@ fn turns_pieces<'a>(verb: u32, nr: u64, limit: u64, digits: &'a mut Digits) -> [
     let nr = digits.second.format(nr).as_bytes();
     let limit = digits.third.format(limit).as_bytes();
     [
-        b"mlr: verb ", verb, b": record ", nr, b": turn limit ", limit, b" reached\n", b"", b"",
+        b"mlr: verb ",
+        verb,
+        b": record ",
+        nr,
+        b": turn limit ",
+        limit,
+        b" reached\n",
+        b"",
+        b"",
     ]
 }
 

@@ -4,7 +4,7 @@ use Rattle.std.specs.List.{flat_map}
 use Rattle.std.specs.Fmt.{decimal}
 use Rattle.mlr_spec.specs.Json.{joined}
 use Rattle.mlr_spec.specs.Pairs.{keys_of, are_distinct}
-use Rattle.mlr_spec.specs.Tree.{Tree, absent, empty, string, int, fraction, wide, boolean, mapping, array, error, Trees, no_trees, tree_and, Fields, no_fields, field_and, pairs_in, items_in, fields_of}
+use Rattle.mlr_spec.specs.Tree.{Tree, string, mapping, array, Trees, no_trees, tree_and, Fields, no_fields, field_and, pairs_in, items_in, fields_of}
 use Rattle.mlr_spec.specs.Flatten.{leaves_of, path_of}
 
 -- a leaf: the names on its path, and its value
@@ -21,14 +21,7 @@ abbrev mutual
   leaves_in (mapping (field_and key value more)) = leaves_in_pairs (field_and key value more)
   leaves_in (array no_trees) = ([], string (codes "[]")) ∷ []
   leaves_in (array (tree_and item more)) = leaves_in_items 1 (tree_and item more)
-  leaves_in absent = ([], absent) ∷ []
-  leaves_in empty = ([], empty) ∷ []
-  leaves_in (string text) = ([], string text) ∷ []
-  leaves_in (int n spelling) = ([], int n spelling) ∷ []
-  leaves_in (fraction text) = ([], fraction text) ∷ []
-  leaves_in (wide text) = ([], wide text) ∷ []
-  leaves_in (boolean b) = ([], boolean b) ∷ []
-  leaves_in error = ([], error) ∷ []
+  leaves_in value = ([], value) ∷ []
 
   pub leaves_in_pairs : Fields → List Leaf
   leaves_in_pairs no_fields = []
@@ -43,14 +36,7 @@ abbrev mutual
   pub IsSound : Tree → Type 0
   IsSound (mapping pairs) = (are_distinct (keys_of (pairs_in pairs)) ≡ true) × ArePairsSound pairs
   IsSound (array items) = (length (items_in items) < 2 ^ 64) × AreItemsSound items
-  IsSound absent = Unit {0}
-  IsSound empty = Unit {0}
-  IsSound (string text) = Unit {0}
-  IsSound (int n spelling) = Unit {0}
-  IsSound (fraction text) = Unit {0}
-  IsSound (wide text) = Unit {0}
-  IsSound (boolean b) = Unit {0}
-  IsSound error = Unit {0}
+  IsSound _ = Unit {0}
 
   pub ArePairsSound : Fields → Type 0
   ArePairsSound no_fields = Unit {0}

@@ -2,22 +2,14 @@
 use Rattle.std.specs.Prelude.{ℕ, Bool, false, ◌||◌, List, [], ◌∷◌, map, codes}
 use Rattle.std.specs.Option.{is_some}
 use Rattle.std.specs.Str.{bytes_eq}
-use Rattle.mlr_spec.specs.Tree.{Tree, absent, empty, string, int, fraction, wide, boolean, mapping, array, error}
+use Rattle.mlr_spec.specs.Tree.{Tree, string}
 use Rattle.mlr_spec.specs.Split.{place_in}
 use Rattle.mlr_spec.specs.Flatten.{Node, leaf, are_positions_from}
 
 -- the texts that represent an empty map and an empty array
 abbrev pub represents_collection : Tree → Bool
 represents_collection (string text) = bytes_eq text (codes "{}") || bytes_eq text (codes "[]")
-represents_collection absent = false
-represents_collection empty = false
-represents_collection (int n spelling) = false
-represents_collection (fraction text) = false
-represents_collection (wide text) = false
-represents_collection (boolean b) = false
-represents_collection (mapping pairs) = false
-represents_collection (array items) = false
-represents_collection error = false
+represents_collection _ = false
 
 -- a field whose name spells a path, or whose text represents an empty map or array
 abbrev pub is_unflattened : List ℕ → List ℕ × Tree → Bool

@@ -4,7 +4,7 @@ use Rattle.mlr_spec.specs.declared.json.JsonStyle.TheVariants.{Single}
 use Rattle.mlr_spec.specs.Json.{json_text}
 use Rattle.mlr_spec.specs.JsonGrammar.{text_value}
 use Rattle.mlr_spec.specs.JsonTokens.{tokens_of}
-use Rattle.mlr_spec.specs.Tree.{Tree, string, int, fraction, wide, error, text_of}
+use Rattle.mlr_spec.specs.Tree.{Tree, string, error, is_number, text_of}
 use Rattle.mlr_json.specs.Machine.{Outcome, read, syntax, deep, outcome_of}
 use Rattle.mlr_json.specs.Readable.{plain}
 use Rattle.verbs_base.specs.Changing.{is_taken, changed}
@@ -25,10 +25,7 @@ decoded text = value_or_error (outcome_of (length text + 1) (tokens_of plain tex
 -- whether a value is parsed: a string or a number
 abbrev pub is_parsed : Tree → Bool
 is_parsed (string text) = true
-is_parsed (int n spelling) = true
-is_parsed (fraction text) = true
-is_parsed (wide text) = true
-is_parsed _ = false
+is_parsed value = is_number value
 
 abbrev pub parsed : Tree → Tree
 parsed value = if is_parsed value then decoded (text_of value) else value

@@ -48,10 +48,7 @@ fn parse(alloc: Global, value: Value) -> Result<Value, NoMemory>
 fn is_parsed(value: &Value) -> bool
     ensures { result ≡ is_parsed (tree_of value.now) }
 {
-    matches!(
-        value,
-        Value::Str(_) | Value::Int(_) | Value::Frac(_) | Value::Wide(_)
-    )
+    matches!(value, Value::Str(_)) || value.is_number()
 }
 
 /// `json-parse`: parses strings and numbers as JSON.
