@@ -1,7 +1,7 @@
 -- How a reading that continues changes the bytes taken.
-use Rattle.std.proofs.Common.{◌≡◌, ℕ, zero, suc, ◌+◌, true, false, List, [], ◌∷◌, ◌++◌, length, take, drop, get_or, set, map, Some, IsSome, All, inl, inr, refl, ap, subst, sym, ◌∙◌, arith}
-use Rattle.std.specs.Option.{option_map}
-use Rattle.std.proofs.lemmas.List.{append_assoc, map-append, get_or_default, length-take, length-drop, take-append-drop, take_all, length-set, get_or-set_same}
+use Rattle.std.proofs.Common.{◌≡◌, ℕ, zero, suc, ◌+◌, ◌≤◌, Bool, true, false, ◌||◌, List, [], ◌∷◌, ◌++◌, length, take, drop, get_or, set, map, Some, None, IsSome, All, refl, ap, subst, sym, ◌∙◌, arith}
+use Rattle.std.specs.Option.{option_map, is_none}
+use Rattle.std.proofs.lemmas.List.{append_assoc, map-append, get_or_default, length-take, length-take-le, length-drop, take-append-drop, take_all}
 use Rattle.std.proofs.lemmas.List.Elements.{All-push}
 use Rattle.std.proofs.Math.Seq.{take-add}
 use Rattle.mlr_event.specs.declared.names.InputName.{InputName}
@@ -11,9 +11,10 @@ use Rattle.mlr_world.specs.declared.memory_inputs.Reading.{Reading}
 use Rattle.mlr_world.specs.Inputs.{ReadTakes}
 use Rattle.mlr_world.specs.MemoryTexts.{same_input, IsFirstPlace}
 use Rattle.mlr_world.specs.MemorySource.{contents_at}
-use Rattle.mlr_world.specs.MemoryInputs.{name_at, text_at, take_of, takes_of, last_name, IsReading, TakesFrom, TakesMost, TakesMostFrom}
+use Rattle.mlr_world.specs.MemoryInputs.{name_at, text_at, take_of, takes_of, last_name, left_of, IsReading, TakesFrom}
+use Rattle.mlr_world.specs.Outputs.{or_empty}
 use Rattle.mlr_world.specs.Taken.{Take, begun, grown, ended, with_last, last_take}
-use Rattle.mlr_world.proofs.MemoryTexts.{first_at-place, same_input-true}
+use Rattle.mlr_world.proofs.MemoryTexts.{first_at-absent, first_at-place, same_input-true}
 
 module _ {E : Type 0} (make : E → Take) where
   last_take-map : (xs : List E) (i : ℕ) (d : E) → i + 1 ≡ length xs → last_take (map make xs) ≡ Some (make (get_or xs i d))
@@ -73,16 +74,16 @@ module _ (contents : List (InputName × List ℕ)) (readings : List Reading) (i 
       ∙ ap (λ rest. take reading.count text ++ rest) (take-append-drop n (drop reading.count text))
       ∙ take-append-drop reading.count text)
 
-  pub took : (max n : ℕ) (into into' : List ℕ) → TakesFrom max (text_at contents reading.place) reading.count (got.Some n) into into'
+  pub took : (limit max n : ℕ) (into into' : List ℕ) → limit ≤ max → TakesFrom limit (text_at contents reading.place) reading.count (got.Some n) into into'
       → ReadTakes max (got.Some n) (Some (contents_at contents)) (Some (takes_of contents readings))
       (Some (takes_of contents (set readings i (record { place = reading.place; count = reading.count + n; ended = reading.ended })))) into into'
-  took max n into into' h =
+  took limit max n into into' within h =
       let text = text_at contents reading.place in
       record {
         piece = take n (drop reading.count text);
         count = simp (length-take, length-drop) (omega (arith, h.2));
         some = h.0;
-        no_more = h.1;
+        no_more = omega (arith, h.1, within);
         appended = h.3;
         entry = ap Some (grew n);
         prefix = rw last_of (drop n (drop reading.count text), fine.first ∙ ap Some (whole n text));
@@ -99,18 +100,18 @@ module _ (contents : List (InputName × List ℕ)) (readings : List Reading) (i 
         all = rw last_of (fine.first ∙ ap Some (sym (take_all reading.count text h.0)));
       }
 
-  -- the last take after its reading was set
-  last_of-set : (reading' : Reading) → last_take (takes_of contents (set readings i reading')) ≡ Some (take_of contents reading')
-  last_of-set reading' =
-      last_take-map (take_of contents) (set readings i reading') i reading' (simp length-set last)
-      ∙ ap (λ r. Some (take_of contents r)) (get_or-set_same readings i reading' reading' (omega (arith, last)))
+  -- what is left of the input that is read
+  left-so : left_of (contents_at contents) (last_take (takes_of contents readings)) ≡ drop reading.count (text_at contents reading.place)
+  left-so =
+      let text = text_at contents reading.place in
+      ap (left_of (contents_at contents)) last_of
+      ∙ ap (λ held. drop (length (take reading.count text)) (or_empty held)) fine.first
+      ∙ ap (λ count. drop count text) (length-take-le reading.count text fine.within)
 
-  pub took-most : (max n : ℕ) → TakesMostFrom max (text_at contents reading.place) reading.count (got.Some n)
-      → TakesMost max (got.Some n) (Some (contents_at contents)) (Some (takes_of contents (set readings i (record { place = reading.place; count = reading.count + n; ended = reading.ended }))))
-  took-most max n (inl whole) = inl whole
-  took-most max n (inr all) = inr
-      (rw (last_of-set (record { place = reading.place; count = reading.count + n; ended = reading.ended }))
-      (fine.first ∙ ap Some (sym (take_all (reading.count + n) (text_at contents reading.place) (omega (arith, all))))))
+  -- so what holds of the rest of its text holds of that
+  pub left-read : (entry : InputName × List ℕ) (text : List ℕ) → text ≡ (get_or contents reading.place entry).1 → (holds : List ℕ → Type 0)
+      → holds (drop reading.count text) → holds (left_of (contents_at contents) (last_take (takes_of contents readings)))
+  left-read entry text e holds h = subst holds (ap (drop reading.count) (text-read entry text e) ∙ sym left-so) h
 
   pub name-grew : (n : ℕ) → last_name (takes_of contents (set readings i (record { place = reading.place; count = reading.count + n; ended = reading.ended }))) ≡ last_name (takes_of contents readings)
   name-grew n = ap last_name (grew n) ∙ last_name-with (grown (take n (drop reading.count (text_at contents reading.place)))) (λ take. refl) (takes_of contents readings)
@@ -118,9 +119,14 @@ module _ (contents : List (InputName × List ℕ)) (readings : List Reading) (i 
   pub name-ended : last_name (takes_of contents (set readings i (record { place = reading.place; count = reading.count; ended = true }))) ≡ last_name (takes_of contents readings)
   name-ended = ap last_name met_end ∙ last_name-with ended (λ take. refl) (takes_of contents readings)
 
--- a new reading, appended to the others
-module _ (contents : List (InputName × List ℕ)) (readings readings' : List Reading) (name : InputName) (place : ℕ)
-    (found : IsFirstPlace (λ entry. same_input entry.0 name) contents (Some place)) (pushed : readings' ≡ readings ++ record { place = place; count = 0; ended = false } ∷ []) where
+-- an open of a name that has no contents fails
+pub fails-absent : (fails : Bool) (contents : List (InputName × List ℕ)) (name : InputName) → IsFirstPlace (λ entry. same_input entry.0 name) contents None
+    → true ≡ (fails || is_none (contents_at contents name))
+fails-absent true contents name absent = refl
+fails-absent false contents name absent = rw (first_at-absent (λ entry. same_input entry.0 name) (λ entry. entry.1) contents absent) refl
+
+-- the entry of a name that was found
+module _ (contents : List (InputName × List ℕ)) (name : InputName) (place : ℕ) (found : IsFirstPlace (λ entry. same_input entry.0 name) contents (Some place)) where
   name-found : name_at contents place ≡ name
   name-found = same_input-true _ _ (found.2 _)
 
@@ -130,14 +136,20 @@ module _ (contents : List (InputName × List ℕ)) (readings readings' : List Re
   pub finds : IsSome (contents_at contents name)
   finds = rw text-found
 
+  pub no-fault : (fails : Bool) → fails ≡ false → false ≡ (fails || is_none (contents_at contents name))
+  no-fault fails not = rw (not, text-found) refl
+
+-- a new reading, appended to the others
+module _ (contents : List (InputName × List ℕ)) (readings readings' : List Reading) (name : InputName) (place : ℕ)
+    (found : IsFirstPlace (λ entry. same_input entry.0 name) contents (Some place)) (pushed : readings' ≡ readings ++ record { place = place; count = 0; ended = false } ∷ []) where
   pub all_fine-begun : All (IsReading contents) readings → All (IsReading contents) readings'
   all_fine-begun fine =
       rw pushed
       (All-push (IsReading contents) readings _ fine
-      (record { there = found.0; within = omega arith; first = ap (contents_at contents) name-found ∙ text-found }))
+      (record { there = found.0; within = omega arith; first = ap (contents_at contents) (name-found contents name place found) ∙ text-found contents name place found }))
 
   pub takes-begun : takes_of contents readings' ≡ takes_of contents readings ++ begun name ∷ []
-  takes-begun = ap (takes_of contents) pushed ∙ map-append (take_of contents) readings _ ∙ ap (λ n. takes_of contents readings ++ begun n ∷ []) name-found
+  takes-begun = ap (takes_of contents) pushed ∙ map-append (take_of contents) readings _ ∙ ap (λ n. takes_of contents readings ++ begun n ∷ []) (name-found contents name place found)
 
   pub name-begun : last_name (takes_of contents readings') ≡ Some name
-  name-begun = ap (λ rs. last_name (takes_of contents rs)) pushed ∙ ap (option_map (λ take. take.name)) (last_take-push (take_of contents) readings _) ∙ ap Some name-found
+  name-begun = ap (λ rs. last_name (takes_of contents rs)) pushed ∙ ap (option_map (λ take. take.name)) (last_take-push (take_of contents) readings _) ∙ ap Some (name-found contents name place found)

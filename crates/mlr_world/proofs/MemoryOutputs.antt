@@ -1,5 +1,5 @@
 -- What a write or an open does to the bytes of each target.
-use Rattle.std.proofs.Common.{◌≡◌, ℕ, ◌<◌, Bool, true, false, List, [], ◌∷◌, ◌++◌, length, take, drop, get_or, set, Option, Some, None, refl, ap, sym, ◌∙◌}
+use Rattle.std.proofs.Common.{◌≡◌, ℕ, ◌<◌, ◌≤◌, Bool, true, false, List, [], ◌∷◌, ◌++◌, length, take, drop, get_or, set, All, Option, Some, None, refl, ap, sym, ◌∙◌, arith}
 use Rattle.std.specs.List.{list_any}
 use Rattle.std.proofs.lemmas.List.{length-set, take-set, get_or-set_same, take-append-drop}
 use Rattle.mlr_event.specs.declared.names.Target.{Target}
@@ -10,7 +10,7 @@ use Rattle.mlr_world.specs.declared.outputs.Done.TheVariants as done
 use Rattle.mlr_world.specs.Outputs.{ChangesOnly, OpenLeaves, WriteLeaves}
 use Rattle.mlr_world.specs.MemoryTexts.{same_target, first_at, IsFirstPlace}
 use Rattle.mlr_world.specs.MemorySink.{held_at}
-use Rattle.mlr_world.specs.MemoryOutputs.{pair_of, pairs_of, is_of}
+use Rattle.mlr_world.specs.MemoryOutputs.{pair_of, pairs_of, is_of, HasRoom, Writes}
 use Rattle.mlr_world.proofs.MemoryTexts.{same_target-true, same_target-from, same_target-false, first_at-absent, first_at-place, first_at-set_other, first_at-push_other, first_at-push_first, first_at-map, list_any-map}
 
 -- an entry's bytes
@@ -83,3 +83,12 @@ changes-push entries entries' target mode absent pushed =
 -- a failed write appends a prefix
 pub writes_prefix : (bytes : List ℕ) (n : ℕ) (before now : List ℕ) → now ≡ before ++ take n bytes → WriteLeaves bytes done.Failed (Some before) (Some now)
 writes_prefix bytes n before now e = (take n bytes, (drop n bytes, sym (take-append-drop n bytes)), ap Some e)
+
+-- a write to a target that isn't there
+pub writes-none : (fails : Bool) (room : ℕ) (bytes : List ℕ) → Writes fails room room bytes done.Failed None None
+writes-none true room bytes = record { failed = refl; text = refl; spent = refl }
+writes-none false room bytes = record { failed = refl; text = refl; spent = refl }
+
+-- texts have room for fewer bytes too
+pub all-fine-less : (room room' : ℕ) (entries : List HeldText) → room' ≤ room → All (HasRoom room) entries → All (HasRoom room') entries
+all-fine-less room room' entries less fine = λ i d below. let f : HasRoom room (get_or entries i d) = fine i d below in omega (arith, f)

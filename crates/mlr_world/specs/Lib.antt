@@ -2,6 +2,7 @@ pub mod Counts
 pub mod Taken
 pub mod Inputs
 pub mod Outputs
+pub mod Calls
 pub mod MemoryTexts
 pub mod MemorySource
 pub mod MemoryInputs

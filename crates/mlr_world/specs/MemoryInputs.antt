@@ -1,13 +1,14 @@
 -- The inputs in memory: the contents of each name, and the bytes taken.
-use Rattle.std.specs.Prelude.{◌≡◌, ◌≤◌, ◌<◌, ◌+◌, ◌++◌, ◌⊎◌, ℕ, Bool, true, false, List, [], length, take, drop, map, Option, Some, None, slice_index_or}
+use Rattle.std.specs.Prelude.{◌≡◌, ◌≤◌, ◌<◌, ◌+◌, ◌++◌, ℕ, Bool, true, false, List, [], length, take, drop, map, min, Option, Some, None, slice_index_or}
 use Rattle.std.specs.Option.{option_map}
 use Rattle.mlr_event.specs.declared.names.InputName.{InputName}
 use Rattle.mlr_event.specs.declared.names.InputName.TheVariants as input
 use Rattle.mlr_world.specs.declared.inputs.Got.{Got}
 use Rattle.mlr_world.specs.declared.inputs.Got.TheVariants as got
 use Rattle.mlr_world.specs.declared.memory_inputs.Reading.{Reading}
-use Rattle.mlr_world.specs.Inputs.{Contents, IsAllTaken}
+use Rattle.mlr_world.specs.Inputs.{Contents}
 use Rattle.mlr_world.specs.MemorySource.{contents_at}
+use Rattle.mlr_world.specs.Outputs.{or_empty}
 use Rattle.mlr_world.specs.Taken.{Take, last_take}
 
 -- the entry at a place
@@ -55,16 +56,15 @@ TakesFrom max text place got.End into into' = (length text ≤ place) × (into' 
 TakesFrom max text place got.Failed into into' = ⊥
 TakesFrom max text place got.NoMemory into into' = into' ≡ into
 
--- a read that gives bytes gives `max` of them, or all the remaining ones
-abbrev pub TakesMostFrom : ℕ → List ℕ → ℕ → Got → Type 0
-TakesMostFrom max text place (got.Some n) = (n ≡ max) ⊎ (length text ≡ place + n)
-TakesMostFrom max text place got.End = Unit {0}
-TakesMostFrom max text place got.Failed = Unit {0}
-TakesMostFrom max text place got.NoMemory = Unit {0}
+-- the bytes that are left of the input that was opened last
+abbrev pub left_of : Contents → Option Take → List ℕ
+left_of contents None = []
+left_of contents (Some take) = drop (length take.bytes) (or_empty (contents take.name))
 
--- the same, by the bytes that are taken after the read
-abbrev pub TakesMost : ℕ → Got → Option Contents → Option (List Take) → Type 0
-TakesMost max (got.Some n) contents now = (n ≡ max) ⊎ IsAllTaken contents now
-TakesMost max got.End contents now = Unit {0}
-TakesMost max got.Failed contents now = Unit {0}
-TakesMost max got.NoMemory contents now = Unit {0}
+-- A read that takes bytes takes all that are left, but at most `limit`. It meets the end exactly where none are
+-- left.
+abbrev pub TakesUpTo : ℕ → Got → List ℕ → Type 0
+TakesUpTo limit (got.Some n) left = n ≡ min limit (length left)
+TakesUpTo limit got.End left = left ≡ []
+TakesUpTo limit got.Failed left = Unit {0}
+TakesUpTo limit got.NoMemory left = 0 < length left

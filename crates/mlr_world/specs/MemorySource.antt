@@ -1,6 +1,7 @@
 -- The state of the inputs in memory that contracts see.
 use Rattle.std.specs.Prelude.{ℕ, List, [], Option, None}
 use Rattle.mlr_event.specs.declared.names.InputName.{InputName}
+use Rattle.mlr_world.specs.Calls.{Calls, calls_of}
 use Rattle.mlr_world.specs.MemoryTexts.{same_input, first_at}
 use Rattle.mlr_world.specs.Taken.{Take}
 
@@ -10,10 +11,23 @@ pub record Source : Type 0 where
   pub taken : List Take
   pub open_name : Option InputName
   pub faults : ℕ
+  -- the sizes of the pieces of the reads to come
+  pub pieces : List ℕ
+  pub calls : Calls
 
 -- the state before the first call
-abbrev pub source_of : List (InputName × List ℕ) → Source
-source_of contents = record { contents = contents; taken = []; open_name = None; faults = 0 }
+abbrev pub source_of : List (InputName × List ℕ) → List ℕ → List ℕ → Source
+source_of contents pieces failing =
+    record { contents = contents; taken = []; open_name = None; faults = 0; pieces = pieces; calls = calls_of failing }
+
+-- the state of the inputs that never fail, and the one before the first call
+pub record SureSource : Type 0 where
+  pub contents : List (InputName × List ℕ)
+  pub taken : List Take
+  pub open_name : Option InputName
+
+abbrev pub sure_source_of : List (InputName × List ℕ) → SureSource
+sure_source_of contents = record { contents = contents; taken = []; open_name = None }
 
 -- the contents of a name
 abbrev pub contents_at : List (InputName × List ℕ) → InputName → Option (List ℕ)

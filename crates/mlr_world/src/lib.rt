@@ -2,6 +2,7 @@
 //! from each input and what each output holds, with implementations in memory and on the real system.
 #![tactic(auto)]
 
+mod calls;
 mod inputs;
 mod memory_inputs;
 mod memory_outputs;

@@ -1,38 +1,21 @@
 //! Inputs in memory for tests, with chosen sizes of pieces and chosen failures.
-ghost use Rattle.std.specs.Prelude.{◌≡◌, ◌<◌, ◌≤◌, false, Some, IfOk, IfSome, IsSome, All, length, min};
+ghost use Rattle.std.specs.Prelude.{◌≡◌, ◌<◌, ◌≤◌, ◌||◌, false, Some, IfOk, IfSome, IsSome, All, length, drop, is_none};
 ghost use Rattle.mlr_event.specs.declared.names.InputName.{InputName};
+ghost use Rattle.mlr_world.specs.Calls.{next_fails, called, limit_of, sizes_after};
 ghost use Rattle.mlr_world.specs.Counts.{Counted};
-ghost use Rattle.mlr_world.specs.Taken.{Take};
+ghost use Rattle.mlr_world.specs.Taken.{Take, last_take};
 ghost use Rattle.mlr_world.specs.Inputs.{OpenTakes, OpenFinds, opens, open_failed, ReadTakes, read_failed};
 ghost use Rattle.mlr_world.specs.MemoryTexts.{same_input, IsFirstPlace};
 ghost use Rattle.mlr_world.specs.MemorySource.{Source, source_of, contents_at};
-ghost use Rattle.mlr_world.specs.MemoryInputs.{takes_of, last_name, IsReading, TakesFrom, TakesMost, TakesMostFrom};
+ghost use Rattle.mlr_world.specs.MemoryInputs.{takes_of, last_name, left_of, IsReading, TakesFrom, TakesUpTo};
 
+use crate::calls::{Failing, Pieces};
 use crate::{Got, Inputs, Opened};
 use mlr_event::InputName;
 use mlr_spec::NoMemory;
 use mlr_value::Bytes;
 use std::alloc::Global;
 use std::marker::Model;
-
-/// The numbers, from 1, of the calls that fail, and the number of calls so far.
-#[derive(Drop)]
-pub(crate) struct Failing {
-    numbers: Vec<u64>,
-    calls: u64,
-}
-
-impl Failing {
-    pub(crate) fn new(numbers: Vec<u64>) -> Failing {
-        Failing { numbers, calls: 0 }
-    }
-
-    /// Counts a call, and returns whether it fails.
-    pub(crate) fn next(&mut self) -> bool {
-        self.calls = self.calls.saturating_add(1);
-        self.numbers.contains(&self.calls)
-    }
-}
 
 /// The bytes taken from one opened input: the first `count` bytes of the entry at `place`.
 #[derive(Clone, Copy)]
@@ -45,8 +28,7 @@ pub(crate) struct Reading {
 /// Inputs in memory, for tests: the contents, the sizes of the pieces and the calls that fail are all given.
 pub struct MemInputs {
     contents: Vec<(InputName, Bytes)>,
-    pieces: Vec<usize>,
-    given: usize,
+    pieces: Pieces,
     failing: Failing,
     readings: Vec<Reading>,
     is_open: bool,
@@ -59,7 +41,6 @@ impl Drop for MemInputs {
         let MemInputs {
             contents,
             pieces,
-            given: _,
             failing,
             readings,
             is_open: _,
@@ -87,6 +68,8 @@ impl Model for MemInputs {
       open_name = open_of s.is_open
           (takes_of s.contents.items s.readings.items);
       faults = s.faults;
+      pieces = s.pieces;
+      calls = s.failing;
     } };
 
     ghost invariant = { λ s. All (IsReading s.contents.items) s.readings.items };
@@ -95,22 +78,20 @@ impl Model for MemInputs {
 impl MemInputs {
     /// Inputs with these contents. The first entry of a name counts, and opening any other name is a fault.
     ///
-    /// The i-th successful read that gives bytes gives at most `pieces[i]` of them, and at least one; after
-    /// the end of the list a read gives as many as it may. `failing` has the numbers, from 1 over all calls
-    /// of `open` and `read`, of those that fail.
+    /// Each read that takes bytes uses one of the sizes in `pieces`, in order. `failing` has the numbers, from
+    /// 1 over all calls of `open` and `read`, of those that fail.
     pub fn new(
         alloc: Global,
         contents: Vec<(InputName, Bytes)>,
         pieces: Vec<usize>,
         failing: Vec<u64>,
     ) -> Result<MemInputs, NoMemory>
-        ensures { IfOk result (λ made. made ≡ source_of contents.items) }
+        ensures { IfOk result (λ made. made ≡ source_of contents.items pieces.items failing.items) }
     {
         Ok(MemInputs {
             readings: Vec::with_capacity(alloc, contents.len())?,
             contents,
-            pieces,
-            given: 0,
+            pieces: Pieces::new(pieces),
             failing: Failing::new(failing),
             is_open: false,
             faults: 0,
@@ -127,7 +108,18 @@ impl Inputs for MemInputs {
 
     ghost faults = { λ s _. s.faults };
 
-    fn open(&mut self, name: &InputName) -> Opened {
+    fn open(&mut self, name: &InputName) -> Opened
+        ensures contents { self.new.contents ≡ self.old.contents }
+        ensures open { self.new.open_name ≡ opens name.now result }
+        ensures taken { OpenTakes name.now result (Some self.old.taken) (Some self.new.taken) }
+        ensures finds { OpenFinds name.now result (Some (contents_at self.old.contents)) }
+        ensures counts { Counted (open_failed result) (λ _. self.old.faults)
+            (λ _. self.new.faults) name.now }
+        ensures fails { open_failed result ≡ (next_fails self.old.calls
+            || is_none (contents_at self.old.contents name.now)) }
+        ensures calls { self.new.calls ≡ called self.old.calls }
+        ensures pieces { self.new.pieces ≡ self.old.pieces }
+    {
         self.is_open = false;
         if self.failing.next() {
             self.faults = self.faults.saturating_add(1);
@@ -151,16 +143,28 @@ impl Inputs for MemInputs {
         }
     }
 
-    fn read(&mut self, max: usize, into: &mut Bytes) -> Got {
+    fn read(&mut self, max: usize, into: &mut Bytes) -> Got
+        requires open { IsSome self.old.open_name }
+        requires some { 1 ≤ max }
+        ensures contents { self.new.contents ≡ self.old.contents }
+        ensures open { self.new.open_name ≡ self.old.open_name }
+        ensures taken { ReadTakes max result (Some (contents_at self.old.contents))
+            (Some self.old.taken) (Some self.new.taken) into.old into.new }
+        ensures counts { IfSome self.old.open_name (Counted (read_failed result)
+            (λ _. self.old.faults) (λ _. self.new.faults)) }
+        ensures fails { read_failed result ≡ next_fails self.old.calls }
+        ensures calls { self.new.calls ≡ called self.old.calls }
+        ensures most { TakesUpTo (limit_of self.old.pieces max) result
+            (left_of (contents_at self.old.contents) (last_take self.old.taken)) }
+        ensures pieces { self.new.pieces ≡ sizes_after result self.old.pieces }
+    {
         if self.failing.next() {
             self.faults = self.faults.saturating_add(1);
             return Got::Failed;
         }
-        let size = size_at(&self.pieces, self.given);
-        let got = take_on(&self.contents, &mut self.readings, max, size, into);
-        if let Got::Some(_) = got {
-            self.given = self.given.saturating_add(1);
-        }
+        let limit = self.pieces.limit(max);
+        let got = take_on(&self.contents, &mut self.readings, max, limit, into);
+        self.pieces.pass(got);
         got
     }
 }
@@ -177,33 +181,23 @@ pub(crate) fn place_of(contents: &[(InputName, Bytes)], name: &InputName) -> Opt
     None
 }
 
-/// The size of the piece with this number, at least 1.
-fn size_at(pieces: &[usize], number: usize) -> usize
-    ensures { 0 < result }
-{
-    match pieces.get(number) {
-        Some(size) => (*size).max(1),
-        None => usize::MAX,
-    }
-}
-
-/// Reads more of the input that was opened last.
+/// Reads more of the input that was opened last, at most `limit` bytes.
 pub(crate) fn take_on(
     contents: &[(InputName, Bytes)],
     readings: &mut Vec<Reading>,
     max: usize,
-    size: usize,
+    limit: usize,
     into: &mut Bytes,
 ) -> Got
-    requires some { 0 < max }
-    requires piece { 0 < size }
+    requires some { 0 < limit }
+    requires within { limit ≤ max }
     requires last { 0 < length readings.old.items }
     requires fine { All (IsReading contents.now) readings.old.items }
     ensures taken { ReadTakes max result (Some (contents_at contents.now))
         (Some (takes_of contents.now readings.old.items))
         (Some (takes_of contents.now readings.new.items)) into.old into.new }
-    ensures most { TakesMost (min max size) result (Some (contents_at contents.now))
-        (Some (takes_of contents.now readings.new.items)) }
+    ensures most { TakesUpTo limit result (left_of (contents_at contents.now)
+        (last_take (takes_of contents.now readings.old.items))) }
     ensures no_fault { read_failed result ≡ false }
     ensures fine { All (IsReading contents.now) readings.new.items }
     ensures name { last_name (takes_of contents.now readings.new.items)
@@ -212,7 +206,7 @@ pub(crate) fn take_on(
     let last = readings.len() - 1;
     let reading = readings[last];
     let text = contents[reading.place].1.as_slice();
-    let got = take_from(text, reading.count, max, size, into);
+    let got = take_from(text, reading.count, limit, into);
     match got {
         Got::Some(count) => {
             readings[last] = Reading {
@@ -231,19 +225,18 @@ pub(crate) fn take_on(
     got
 }
 
-/// Appends bytes of the text from this place on, at most `max` and at most `size`.
-fn take_from(text: &[u8], place: usize, max: usize, size: usize, into: &mut Bytes) -> Got
-    requires some { 0 < max }
-    requires piece { 0 < size }
+/// Appends bytes of the text from this place on, at most `limit`.
+fn take_from(text: &[u8], place: usize, limit: usize, into: &mut Bytes) -> Got
+    requires some { 0 < limit }
     requires within { place ≤ length text.now }
-    ensures taken { TakesFrom max text.now place result into.old into.new }
-    ensures most { TakesMostFrom (min max size) text.now place result }
+    ensures taken { TakesFrom limit text.now place result into.old into.new }
+    ensures most { TakesUpTo limit result (drop place text.now) }
 {
     let left = &text[place..];
     if left.is_empty() {
         return Got::End;
     }
-    let count = left.len().min(max).min(size);
+    let count = left.len().min(limit);
     match into.append(&left[..count]) {
         Ok(()) => Got::Some(count),
         Err(NoMemory) => Got::NoMemory,

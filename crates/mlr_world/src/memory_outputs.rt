@@ -1,14 +1,15 @@
 //! Outputs in memory for tests, with limited room and chosen failures.
-ghost use Rattle.std.specs.Prelude.{◌≡◌, ◌++◌, ◌∷◌, [], false, Some, IfOk, if◌then◌else◌, is_ok};
+ghost use Rattle.std.specs.Prelude.{◌≡◌, ◌≤◌, ◌+◌, ◌++◌, ◌∷◌, ◌||◌, [], true, false, Some, All, IfOk, OnOk, if◌then◌else◌, is_ok, is_none, length, vec_len, vec_capacity};
 ghost use Rattle.std.specs.Option.{option_map};
 ghost use Rattle.mlr_event.specs.declared.names.Target.{Target};
+ghost use Rattle.mlr_world.specs.Calls.{next_fails, called};
 ghost use Rattle.mlr_world.specs.Counts.{Counted, Tallied};
 ghost use Rattle.mlr_world.specs.Outputs.{ChangesAt, ChangesOnly, OpenLeaves, WriteLeaves, CloseLeaves, call_failed, lacked_memory};
 ghost use Rattle.mlr_world.specs.MemoryTexts.{IsFirstPlace};
-ghost use Rattle.mlr_world.specs.MemorySink.{Sink, sink_of, held_at};
-ghost use Rattle.mlr_world.specs.MemoryOutputs.{pair_of, pairs_of, is_of};
+ghost use Rattle.mlr_world.specs.MemorySink.{Sink, sink_of, with_streams, held_at};
+ghost use Rattle.mlr_world.specs.MemoryOutputs.{pair_of, pairs_of, is_of, HasRoom, Writes};
 
-use crate::memory_inputs::Failing;
+use crate::calls::Failing;
 use crate::{Done, Outputs};
 use mlr_event::{Mode, Target};
 use mlr_spec::NoMemory;
@@ -54,14 +55,19 @@ impl Model for MemOutputs {
 
     ghost Value = { Sink };
 
-    ghost use Rattle.mlr_world.specs.MemoryOutputs.{pairs_of};
+    ghost use Rattle.std.specs.Prelude.{All};
+    ghost use Rattle.mlr_world.specs.MemoryOutputs.{pairs_of, HasRoom};
 
     ghost view = { λ s. record {
       held = pairs_of s.held.items;
+      room = s.room;
+      calls = s.failing;
       faults = s.faults;
       shortages =
           s.shortages;
     } };
+
+    ghost invariant = { λ s. All (HasRoom s.room) s.held.items };
 }
 
 impl MemOutputs {
@@ -70,14 +76,14 @@ impl MemOutputs {
     ///
     /// `room` is the number of bytes that may be written over all targets. The memory for them is allocated
     /// here, and by each open that adds a target. `failing` has the numbers, from 1 over all calls of `open`,
-    /// `write` and `close`, of those that fail; a write that fails writes half of its bytes.
+    /// `write` and `close`, of those that fail.
     pub fn new(
         alloc: Global,
         held: Vec<(Target, Bytes)>,
         room: usize,
         failing: Vec<u64>,
     ) -> Result<MemOutputs, NoMemory>
-        ensures { IfOk result (λ made. made ≡ sink_of held.items) }
+        ensures { IfOk result (λ made. made ≡ sink_of held.items room failing.items) }
     {
         Ok(MemOutputs {
             alloc,
@@ -104,27 +110,55 @@ impl Outputs for MemOutputs {
 
     ghost shortages = { λ s. s.shortages };
 
-    fn open(&mut self, target: &Target, mode: Mode) -> Done {
+    fn open(&mut self, target: &Target, mode: Mode) -> Done
+        ensures bytes { ChangesOnly target.now (OpenLeaves mode result) (held_at self.old.held)
+            (held_at self.new.held) }
+        ensures counts { Counted (call_failed result) (λ _. self.old.faults)
+            (λ _. self.new.faults) target.now }
+        ensures memory { Tallied (lacked_memory result) self.old.shortages self.new.shortages }
+        ensures fails { call_failed result ≡ next_fails self.old.calls }
+        ensures kept { call_failed result ≡ true → self.new.held ≡ self.old.held }
+        ensures calls { self.new.calls ≡ called self.old.calls }
+        ensures room { self.new.room ≡ self.old.room }
+    {
         let fails = self.failing.next();
         let done = open_text(self.alloc, &mut self.held, target, mode, self.room, fails);
         count(done, &mut self.faults, &mut self.shortages);
         done
     }
 
-    fn write(&mut self, target: &Target, bytes: &[u8]) -> Done {
+    fn write(&mut self, target: &Target, bytes: &[u8]) -> Done
+        ensures bytes { ChangesOnly target.now (WriteLeaves bytes.now result)
+            (held_at self.old.held) (held_at self.new.held) }
+        ensures counts { Counted (call_failed result) (λ _. self.old.faults)
+            (λ _. self.new.faults) target.now }
+        ensures memory { Tallied (lacked_memory result) self.old.shortages self.new.shortages }
+        ensures enough { lacked_memory result ≡ false }
+        ensures writes { Writes (next_fails self.old.calls) self.old.room self.new.room bytes.now
+            result (held_at self.old.held target.now) (held_at self.new.held target.now) }
+        ensures calls { self.new.calls ≡ called self.old.calls }
+    {
         let fails = self.failing.next();
         let done = write_text(&mut self.held, target, bytes, &mut self.room, fails);
         count(done, &mut self.faults, &mut self.shortages);
         done
     }
 
-    fn close(&mut self, target: &Target) -> Done {
+    fn close(&mut self, target: &Target) -> Done
+        ensures bytes { ChangesOnly target.now CloseLeaves (held_at self.old.held)
+            (held_at self.new.held) }
+        ensures held { self.new.held ≡ self.old.held }
+        ensures counts { Counted (call_failed result) (λ _. self.old.faults)
+            (λ _. self.new.faults) target.now }
+        ensures memory { Tallied (lacked_memory result) self.old.shortages self.new.shortages }
+        ensures enough { lacked_memory result ≡ false }
+        ensures fails { call_failed result ≡ (next_fails self.old.calls
+            || is_none (held_at self.old.held target.now)) }
+        ensures calls { self.new.calls ≡ called self.old.calls }
+        ensures room { self.new.room ≡ self.old.room }
+    {
         let fails = self.failing.next();
-        let done = if fails || place_of(&self.held, target).is_none() {
-            Done::Failed
-        } else {
-            Done::Ok
-        };
+        let done = close_text(&self.held, target, fails);
         count(done, &mut self.faults, &mut self.shortages);
         done
     }
@@ -171,8 +205,8 @@ pub(crate) fn first_texts(
     given: &[(Target, Bytes)],
     room: usize,
 ) -> Result<Vec<HeldText>, NoMemory>
-    ensures { IfOk result (λ made. pairs_of made.items
-        ≡ given.now ++ (Target.Stdout, []) ∷ (Target.Stderr, []) ∷ []) }
+    ensures pairs { IfOk result (λ made. pairs_of made.items ≡ with_streams given.now) }
+    ensures fine { IfOk result (λ made. All (HasRoom room) made.items) }
 {
     let mut entries = given_texts(alloc, given, room)?;
     add_text(alloc, &mut entries, Target::Stdout, b"", room)?;
@@ -185,7 +219,8 @@ fn given_texts(
     given: &[(Target, Bytes)],
     room: usize,
 ) -> Result<Vec<HeldText>, NoMemory>
-    ensures { IfOk result (λ made. pairs_of made.items ≡ given.now) }
+    ensures pairs { IfOk result (λ made. pairs_of made.items ≡ given.now) }
+    ensures fine { IfOk result (λ made. All (HasRoom room) made.items) }
 {
     let mut entries = Vec::new(alloc);
     for pair in given {
@@ -208,14 +243,25 @@ fn add_text(
     bytes: &[u8],
     room: usize,
 ) -> Result<(), NoMemory>
-    ensures { pairs_of entries.new.items ≡ (if is_ok result
+    ensures pairs { pairs_of entries.new.items ≡ (if is_ok result
         then pairs_of entries.old.items ++ (target, bytes.now) ∷ []
         else pairs_of entries.old.items) }
+    ensures fine { All (HasRoom room) entries.old.items → All (HasRoom room) entries.new.items }
 {
-    let mut text = Vec::with_capacity(alloc, room.saturating_add(bytes.len()))?;
-    text.extend_from_slice(bytes)?;
+    let text = text_with_room(alloc, bytes, room)?;
     entries.push(HeldText { target, text })?;
     Ok(())
+}
+
+/// A copy of these bytes, with room for more.
+fn text_with_room(alloc: Global, bytes: &[u8], room: usize) -> Result<Vec<u8>, NoMemory>
+    ensures bytes { IfOk result (λ text. text.items ≡ bytes.now) }
+    ensures room { IfOk result (λ text. vec_len text + room ≤ vec_capacity text) }
+{
+    let size = bytes.len().checked_add(room).ok_or(NoMemory)?;
+    let mut text = Vec::with_capacity(alloc, size)?;
+    text.extend_from_slice(bytes)?;
+    Ok(text)
 }
 
 fn open_text(
@@ -226,8 +272,11 @@ fn open_text(
     room: usize,
     fails: bool,
 ) -> Done
-    ensures { ChangesOnly target.now (OpenLeaves mode result) (held_at (pairs_of entries.old.items))
-        (held_at (pairs_of entries.new.items)) }
+    ensures bytes { ChangesOnly target.now (OpenLeaves mode result)
+        (held_at (pairs_of entries.old.items)) (held_at (pairs_of entries.new.items)) }
+    ensures fails { call_failed result ≡ fails }
+    ensures kept { fails ≡ true → entries.new.items ≡ entries.old.items }
+    ensures fine { All (HasRoom room) entries.old.items → All (HasRoom room) entries.new.items }
 {
     if fails {
         return Done::Failed;
@@ -246,6 +295,7 @@ pub(crate) fn open_entry(
     ensures bytes { ChangesOnly target.now (OpenLeaves mode result)
         (held_at (pairs_of entries.old.items)) (held_at (pairs_of entries.new.items)) }
     ensures no_fault { call_failed result ≡ false }
+    ensures fine { All (HasRoom room) entries.old.items → All (HasRoom room) entries.new.items }
 {
     match place_of(entries, target) {
         Some(place) => {
@@ -265,18 +315,33 @@ fn add_copy(
     target: &Target,
     room: usize,
 ) -> Result<(), NoMemory>
-    ensures { pairs_of entries.new.items ≡ (if is_ok result
+    ensures pairs { pairs_of entries.new.items ≡ (if is_ok result
         then pairs_of entries.old.items ++ (target.now, []) ∷ [] else pairs_of entries.old.items) }
+    ensures fine { All (HasRoom room) entries.old.items → All (HasRoom room) entries.new.items }
 {
     add_text(alloc, entries, target.copy(alloc)?, b"", room)
 }
 
 fn start_text(text: &mut Vec<u8>, mode: Mode)
-    ensures { OpenLeaves mode Done.Ok (Some text.old.items) (Some text.new.items) }
+    ensures bytes { OpenLeaves mode Done.Ok (Some text.old.items) (Some text.new.items) }
+    ensures len { vec_len text.new ≤ vec_len text.old }
+    ensures capacity { vec_capacity text.new ≡ vec_capacity text.old }
 {
     match mode {
         Mode::Fresh => text.clear(),
         Mode::Append => {}
+    }
+}
+
+fn close_text(entries: &[HeldText], target: &Target, fails: bool) -> Done
+    ensures fails { call_failed result
+        ≡ (fails || is_none (held_at (pairs_of entries.now) target.now)) }
+    ensures enough { lacked_memory result ≡ false }
+{
+    if fails || text_of(entries, target).is_none() {
+        Done::Failed
+    } else {
+        Done::Ok
     }
 }
 
@@ -287,8 +352,14 @@ fn write_text(
     room: &mut usize,
     fails: bool,
 ) -> Done
-    ensures { ChangesOnly target.now (WriteLeaves bytes.now result)
+    requires fine { All (HasRoom room.old) entries.old.items }
+    ensures bytes { ChangesOnly target.now (WriteLeaves bytes.now result)
         (held_at (pairs_of entries.old.items)) (held_at (pairs_of entries.new.items)) }
+    ensures writes { Writes fails room.old room.new bytes.now result
+        (held_at (pairs_of entries.old.items) target.now)
+        (held_at (pairs_of entries.new.items) target.now) }
+    ensures enough { lacked_memory result ≡ false }
+    ensures fine { All (HasRoom room.new) entries.new.items }
 {
     match place_of(entries, target) {
         Some(place) => append_prefix(&mut entries[place].text, bytes, room, fails),
@@ -298,14 +369,21 @@ fn write_text(
 
 /// Appends the bytes as far as there is room, and only half of them in a call that is to fail.
 fn append_prefix(text: &mut Vec<u8>, bytes: &[u8], room: &mut usize, fails: bool) -> Done
-    ensures { WriteLeaves bytes.now result (Some text.old.items) (Some text.new.items) }
+    requires room { vec_len text.old + room.old ≤ vec_capacity text.old }
+    ensures bytes { WriteLeaves bytes.now result (Some text.old.items) (Some text.new.items) }
+    ensures writes { Writes fails room.old room.new bytes.now result (Some text.old.items)
+        (Some text.new.items) }
+    ensures enough { lacked_memory result ≡ false }
+    ensures room { vec_len text.new + room.new ≤ vec_capacity text.new }
+    ensures less { room.new ≤ room.old }
 {
     let wanted = if fails { bytes.len() / 2 } else { bytes.len() };
     let count = wanted.min(*room);
+    let is_short = *room < bytes.len();
     match text.extend_from_slice(&bytes[..count]) {
         Ok(()) => {
             *room -= count;
-            if fails || count < bytes.len() {
+            if fails || is_short {
                 Done::Failed
             } else {
                 Done::Ok

@@ -2,11 +2,11 @@
 ghost use Rattle.std.specs.Prelude.{◌≡◌, ◌≤◌, ◌++◌, ◌∷◌, [], false, Some, IfOk, IfSome, IsSome, if◌then◌else◌, is_ok};
 ghost use Rattle.mlr_event.specs.declared.names.InputName.{InputName};
 ghost use Rattle.mlr_world.specs.Counts.{Counted};
-ghost use Rattle.mlr_world.specs.Taken.{Take};
+ghost use Rattle.mlr_world.specs.Taken.{Take, last_take};
 ghost use Rattle.mlr_world.specs.Inputs.{OpenTakes, OpenFinds, opens, open_failed, ReadTakes, read_failed};
 ghost use Rattle.mlr_world.specs.MemoryTexts.{same_input, IsFirstPlace};
-ghost use Rattle.mlr_world.specs.MemorySource.{Source, source_of};
-ghost use Rattle.mlr_world.specs.MemoryInputs.{TakesMost};
+ghost use Rattle.mlr_world.specs.MemorySource.{SureSource, sure_source_of, contents_at};
+ghost use Rattle.mlr_world.specs.MemoryInputs.{left_of, TakesUpTo};
 ghost use Rattle.mlr_world.specs.SureContents.{sure_contents, AddsEmpty};
 
 use crate::memory_inputs::{Reading, place_of, take_on};
@@ -44,9 +44,9 @@ impl Drop for SureInputs {
 
 impl Model for SureInputs {
     ghost use Rattle.std.specs.Prelude.{take};
-    ghost use Rattle.mlr_world.specs.MemorySource.{Source};
+    ghost use Rattle.mlr_world.specs.MemorySource.{SureSource};
 
-    ghost Value = { Source };
+    ghost Value = { SureSource };
 
     ghost use Rattle.mlr_world.specs.MemoryInputs.{takes_of, open_of};
     ghost use Rattle.mlr_world.specs.SureContents.{SureState};
@@ -57,7 +57,6 @@ impl Model for SureInputs {
           s.entries.items s.readings.items;
       open_name = open_of s.is_open
           (takes_of s.entries.items s.readings.items);
-      faults = 0;
     } };
 
     ghost invariant = { λ s. SureState s.given s.entries.items s.readings.items };
@@ -66,7 +65,7 @@ impl Model for SureInputs {
 impl SureInputs {
     /// Inputs with these contents. The first entry of a name counts.
     pub fn new(alloc: Global, contents: Vec<(InputName, Bytes)>) -> Result<SureInputs, NoMemory>
-        ensures { IfOk result (λ made. made ≡ source_of contents.items) }
+        ensures { IfOk result (λ made. made ≡ sure_source_of contents.items) }
     {
         Ok(SureInputs {
             alloc,
@@ -116,10 +115,10 @@ impl Inputs for SureInputs {
         ensures taken { ReadTakes max result (Some (sure_contents self.old.contents))
             (Some self.old.taken) (Some self.new.taken) into.old into.new }
         ensures no_fault { read_failed result ≡ false }
-        ensures most { TakesMost max result (Some (sure_contents self.new.contents))
-            (Some self.new.taken) }
+        ensures most { TakesUpTo max result (left_of (sure_contents self.old.contents)
+            (last_take self.old.taken)) }
     {
-        take_on(&self.entries, &mut self.readings, max, usize::MAX, into)
+        take_on(&self.entries, &mut self.readings, max, max, into)
     }
 }
 

@@ -4,7 +4,7 @@ ghost use Rattle.std.specs.Option.{option_map};
 ghost use Rattle.mlr_event.specs.declared.names.Target.{Target};
 ghost use Rattle.mlr_world.specs.Counts.{Counted, Tallied};
 ghost use Rattle.mlr_world.specs.Outputs.{ChangesAt, ChangesOnly, OpenLeaves, WriteLeaves, CloseLeaves, call_failed, lacked_memory};
-ghost use Rattle.mlr_world.specs.MemorySink.{Sink, sink_of, held_at};
+ghost use Rattle.mlr_world.specs.MemorySink.{SureSink, sure_sink_of, held_at};
 ghost use Rattle.mlr_world.specs.MemoryOutputs.{pairs_of};
 
 use crate::memory_outputs::{HeldText, first_texts, open_entry, place_of, text_of};
@@ -35,15 +35,14 @@ impl Drop for SureOutputs {
 }
 
 impl Model for SureOutputs {
-    ghost use Rattle.mlr_world.specs.MemorySink.{Sink};
+    ghost use Rattle.mlr_world.specs.MemorySink.{SureSink};
 
-    ghost Value = { Sink };
+    ghost Value = { SureSink };
 
     ghost use Rattle.mlr_world.specs.MemoryOutputs.{pairs_of};
 
     ghost view = { λ s. record {
       held = pairs_of s.held.items;
-      faults = 0;
       shortages =
           s.shortages;
     } };
@@ -53,7 +52,7 @@ impl SureOutputs {
     /// Outputs that hold these texts, and standard output and standard error, which are empty unless they are
     /// in the list. The first entry of a target counts.
     pub fn new(alloc: Global, held: Vec<(Target, Bytes)>) -> Result<SureOutputs, NoMemory>
-        ensures { IfOk result (λ made. made ≡ sink_of held.items) }
+        ensures { IfOk result (λ made. made ≡ sure_sink_of held.items) }
     {
         Ok(SureOutputs {
             alloc,

@@ -1,7 +1,7 @@
-use Rattle.std.proofs.Common.{min, ◌≡◌, ◌+◌, ◌-◌, length, subst, arith}
+use Rattle.std.proofs.Common.{◌≡◌, ◌+◌, ◌-◌, length, subst, arith}
 use Rattle.mlr_world.specs.declared.inputs.Got.TheVariants as got
-use Rattle.mlr_world.specs.MemoryInputs.{TakesFrom, TakesMostFrom}
-use Rattle.mlr_world.proofs.MemoryInputs.{text-read, took, took-most, ended_at, name-grew, name-ended}
+use Rattle.mlr_world.specs.MemoryInputs.{TakesFrom, TakesUpTo}
+use Rattle.mlr_world.proofs.MemoryInputs.{text-read, took, left-read, ended_at, name-grew, name-ended}
 use Rattle.mlr_world.proofs.memory_inputs.take_on.Goals as goal
 
 pub returns-in-Some-clause-taken : goal.returns-in-Some-clause-taken
@@ -12,8 +12,8 @@ returns-in-Some-clause-taken c =
     let reading = c.index-reading.result.now in
     let last : i + 1 ≡ length readings = omega arith in
     let text = text-read contents readings i reading last c.index-reading.ensures c.requires.fine c.index-contents-reading.result c.as_slice-text.result.now c.as_slice-text.ensures in
-    took contents readings i reading last c.index-reading.ensures c.requires.fine c.args.max c.in-Some.count c.args.into.now c.take_from-got.new.into
-    (subst (λ t. TakesFrom c.args.max t reading.count (got.Some c.in-Some.count) c.args.into.now c.take_from-got.new.into) text c.in-Some.ensures.taken)
+    took contents readings i reading last c.index-reading.ensures c.requires.fine c.args.limit c.args.max c.in-Some.count c.args.into.now c.take_from-got.new.into c.requires.within
+    (subst (λ t. TakesFrom c.args.limit t reading.count (got.Some c.in-Some.count) c.args.into.now c.take_from-got.new.into) text c.in-Some.ensures.taken)
 
 pub returns-in-Some-clause-most : goal.returns-in-Some-clause-most
 returns-in-Some-clause-most c =
@@ -22,9 +22,8 @@ returns-in-Some-clause-most c =
     let i = c.len-last.result - 1 in
     let reading = c.index-reading.result.now in
     let last : i + 1 ≡ length readings = omega arith in
-    let text = text-read contents readings i reading last c.index-reading.ensures c.requires.fine c.index-contents-reading.result c.as_slice-text.result.now c.as_slice-text.ensures in
-    took-most contents readings i reading last c.index-reading.ensures c.requires.fine (min c.args.max c.args.size) c.in-Some.count
-    (subst (λ t. TakesMostFrom (min c.args.max c.args.size) t reading.count (got.Some c.in-Some.count)) text c.in-Some.ensures.most)
+    left-read contents readings i reading last c.index-reading.ensures c.requires.fine c.index-contents-reading.result c.as_slice-text.result.now c.as_slice-text.ensures
+    (TakesUpTo c.args.limit (got.Some c.in-Some.count)) c.in-Some.ensures.most
 
 pub returns-in-Some-clause-name : goal.returns-in-Some-clause-name
 returns-in-Some-clause-name c =
@@ -43,7 +42,17 @@ returns-in-End-clause-taken c =
     let text = text-read contents readings i reading last c.index-reading.ensures c.requires.fine c.index-contents-reading.result c.as_slice-text.result.now c.as_slice-text.ensures in
     rw c.in-End.is
     (ended_at contents readings i reading last c.index-reading.ensures c.requires.fine c.args.max c.args.into.now c.take_from-got.new.into
-    (subst (λ t. TakesFrom c.args.max t reading.count got.End c.args.into.now c.take_from-got.new.into) text c.in-End.ensures.taken))
+    (subst (λ t. TakesFrom c.args.limit t reading.count got.End c.args.into.now c.take_from-got.new.into) text c.in-End.ensures.taken))
+
+pub returns-in-End-clause-most : goal.returns-in-End-clause-most
+returns-in-End-clause-most c =
+    let contents = c.args.contents.now in
+    let readings = c.args.readings.now.items in
+    let i = c.len-last.result - 1 in
+    let reading = c.index-reading.result.now in
+    let last : i + 1 ≡ length readings = omega arith in
+    left-read contents readings i reading last c.index-reading.ensures c.requires.fine c.index-contents-reading.result c.as_slice-text.result.now c.as_slice-text.ensures
+    (TakesUpTo c.args.limit c.take_from-got.result) c.take_from-got.ensures.most
 
 pub returns-in-End-clause-name : goal.returns-in-End-clause-name
 returns-in-End-clause-name c =
@@ -51,3 +60,13 @@ returns-in-End-clause-name c =
     let i = c.len-last.result - 1 in
     let last : i + 1 ≡ length readings = omega arith in
     name-ended c.args.contents.now readings i c.index-reading.result.now last c.index-reading.ensures c.requires.fine
+
+pub returns-in-Failed-clause-most : goal.returns-in-Failed-clause-most
+returns-in-Failed-clause-most c =
+    let contents = c.args.contents.now in
+    let readings = c.args.readings.now.items in
+    let i = c.len-last.result - 1 in
+    let reading = c.index-reading.result.now in
+    let last : i + 1 ≡ length readings = omega arith in
+    left-read contents readings i reading last c.index-reading.ensures c.requires.fine c.index-contents-reading.result c.as_slice-text.result.now c.as_slice-text.ensures
+    (TakesUpTo c.args.limit c.take_from-got.result) c.take_from-got.ensures.most

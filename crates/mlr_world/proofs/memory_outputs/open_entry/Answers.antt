@@ -12,11 +12,11 @@ returns-in-Some-clause-bytes c =
     let entries = c.args.entries.now.items in
     let found = subst (λ entries. IsFirstPlace (is_of target) entries (Some c.in-Some.place)) c.deref.ensures.value c.in-Some.ensures in
     changes-set entries target c.in-Some.place c.index_mut.result.now found c.index_mut.ensures.value (OpenLeaves c.args.mode done.Ok)
-    (record { target = c.index_mut.result.now.target; text = c.start_text.new.text }) refl c.start_text.ensures
+    (record { target = c.index_mut.result.now.target; text = c.start_text.new.text }) refl c.start_text.ensures.bytes
 
 pub returns-in-Ok-clause-bytes : goal.returns-in-Ok-clause-bytes
 returns-in-Ok-clause-bytes c =
     let target = c.args.target.now in
     let entries = c.args.entries.now.items in
     let absent = subst (λ entries. IsFirstPlace (is_of target) entries None) c.deref.ensures.value c.in-None.ensures in
-    changes-push entries c.add_copy.new.entries.items target c.args.mode absent c.in-Ok.ensures
+    changes-push entries c.add_copy.new.entries.items target c.args.mode absent c.in-Ok.ensures.pairs
