@@ -64,12 +64,13 @@ told-nothing (Some told) None = tt
 told-nothing (Some told) (Some takes) = tt
 
 pub ran-refused : (words : List (List ℕ)) (number : ℕ) → IsRefusedAt words number → (contents : Option Contents) (taken : Option (List Take)) (name : Option InputName) (held : Option Held)
-    → Ran words [] (answer.Refused (record { word = number; why = why.NotBuilt })) contents taken taken held held
+    → Ran words [] [] (answer.Refused (record { word = number; why = why.NotBuilt })) contents taken taken held held
 ran-refused words number at contents taken name held =
     let none = following-none contents taken name in
     record {
       meant = None;
       means = (number, at, refl);
+      formats_are = refl;
       given = [];
       takes = record { order = tt; few = omega arith; entries = none.entries; prefixes = none.prefixes; says = refl; early = told-nothing contents taken };
       leaves = ChangesAt-none Stdout (outcomes.Leaves (answer.Refused (record { word = number; why = why.NotBuilt })) []) (λ before. refl) held;
@@ -85,10 +86,11 @@ told-before (Some told) (Some before) taken' given P is holds = subst (λ t. IfS
 -- a run of a command line
 pub ran-line : (words names : List (List ℕ)) (command : serial.Command) → IsCommandLine words names command
     → (ended : Ended) (contents : Option Contents) (taken taken' : Option (List Take)) (name' : Option InputName) (held held' : Option Held) → SerialRun ended command contents taken taken' name' held held'
-    → Ran words names ended contents taken taken' held held'
+    → Ran words names (command.write.format ∷ []) ended contents taken taken' held held'
 ran-line words names command is ended contents taken taken' name' held held' r = record {
   meant = Some command;
   means = is;
+  formats_are = refl;
   given = r.given;
   takes = record { order = r.order; few = r.few; entries = r.following.entries; prefixes = told-before contents taken taken' r.given (λ told. ArePrefixesTaken told r.given) r.following.entries r.following.prefixes; says = r.says; early = r.early };
   leaves = r.leaves;

@@ -14,7 +14,7 @@ use Rattle.serial_core.specs.Answer.{has_failed}
 use Rattle.serial_core.specs.Command as serial
 use Rattle.serial_core.specs.Represents as outcomes
 use Rattle.cli_run.specs.Answer.{RefusesWhere}
-use Rattle.cli_run.specs.Meaning.{Means, text_for}
+use Rattle.cli_run.specs.Meaning.{Means, formats_for, text_for}
 use Rattle.cli_run.specs.Message.{Appends, message_of}
 use Rattle.cli_run.specs.Run.{Says, Leaves, LeavesMessage, WhereTold, OutputCause}
 
@@ -45,7 +45,7 @@ message_left message done.NoMemory before now f0 f1 f2 s0 s1 s2 ff ss counted ta
 
 pub leaves_all : (words names : List (List ℕ)) (meant : Option serial.Command) (ended : Ended) (given : List Take) (result : Done) (h0 h1 h2 : Option Held) (f0 f1 f2 : Target → ℕ) (s0 s1 s2 : ℕ)
     → f0 Stderr ≤ f1 Stderr → s0 ≤ s1 → Counted (call_failed result) f1 f2 Stderr → Tallied (lacked_memory result) s1 s2
-    → ChangesAt Stdout (outcomes.Leaves ended (text_for meant given)) h0 h1 → ChangesAt Stderr (Appends (message_of words names ended) result) h1 h2
+    → ChangesAt Stdout (outcomes.Leaves ended (text_for meant given)) h0 h1 → ChangesAt Stderr (Appends (message_of words names (formats_for meant) ended) result) h1 h2
     → WhereTold (Leaves words names meant ended given (Rose (f0 Stderr) (f2 Stderr) ⊎ Rose s0 s2)) h0 h2
 leaves_all words names meant ended given result None None None f0 f1 f2 s0 s1 s2 ff ss counted tallied out err = tt
 leaves_all words names meant ended given result None None (Some c) f0 f1 f2 s0 s1 s2 ff ss counted tallied out err = err
@@ -54,8 +54,8 @@ leaves_all words names meant ended given result (Some a) None h2 f0 f1 f2 s0 s1 
 leaves_all words names meant ended given result (Some a) (Some b) None f0 f1 f2 s0 s1 s2 ff ss counted tallied out err = err
 leaves_all words names meant ended given result (Some a) (Some b) (Some c) f0 f1 f2 s0 s1 s2 ff ss counted tallied out err = record {
   out = subst (outcomes.Leaves ended (text_for meant given) (a Stdout)) (sym (err.elsewhere Stdout apart)) out.here;
-  err = subst (λ before. LeavesMessage (message_of words names ended) (Rose (f0 Stderr) (f2 Stderr) ⊎ Rose s0 s2) before (c Stderr)) (out.elsewhere Stderr apart')
-      (message_left (message_of words names ended) result (b Stderr) (c Stderr) f0 f1 f2 s0 s1 s2 ff ss counted tallied err.here);
+  err = subst (λ before. LeavesMessage (message_of words names (formats_for meant) ended) (Rose (f0 Stderr) (f2 Stderr) ⊎ Rose s0 s2) before (c Stderr)) (out.elsewhere Stderr apart')
+      (message_left (message_of words names (formats_for meant) ended) result (b Stderr) (c Stderr) f0 f1 f2 s0 s1 s2 ff ss counted tallied err.here);
   others = λ target not_out not_err. err.elsewhere target not_err ∙ out.elsewhere target not_out;
 }
 

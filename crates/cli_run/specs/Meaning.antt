@@ -2,6 +2,7 @@
 use Rattle.std.specs.Prelude.{◌≡◌, ℕ, false, ◌-◌, ◌==◌, if◌then◌else◌, List, [], ◌∷◌, map, codes, slice_index_or, Option, Some, None}
 use Rattle.mlr_event.specs.declared.names.InputName.{InputName}
 use Rattle.mlr_event.specs.declared.names.InputName.TheVariants.{Stdin, File}
+use Rattle.mlr_event.specs.declared.options.Format.{Format}
 use Rattle.mlr_world.specs.Taken.{Take}
 use Rattle.cli_words.specs.declared.flags.Formats.{Formats}
 use Rattle.cli_words.specs.declared.line.Line.{Line}
@@ -73,3 +74,13 @@ inputs_for (Some command) = serial.names_of command.origin
 abbrev pub text_for : Option serial.Command → List Take → List ℕ
 text_for None given = []
 text_for (Some command) given = serial.text command given
+
+-- the formats of the outputs, by the rows of the styles: none where the words are refused
+abbrev pub formats_for : Option serial.Command → List Format
+formats_for None = []
+formats_for (Some command) = command.write.format ∷ []
+
+-- the same, by what the words were read as
+abbrev pub formats_in : Line → List Format
+formats_in (Accepted command) = command.formats.output ∷ []
+formats_in (Refused word) = []

@@ -76,11 +76,11 @@ format_text Markdown = codes "markdown"
 
 abbrev pub style_text : List Format → StyleId → List ℕ
 style_text [] style = []
-style_text (format ∷ formats) style = format_text (slice_index_or (format ∷ formats) style format)
+style_text (format ∷ formats) style = format_text (slice_index_or (format ∷ formats) style.0 format)
 
-abbrev pub output_pieces : List ℕ → Mode → List ℕ → Mode → List ℕ → List (List ℕ)
+abbrev pub output_pieces : List ℕ → List ℕ → List ℕ → List ℕ → List ℕ → List (List ℕ)
 output_pieces name first_mode first second_mode second =
-    codes "mlr: output " ∷ name ∷ codes ": first " ∷ mode_text first_mode ∷ first ∷ codes ", then " ∷ mode_text second_mode ∷ second ∷ codes "\n" ∷ []
+    codes "mlr: output " ∷ name ∷ codes ": first " ∷ first_mode ∷ first ∷ codes ", then " ∷ second_mode ∷ second ∷ codes "\n" ∷ []
 
 abbrev pub fault_pieces : List (List ℕ) → List Format → Fault → List (List ℕ)
 fault_pieces names formats (fault.Length file line want have) = length_pieces (file_text names file) line want have
@@ -95,7 +95,7 @@ fault_pieces names formats (fault.Assert verb nr name) = verb_pieces verb nr (co
 fault_pieces names formats (fault.WrongType verb nr name) = verb_pieces verb nr (codes ": wrong type for ") name (codes "\n")
 fault_pieces names formats (fault.Index verb nr) = verb_pieces verb nr (codes ": bad index") [] (codes "\n")
 fault_pieces names formats (fault.OutputTwice name first_mode first second_mode second) =
-    output_pieces name first_mode (style_text formats first) second_mode (style_text formats second)
+    output_pieces name (mode_text first_mode) (style_text formats first) (mode_text second_mode) (style_text formats second)
 
 -- the pieces of a message, by the words and the file names of a command line and the formats of its outputs
 abbrev pub pieces_of : List (List ℕ) → List (List ℕ) → List Format → Ended → List (List ℕ)

@@ -1,6 +1,7 @@
 -- What a run of a command line does to the inputs and the outputs, by its outcome.
 use Rattle.std.specs.Prelude.{◌≡◌, ◌⊎◌, ℕ, ◌≤◌, ◌^◌, List, [], ◌++◌, Option, Some, None, IfSome}
 use Rattle.std.specs.Option.{option_map}
+use Rattle.mlr_event.specs.declared.options.Format.{Format}
 use Rattle.mlr_event.specs.declared.names.Target.{Target}
 use Rattle.mlr_event.specs.declared.names.Target.TheVariants.{Stdout, Stderr}
 use Rattle.mlr_world.specs.Counts.{Rose}
@@ -14,7 +15,7 @@ use Rattle.serial_core.specs.declared.answer.Ended.TheVariants as answer
 use Rattle.serial_core.specs.Command as serial
 use Rattle.serial_core.specs.Run.{StopsEarly}
 use Rattle.serial_core.specs.Represents as outcomes
-use Rattle.cli_run.specs.Meaning.{Means, inputs_for, text_for}
+use Rattle.cli_run.specs.Meaning.{Means, formats_for, inputs_for, text_for}
 use Rattle.cli_run.specs.Message.{message_of}
 
 -- what an outcome says of what was taken of the inputs: nothing was, where the words are refused
@@ -34,7 +35,7 @@ LeavesMessage message Unwritten before now = (now ≡ with_bytes message before)
 -- What a run leaves in each target.
 pub record Leaves (words names : List (List ℕ)) (meant : Option serial.Command) (ended : Ended) (given : List Take) (Unwritten : Type 0) (before now : Held) : Type 0 where
   pub out : outcomes.Leaves ended (text_for meant given) (before Stdout) (now Stdout)
-  pub err : LeavesMessage (message_of words names ended) Unwritten (before Stderr) (now Stderr)
+  pub err : LeavesMessage (message_of words names (formats_for meant) ended) Unwritten (before Stderr) (now Stderr)
   pub others : (target : Target) → (target ≡ Stdout → ⊥) → (target ≡ Stderr → ⊥) → now target ≡ before target
 
 -- a relation of what is held before and after, where it is known
@@ -64,9 +65,10 @@ pub record Run (words : List (List ℕ)) (ended : Ended) (contents : Option Cont
   pub leaves : WhereTold (Leaves words names meant ended given Unwritten) held held'
 
 -- The same before its message.
-pub record Ran (words names : List (List ℕ)) (ended : Ended) (contents : Option Contents) (taken taken' : Option (List Take)) (held held' : Option Held) : Type 0 where
+pub record Ran (words names : List (List ℕ)) (formats : List Format) (ended : Ended) (contents : Option Contents) (taken taken' : Option (List Take)) (held held' : Option Held) : Type 0 where
   pub meant : Option serial.Command
   pub means : Means words names meant
+  pub formats_are : formats ≡ formats_for meant
   pub given : List Take
   pub takes : Takes meant ended given contents taken taken'
   pub leaves : ChangesAt Stdout (outcomes.Leaves ended (text_for meant given)) held held'

@@ -1,10 +1,11 @@
 //! The message of an outcome.
 ghost use Rattle.std.specs.Prelude.{◌≡◌, ◌∷◌, []};
+ghost use Rattle.std.specs.Fmt.{decimal};
 ghost use Rattle.std.specs.List.{flat_map};
 ghost use Rattle.mlr_event.specs.declared.names.Target.TheVariants.{Stderr};
 ghost use Rattle.mlr_world.specs.Counts.{Counted, Tallied};
 ghost use Rattle.mlr_world.specs.Outputs.{ChangesAt, call_failed, lacked_memory};
-ghost use Rattle.cli_run.specs.Message.{Appends, message_of, fault_pieces, length_pieces, line_pieces, byte_pieces, verb_pieces, turns_pieces, file_text, named, input_text, target_text, mode_text, style_text, format_text};
+ghost use Rattle.cli_run.specs.Message.{Appends, message_of, fault_pieces, length_pieces, line_pieces, byte_pieces, verb_pieces, turns_pieces, output_pieces, file_text, named, input_text, target_text, mode_text, style_text, format_text};
 ghost use Rattle.cli_run.specs.Meaning.{word_at};
 
 use itoa::Buffer;
@@ -51,7 +52,7 @@ pub(crate) fn write_message<O: Outputs>(
 fn message_pieces<'a>(
     words: &'a [Bytes],
     names: &'a [Bytes],
-    formats: &[Format],
+    formats: &'a [Format],
     ended: &'a Ended,
     digits: &'a mut Digits,
 ) -> [&'a [u8]; 9]
@@ -61,9 +62,9 @@ fn message_pieces<'a>(
     match ended {
         Ended::Done => [b""; 9],
         Ended::Refused(refusal) => {
-            let number = digits.first.format(refusal.word).as_bytes();
+            let number = decimal(&mut digits.first, refusal.word);
             let word = word_at(words, refusal.word);
-            [
+            return [
                 b"mlr: word ",
                 number,
                 b": not built: ",
@@ -73,9 +74,9 @@ fn message_pieces<'a>(
                 b"",
                 b"",
                 b"",
-            ]
+            ];
         }
-        Ended::Data(fault) => fault_pieces(names, formats, fault, digits),
+        Ended::Data(fault) => return fault_pieces(names, formats, fault, digits),
         Ended::Read(name) => one_line(b"mlr: cannot read ", input_text(name)),
         Ended::Written(target) => one_line(b"mlr: cannot write ", target_text(target)),
         Ended::TooLong => one_line(b"mlr: input too long", b""),
@@ -86,7 +87,7 @@ fn message_pieces<'a>(
 /// The pieces of a line of two texts.
 fn one_line<'a>(first: &'a [u8], second: &'a [u8]) -> [&'a [u8]; 9]
     ensures { flat_map (λ piece. piece.now) result
-        ≡ flat_map (λ piece. piece) (first.now ∷ second.now ∷ 10 ∷ [] ∷ []) }
+        ≡ flat_map (λ piece. piece) (first.now ∷ second.now ∷ (10 ∷ []) ∷ []) }
 {
     [first, second, b"\n", b"", b"", b"", b"", b"", b""]
 }
@@ -94,7 +95,7 @@ fn one_line<'a>(first: &'a [u8], second: &'a [u8]) -> [&'a [u8]; 9]
 /// The pieces of the message of a fault.
 fn fault_pieces<'a>(
     names: &'a [Bytes],
-    formats: &[Format],
+    formats: &'a [Format],
     fault: &'a Fault,
     digits: &'a mut Digits,
 ) -> [&'a [u8]; 9]
@@ -169,18 +170,38 @@ fn fault_pieces<'a>(
             first,
             second_mode,
             second,
-        } => [
-            b"mlr: output ",
+        } => return output_pieces(
             name.as_slice(),
-            b": first ",
-            mode_text(*first_mode),
+            mode_text(first_mode),
             style_text(formats, *first),
-            b", then ",
-            mode_text(*second_mode),
+            mode_text(second_mode),
             style_text(formats, *second),
-            b"\n",
-        ],
+        ),
     }
+}
+
+/// The pieces of the message of an output that is opened in two ways.
+fn output_pieces<'a>(
+    name: &'a [u8],
+    first_mode: &'a [u8],
+    first: &'a [u8],
+    second_mode: &'a [u8],
+    second: &'a [u8],
+) -> [&'a [u8]; 9]
+    ensures { flat_map (λ piece. piece.now) result ≡ flat_map (λ piece. piece)
+        (output_pieces name.now first_mode.now first.now second_mode.now second.now) }
+{
+    [
+        b"mlr: output ",
+        name,
+        b": first ",
+        first_mode,
+        first,
+        b", then ",
+        second_mode,
+        second,
+        b"\n",
+    ]
 }
 
 /// The pieces of the message of a row of another length than its header.
@@ -194,9 +215,9 @@ fn length_pieces<'a>(
     ensures { flat_map (λ piece. piece.now) result
         ≡ flat_map (λ piece. piece) (length_pieces file.now line want have) }
 {
-    let line = digits.first.format(line).as_bytes();
-    let have = digits.second.format(have).as_bytes();
-    let want = digits.third.format(want).as_bytes();
+    let line = decimal(&mut digits.first, line);
+    let have = decimal(&mut digits.second, have);
+    let want = decimal(&mut digits.third, want);
     [
         b"mlr: ",
         file,
@@ -220,7 +241,7 @@ fn line_pieces<'a>(
     ensures { flat_map (λ piece. piece.now) result
         ≡ flat_map (λ piece. piece) (line_pieces file.now line what.now) }
 {
-    let line = digits.first.format(line).as_bytes();
+    let line = decimal(&mut digits.first, line);
     [b"mlr: ", file, b": line ", line, what, b"", b"", b"", b""]
 }
 
@@ -234,7 +255,7 @@ fn byte_pieces<'a>(
     ensures { flat_map (λ piece. piece.now) result
         ≡ flat_map (λ piece. piece) (byte_pieces file.now byte what.now) }
 {
-    let byte = digits.first.format(byte).as_bytes();
+    let byte = decimal(&mut digits.first, byte);
     [b"mlr: ", file, b": byte ", byte, what, b"", b"", b"", b""]
 }
 
@@ -250,8 +271,8 @@ fn verb_pieces<'a>(
     ensures { flat_map (λ piece. piece.now) result
         ≡ flat_map (λ piece. piece) (verb_pieces verb nr what.now name.now rest.now) }
 {
-    let verb = digits.first.format(verb).as_bytes();
-    let nr = digits.second.format(nr).as_bytes();
+    let verb = decimal(&mut digits.first, u64::from(verb));
+    let nr = decimal(&mut digits.second, nr);
     [
         b"mlr: verb ",
         verb,
@@ -270,9 +291,9 @@ fn turns_pieces<'a>(verb: u32, nr: u64, limit: u64, digits: &'a mut Digits) -> [
     ensures { flat_map (λ piece. piece.now) result
         ≡ flat_map (λ piece. piece) (turns_pieces verb nr limit) }
 {
-    let verb = digits.first.format(verb).as_bytes();
-    let nr = digits.second.format(nr).as_bytes();
-    let limit = digits.third.format(limit).as_bytes();
+    let verb = decimal(&mut digits.first, u64::from(verb));
+    let nr = decimal(&mut digits.second, nr);
+    let limit = decimal(&mut digits.third, limit);
     [
         b"mlr: verb ",
         verb,
@@ -320,9 +341,16 @@ fn write_some<O: Outputs>(outputs: &mut O, piece: &[u8]) -> Done
     outputs.write(&Target::Stderr, piece)
 }
 
+/// A number in decimal.
+fn decimal(buffer: &mut Buffer, number: u64) -> &[u8]
+    ensures { result.now ≡ decimal number }
+{
+    buffer.format(number).as_bytes()
+}
+
 /// How an output was opened, as messages say it.
-fn mode_text(mode: Mode) -> &'static [u8]
-    ensures { result.now ≡ mode_text mode }
+fn mode_text(mode: &Mode) -> &[u8]
+    ensures { result.now ≡ mode_text mode.now }
 {
     match mode {
         Mode::Fresh => b"> ",
@@ -331,18 +359,18 @@ fn mode_text(mode: Mode) -> &'static [u8]
 }
 
 /// The name of the format of this row; the name of the first row's where there is none of this number.
-fn style_text(formats: &[Format], style: StyleId) -> &'static [u8]
+fn style_text(formats: &[Format], style: StyleId) -> &[u8]
     ensures { result.now ≡ style_text formats.now style }
 {
     match formats.get(style.0 as usize).or(formats.first()) {
-        Some(format) => format_text(*format),
+        Some(format) => format_text(format),
         None => b"",
     }
 }
 
 /// The name of a format.
-fn format_text(format: Format) -> &'static [u8]
-    ensures { result.now ≡ format_text format }
+fn format_text(format: &Format) -> &[u8]
+    ensures { result.now ≡ format_text format.now }
 {
     match format {
         Format::Csv => b"csv",

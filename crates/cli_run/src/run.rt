@@ -11,18 +11,20 @@ ghost use Rattle.serial_core.specs.Represents.{InputCause};
 ghost use Rattle.cli_words.specs.declared.verbs.Asked.{Asked};
 ghost use Rattle.cli_words.specs.Grammar.{IsLine, Reads, names_of};
 ghost use Rattle.cli_run.specs.Answer.{RefusesWhere};
-ghost use Rattle.cli_run.specs.Meaning.{IsCommandLine, command_of, names_in};
+ghost use Rattle.cli_run.specs.Meaning.{IsCommandLine, command_of, formats_in, names_in};
 ghost use Rattle.cli_run.specs.Run.{Completes, OutputCause, Ran, Run};
 
 use crate::message::{Digits, write_message};
 use crate::planning::plan_of;
 use cli_words::{Command, Line, line_of, names_of};
 use itoa::Buffer;
+use mlr_event::Format;
 use mlr_plan::run_serial;
 use mlr_value::Bytes;
 use mlr_world::{Inputs, Outputs};
 use serial_core::{Ended, Refusal, Why};
 use std::alloc::Global;
+use std::slice::from_ref;
 use std::sync::Wait;
 use std::thread::Threads;
 
@@ -77,7 +79,9 @@ pub fn run_mlr<
     let mut inputs = inputs;
     let line = line_of(alloc, words);
     let ended = run_line(alloc, words, line, &mut inputs, outputs);
-    let _ = write_message(words, names_in(words, line), &ended, &mut digits, outputs);
+    let names = names_in(words, line);
+    let formats = formats_in(&line);
+    let _ = write_message(words, names, formats, &ended, &mut digits, outputs);
     (ended, inputs)
 }
 
@@ -87,6 +91,16 @@ fn names_in(words: &[Bytes], line: Line) -> &[Bytes]
 {
     match line {
         Line::Accepted(command) => names_of(words, command),
+        Line::Refused(_) => &[],
+    }
+}
+
+/// The formats of the outputs of words that were read as this.
+fn formats_in(line: &Line) -> &[Format]
+    ensures { result.now ≡ formats_in line.now }
+{
+    match line {
+        Line::Accepted(command) => from_ref(&command.formats.output),
         Line::Refused(_) => &[],
     }
 }
@@ -102,7 +116,7 @@ fn run_line<I: Inputs, O: Outputs>(
     requires { Reads words.now line }
     ensures refused { RefusesWhere words.now result }
     ensures untouched { is_refused result ≡ true → inputs.new ≡ inputs.old }
-    ensures run { Ran words.now (names_in words.now line) result (I.contents inputs.old)
+    ensures run { Ran words.now (names_in words.now line) (formats_in line) result (I.contents inputs.old)
         (I.taken inputs.old) (I.taken inputs.new) (O.held outputs.old) (O.held outputs.new) }
     ensures contents { I.contents inputs.new ≡ I.contents inputs.old }
     ensures input_cause { InputCause result (I.faults inputs.old) (I.faults inputs.new) }

@@ -5,7 +5,7 @@ use Rattle.mlr_world.specs.Counts.{Rose}
 use Rattle.serial_core.specs.declared.answer.Ended.TheVariants as answer
 use Rattle.serial_core.specs.declared.answer.Why.TheVariants as why
 use Rattle.cli_words.specs.Grammar.{Reads, names_of}
-use Rattle.cli_run.specs.Meaning.{command_of, names_in}
+use Rattle.cli_run.specs.Meaning.{command_of, formats_in, names_in}
 use Rattle.cli_run.specs.Run.{Ran}
 use Rattle.cli_run.proofs.Answering.{CompletesAs, command-is, never-refused, not-refused, ran-line, ran-refused, refused-there}
 use Rattle.cli_run.proofs.run.run_line.Goals as goal
@@ -21,7 +21,7 @@ returns-in-Refused-clause-run g c =
     let contents = g.I.Inputs.contents c.args.inputs.now in
     let taken = g.I.Inputs.taken c.args.inputs.now in
     let held = g.O.Outputs.held c.args.outputs.now in
-    subst (λ l. Ran words (names_in words l) (answer.Refused (record { word = c.in-Refused.word; why = why.NotBuilt })) contents taken taken held held) (sym c.in-Refused.is)
+    subst (λ l. Ran words (names_in words l) (formats_in l) (answer.Refused (record { word = c.in-Refused.word; why = why.NotBuilt })) contents taken taken held held) (sym c.in-Refused.is)
     (ran-refused words c.in-Refused.word (subst (Reads words) c.in-Refused.is c.requires) contents taken (g.I.Inputs.open_name c.args.inputs.now) held)
 
 pub returns-in-Refused-clause-completes : goal.returns-in-Refused-clause-completes
@@ -52,7 +52,7 @@ returns-in-Accepted-clause-run g c =
     let taken' = g.I.Inputs.taken c.run_accepted.new.inputs in
     let held = g.O.Outputs.held c.args.outputs.now in
     let held' = g.O.Outputs.held c.run_accepted.new.outputs in
-    subst (λ l. Ran words (names_in words l) c.run_accepted.result contents taken taken' held held') (sym c.in-Accepted.is)
+    subst (λ l. Ran words (names_in words l) (formats_in l) c.run_accepted.result contents taken taken' held held') (sym c.in-Accepted.is)
     (ran-line words names (command_of formats line.0 names words) (record { formats = formats; verbs = line.0; line = line.1; command_is = refl })
     c.run_accepted.result contents taken taken' (g.I.Inputs.open_name c.run_accepted.new.inputs) held held' (c.run_accepted.ensures.run line.0 line.1))
 
