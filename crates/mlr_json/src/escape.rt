@@ -14,9 +14,9 @@ pub fn append_json_string(text: &[u8], into: &mut Bytes) -> Result<(), NoMemory>
     ensures ok { OnOk result (into.new ≡ into.old ++ json_string text.now) }
     ensures err { OnErr result (RepresentsBefore into.old into.new) }
 {
-    into.append(b"\"")?;
+    into.push(b'"')?;
     append_escaped(text, into)?;
-    into.append(b"\"")
+    into.push(b'"')
 }
 
 /// Goes from one byte that wants an escape to the next.

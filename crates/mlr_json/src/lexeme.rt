@@ -37,7 +37,7 @@ pub enum Scanned<'a> {
 }
 
 /// The lexeme at the start of a text, within a string or outside. It doesn't allocate.
-#[inline]
+#[inline(always)]
 pub fn first_lexeme(inside: bool, text: &[u8]) -> Scanned<'_>
     ensures prefix { scan_seen result ≡ first_lexeme inside text.now }
     ensures within { IsWithin (length text.now) result }
@@ -49,7 +49,7 @@ pub fn first_lexeme(inside: bool, text: &[u8]) -> Scanned<'_>
     }
 }
 
-#[inline]
+#[inline(always)]
 #[tactic(auto, unfolding(mlr_spec::specs::JsonTokens::lexeme_outside))]
 fn lexeme_outside(text: &[u8]) -> Scanned<'_>
     ensures prefix { scan_seen result ≡ lexeme_outside text.now }
@@ -80,6 +80,7 @@ fn mark_of(byte: u8) -> Option<JsonMark>
 }
 
 /// What is between marks.
+#[inline(always)]
 fn lexeme_unmarked(text: &[u8]) -> Scanned<'_>
     requires { 0 < length text.now }
     ensures prefix { scan_seen result ≡ lexeme_unmarked text.now }
@@ -159,7 +160,7 @@ fn raw_len(text: &[u8]) -> usize
     text.len()
 }
 
-#[inline]
+#[inline(always)]
 #[tactic(auto, unfolding(mlr_spec::specs::JsonTokens::lexeme_inside))]
 fn lexeme_inside(text: &[u8]) -> Scanned<'_>
     ensures prefix { scan_seen result ≡ lexeme_inside text.now }

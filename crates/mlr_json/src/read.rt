@@ -69,6 +69,7 @@ fn read_text(alloc: Global, text: &[u8]) -> Result<JsonRead, NoMemory>
 }
 
 /// Reads the next token, or blanks.
+#[inline(always)]
 fn next_turn<'a>(alloc: Global, machine: &mut Machine, text: &'a [u8]) -> Result<Turn<'a>, NoMemory>
     ensures outcome { IfOk result (λ turn. (end : ℕ) → length text.now ≤ end
         → IsTurn end (outcome_at end (frames_of machine.old) machine.old.phase
@@ -86,6 +87,7 @@ fn next_turn<'a>(alloc: Global, machine: &mut Machine, text: &'a [u8]) -> Result
 }
 
 /// Takes a token that begins where so many bytes remain.
+#[inline(always)]
 fn token_turn<'a>(
     machine: &mut Machine,
     token: Token,
@@ -107,6 +109,7 @@ fn token_turn<'a>(
     }
 }
 
+#[inline(always)]
 fn take(machine: &mut Machine, token: Token) -> Result<Went, NoMemory>
     ensures { IfOk result (λ went. IsStep (step (frames_of machine.old) machine.old.phase
         (token_seen token)) went machine.new) }

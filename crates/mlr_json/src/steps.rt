@@ -35,6 +35,7 @@ impl Machine {
     }
 
     /// Whether a string may come next.
+    #[inline(always)]
     pub fn takes_text(&self) -> bool
         ensures { result ≡ takes_text (frames_of self.now) self.now.phase }
     {
@@ -42,6 +43,7 @@ impl Machine {
     }
 
     /// Reads a mark. It takes memory for a bracket that opens.
+    #[inline(always)]
     #[tactic(auto, unfolding(crate::specs::Machine::step))]
     pub fn mark(&mut self, mark: JsonMark) -> Result<Went, NoMemory>
         ensures { IfOk result
@@ -64,6 +66,7 @@ impl Machine {
     }
 
     /// Reads a word that has this value.
+    #[inline(always)]
     #[tactic(auto, unfolding(crate::specs::Machine::step))]
     pub fn word(&mut self, value: Value) -> Result<Went, NoMemory>
         ensures { IfOk result (λ went. IsStep (step (frames_of self.old) self.old.phase
@@ -77,6 +80,7 @@ impl Machine {
     }
 
     /// Reads a string that has this text: a key or a value.
+    #[inline(always)]
     #[tactic(auto, unfolding(crate::specs::Machine::step))]
     pub fn text(&mut self, text: Bytes) -> Result<Went, NoMemory>
         ensures { IfOk result (λ went. IsStep (step (frames_of self.old) self.old.phase
@@ -92,12 +96,14 @@ impl Machine {
     }
 
     /// Whether a value may come next.
+    #[inline(always)]
     pub fn takes_value(&self) -> bool
         ensures { result ≡ takes_value self.now.phase }
     {
         matches!(self.phase, Phase::Value | Phase::FirstItem)
     }
 
+    #[inline(always)]
     fn takes_key(&self) -> bool
         ensures { result ≡ takes_key self.now.phase }
     {
@@ -105,6 +111,7 @@ impl Machine {
     }
 
     /// Whether the innermost bracket is that of a map.
+    #[inline(always)]
     fn is_in_map(&self) -> bool
         ensures { result ≡ is_in_map (frames_of self.now) }
     {
@@ -112,6 +119,7 @@ impl Machine {
     }
 
     /// Takes a value: as the next item, as the value of the key before it, or as the whole value.
+    #[inline(always)]
     fn value(&mut self, value: Value) -> Result<Went, NoMemory>
         ensures { IfOk result (λ went. IsStep (with_value (tree_of value) (frames_of self.old)) went
             self.new) }
@@ -131,6 +139,7 @@ impl Machine {
     }
 
     /// Takes the key of the next pair.
+    #[inline(always)]
     fn key(&mut self, key: Bytes) -> Result<Went, NoMemory>
         ensures { IfOk result (λ went. IsStep (with_key key (frames_of self.old)) went self.new) }
     {
@@ -144,6 +153,7 @@ impl Machine {
         }
     }
 
+    #[inline(always)]
     fn open(&mut self, frame: Frame, phase: Phase) -> Result<Went, NoMemory>
         ensures { IfOk result (λ went. IsStep (if takes_value self.old.phase
             then on (frame ∷ frames_of self.old) phase else wrong) went self.new) }
@@ -159,6 +169,7 @@ impl Machine {
         Ok(Went::On)
     }
 
+    #[inline(always)]
     fn end_map(&mut self) -> Result<Went, NoMemory>
         ensures { IfOk result (λ went. IsStep (map_ended (frames_of self.old) self.old.phase) went
             self.new) }
@@ -172,6 +183,7 @@ impl Machine {
         }
     }
 
+    #[inline(always)]
     fn end_array(&mut self) -> Result<Went, NoMemory>
         ensures { IfOk result (λ went. IsStep (array_ended (frames_of self.old) self.old.phase) went
             self.new) }
@@ -185,6 +197,7 @@ impl Machine {
         }
     }
 
+    #[inline(always)]
     fn colon(&mut self) -> Went
         ensures { IsStep (colon_read (frames_of self.old) self.old.phase) result self.new }
     {
@@ -195,6 +208,7 @@ impl Machine {
         Went::On
     }
 
+    #[inline(always)]
     fn comma(&mut self) -> Went
         ensures { IsStep (comma_read (frames_of self.old) self.old.phase) result self.new }
     {
@@ -211,6 +225,7 @@ impl Machine {
 }
 
 /// An open bracket with one value more.
+#[inline(always)]
 fn frame_with(frame: Frame, value: Value) -> Result<Frame, NoMemory>
     ensures { IfOk result (λ more. (frames : List Frame)
         → with_value (tree_of value) (frame ∷ frames) ≡ on (more ∷ frames) Phase.Later) }
@@ -228,6 +243,7 @@ fn frame_with(frame: Frame, value: Value) -> Result<Frame, NoMemory>
 }
 
 /// A string without bytes is the empty value.
+#[inline(always)]
 fn text_value(text: Bytes) -> Value
     ensures { tree_of result ≡ text_value text }
 {

@@ -20,7 +20,7 @@ pub struct StringBuilder {
 
 impl StringBuilder {
     /// A string of no pieces. It takes no memory.
-    #[inline]
+    #[inline(always)]
     pub fn new(alloc: Global) -> Self
         ensures { Holds result [] }
     {
@@ -31,7 +31,7 @@ impl StringBuilder {
     }
 
     /// Appends bytes. The first ones are copied once.
-    #[inline]
+    #[inline(always)]
     pub fn push_raw(&mut self, text: &[u8]) -> Result<(), NoMemory>
         ensures { OnOk result ((pieces : List Piece) → Holds self.old pieces
             → Holds self.new (pieces ++ raw text.now ∷ [])) }
@@ -60,7 +60,7 @@ impl StringBuilder {
     }
 
     /// The text of the pieces that were put.
-    #[inline]
+    #[inline(always)]
     pub fn finish(self) -> Result<Bytes, NoMemory>
         ensures { IfOk result
             (λ text. (pieces : List Piece) → Holds self pieces → text ≡ decoded pieces) }

@@ -55,6 +55,7 @@ enum PieceAt<'a> {
 }
 
 /// Reads the next token, or blanks. A string is read only where it is wanted.
+#[inline(always)]
 pub(crate) fn next_token(alloc: Global, wants_text: bool, text: &[u8]) -> Result<Next<'_>, NoMemory>
     ensures tokens { IfOk result (λ next. (end : ℕ) → length text.now ≤ end
         → Gives end (length text.now) next (tokens_left end text.now)) }
@@ -75,6 +76,7 @@ pub(crate) fn next_token(alloc: Global, wants_text: bool, text: &[u8]) -> Result
 }
 
 /// The token that begins with the lexeme at the start of a text.
+#[inline(always)]
 fn token_of<'a>(
     alloc: Global,
     wants_text: bool,
@@ -98,6 +100,7 @@ fn token_of<'a>(
 }
 
 /// The token of a word at the start of a text.
+#[inline(always)]
 fn word_token<'a>(
     alloc: Global,
     word: &[u8],
@@ -119,6 +122,7 @@ fn word_token<'a>(
 }
 
 /// The token of a string whose first quote is at the start of a text.
+#[inline(always)]
 fn string_token<'a>(
     alloc: Global,
     wanted: bool,
@@ -143,6 +147,7 @@ fn string_token<'a>(
 }
 
 /// Reads a string from after its first quote.
+#[inline(always)]
 fn read_string(alloc: Global, text: &[u8]) -> Result<StringEnd<'_>, NoMemory>
     ensures tokens { IfOk result (λ ended. (end : ℕ) → length text.now ≤ end
         → IsStringEnd end text.now ended) }
@@ -167,6 +172,7 @@ fn read_string(alloc: Global, text: &[u8]) -> Result<StringEnd<'_>, NoMemory>
 }
 
 /// Reads the next piece within a string, or its last quote.
+#[inline(always)]
 fn piece_at(text: &[u8]) -> PieceAt<'_>
     ensures tokens { (end : ℕ) → length text.now ≤ end → PieceGives end text.now result }
     ensures shorter { IsPieceShorter (length text.now) result }
@@ -179,6 +185,7 @@ fn piece_at(text: &[u8]) -> PieceAt<'_>
 }
 
 /// The piece that a lexeme within a string is.
+#[inline(always)]
 fn piece_of<'a>(lexeme: Lexeme<'a>, following: &'a [u8]) -> PieceAt<'a>
     requires { is_of_string (lexeme_seen lexeme) ≡ true }
     ensures tokens { (end : ℕ) (text : List ℕ)

@@ -99,10 +99,10 @@ fn append_map(
         return into.append(b"{}");
     }
     let inner = deeper(level)?;
-    into.append(b"{")?;
+    into.push(b'{')?;
     append_pairs(pairs, style, inner, into)?;
     append_line_end(is_stacked(style), level, into)?;
-    into.append(b"}")
+    into.push(b'}')
 }
 
 /// The pairs of a map, each after its gap.
@@ -141,10 +141,10 @@ fn append_array(
     }
     let lines = is_stacked(style) && has_collection(items);
     let inner = deeper(level)?;
-    into.append(b"[")?;
+    into.push(b'[')?;
     append_items(items, lines, style, inner, into)?;
     append_line_end(lines, level, into)?;
-    into.append(b"]")
+    into.push(b']')
 }
 
 /// The items of an array, each after its gap.
@@ -168,18 +168,21 @@ fn append_items(
 }
 
 /// One level more. A value of more levels than a `usize` counts takes more memory than there is.
+#[inline(always)]
 fn deeper(level: usize) -> Result<usize, NoMemory>
     ensures { IfOk result (λ more. more ≡ level + 1) }
 {
     level.checked_add(1).ok_or(NoMemory)
 }
 
+#[inline(always)]
 fn is_stacked(style: JsonStyle) -> bool
     ensures { result ≡ is_stacked style }
 {
     matches!(style, JsonStyle::Stacked)
 }
 
+#[inline(always)]
 fn is_collection(value: &Value) -> bool
     ensures { result ≡ is_collection (tree_of value.now) }
 {
@@ -199,6 +202,7 @@ fn has_collection(items: &ArrayValue) -> bool
 }
 
 /// What precedes a text between brackets.
+#[inline(always)]
 fn append_gap(lines: bool, first: bool, level: usize, into: &mut Bytes) -> Result<(), NoMemory>
     ensures ok { OnOk result (into.new ≡ into.old ++ gap lines first level) }
     ensures err { OnErr result (RepresentsBefore into.old into.new) }
@@ -207,12 +211,13 @@ fn append_gap(lines: bool, first: bool, level: usize, into: &mut Bytes) -> Resul
         return if first { Ok(()) } else { into.append(b", ") };
     }
     if !first {
-        into.append(b",")?;
+        into.push(b',')?;
     }
     append_new_line(level, into)
 }
 
 /// What precedes a closing bracket.
+#[inline(always)]
 fn append_line_end(lines: bool, level: usize, into: &mut Bytes) -> Result<(), NoMemory>
     ensures ok { OnOk result (into.new ≡ into.old ++ line_end lines level) }
     ensures err { OnErr result (RepresentsBefore into.old into.new) }
@@ -224,12 +229,31 @@ fn append_line_end(lines: bool, level: usize, into: &mut Bytes) -> Result<(), No
     }
 }
 
+/// A new line of a level up to which it is written at once.
+const SHORT_LINE: &[u8] = b"\n              ";
+
+const SHORT_LEVEL: usize = 7;
+
 /// A line end, and two spaces for each level.
+#[inline(always)]
 fn append_new_line(level: usize, into: &mut Bytes) -> Result<(), NoMemory>
     ensures ok { OnOk result (into.new ≡ into.old ++ new_line level) }
     ensures err { OnErr result (RepresentsBefore into.old into.new) }
 {
-    into.append(b"\n")?;
+    if level <= SHORT_LEVEL {
+        into.append(&SHORT_LINE[..1 + 2 * level])
+    } else {
+        append_deep_line(level, into)
+    }
+}
+
+/// A new line of any level, space by space.
+#[cold]
+fn append_deep_line(level: usize, into: &mut Bytes) -> Result<(), NoMemory>
+    ensures ok { OnOk result (into.new ≡ into.old ++ new_line level) }
+    ensures err { OnErr result (RepresentsBefore into.old into.new) }
+{
+    into.push(b'\n')?;
     for _done in 0..level {
         into.append(b"  ")?;
     }

@@ -1,4 +1,5 @@
 pub mod Columns
+mod Places
 pub mod Folding
 pub mod Depth
 mod Prefixes

@@ -1,16 +1,36 @@
--- What the keys and values of a map, and the values of an array, are to contracts.
-use Rattle.std.specs.Prelude.{ℕ, List, map, Vec}
-use Rattle.std.specs.List.{zip}
+-- What the pairs of a map, and the values of an array, are to contracts.
+use Rattle.std.specs.Prelude.{◌≡◌, ℕ, Bool, false, List, map, Box, Option, MatchOption}
+use Rattle.std.specs.List.{list_any}
+use Rattle.std.specs.Str.{bytes_eq}
 use Rattle.mlr_spec.specs.Tree.{Tree}
+use Rattle.mlr_spec.specs.Pairs.{keys_of}
 use Rattle.mlr_value.specs.declared.value.Value.{Value}
+use Rattle.mlr_value.specs.declared.map_value.Pair.{Pair}
+use Rattle.mlr_value.specs.declared.map_value.Columns.{Columns}
 use Rattle.mlr_value.specs.Value.{tree_of}
+pub use Rattle.mlr_value.specs.Texts.{texts_in}
+use Rattle.mlr_value.specs.Texts.{IsFirst}
 
 abbrev pub trees_in : List Value → List Tree
 trees_in values = map tree_of values
 
-abbrev pub texts_in : {A : Type 0} → List (Vec ℕ A) → List (List ℕ)
-texts_in keys = map (λ key. key.items) keys
+abbrev pub pair_of : Pair → List ℕ × Tree
+pair_of pair = (pair.key, tree_of pair.value)
 
--- each key beside its value
-abbrev pub pairs_in : {A : Type 0} → List (Vec ℕ A) → List Value → List (List ℕ × Tree)
-pairs_in keys values = zip (texts_in keys) (trees_in values)
+abbrev pub pairs_of : List Pair → List (List ℕ × Tree)
+pairs_of pairs = map pair_of pairs
+
+-- whether a pair has this key
+abbrev pub has_key : List ℕ → Pair → Bool
+has_key key pair = bytes_eq pair.key key
+
+-- the place of the one pair with this key, or none where no pair has it
+abbrev pub IsPlaceOf : List ℕ → List Pair → Option ℕ → Type 0
+IsPlaceOf key pairs place = MatchOption place (list_any (has_key key) pairs ≡ false) (IsFirst (has_key key) pairs)
+
+-- an index, where there is one, has these keys
+abbrev pub IsIndexOf : {A : Type 0} → Option (Box (List (List ℕ)) A) → List (List ℕ) → Type 0
+IsIndexOf index keys = MatchOption index (Unit {0}) (λ i. i.value ≡ keys)
+
+abbrev pub IsIndex : Columns → Type 0
+IsIndex columns = IsIndexOf columns.index (keys_of (pairs_of columns.pairs.items))

@@ -1,14 +1,15 @@
 -- A value in a map or an array is less deep than the map or the array: the measure that the models of both give.
-use Rattle.std.specs.Prelude.{◌≡◌, ℕ, ◌≤◌, List, [], ◌∷◌, length, Vec}
-use Rattle.std.proofs.Common.{Global, arith}
+use Rattle.std.specs.Prelude.{◌≤◌, List, [], ◌∷◌}
+use Rattle.std.proofs.Common.{arith}
 use denote.Param.Weighed.{most}
 use Rattle.mlr_value.specs.declared.value.Value.{Value}
+use Rattle.mlr_value.specs.declared.map_value.Pair.{Pair}
 use Rattle.mlr_value.specs.declared.value.Value.TheVariants.{Absent, Empty, Str, Int, Frac, Wide, Bool, Map, Array, Error}
-use Rattle.mlr_value.specs.declared.array_value.ArrayValue.TheDeep.{deep-Value, deep-ArrayValue, deep-MapValue}
+use Rattle.mlr_value.specs.declared.array_value.ArrayValue.TheDeep.{deep-Value, deep-ArrayValue, deep-MapValue, deep-Pair}
 use Rattle.mlr_value.specs.declared.array_value.ArrayValue.TheInside.{Inside as ArrayInside}
 use Rattle.mlr_value.specs.declared.map_value.MapValue.TheInside.{Inside as MapInside}
 use Rattle.mlr_value.specs.Value.{tree_of}
-use Rattle.mlr_value.specs.Collections.{trees_in, pairs_in}
+use Rattle.mlr_value.specs.Collections.{trees_in, pairs_of}
 use Rattle.mlr_value.specs.Depth.{depth, items_depth, pairs_depth}
 
 deep-Value≤depth : (value : Value) → deep-Value value ≤ depth (tree_of value)
@@ -27,17 +28,12 @@ most≤items_depth : (values : List Value) → most deep-Value values ≤ items_
 most≤items_depth [] = omega arith
 most≤items_depth (value ∷ values) = omega (arith, deep-Value≤depth value, most≤items_depth values)
 
-most≤pairs_depth : (keys : List (Vec ℕ Global)) (values : List Value) → length keys ≡ length values → most deep-Value values ≤ pairs_depth (pairs_in keys values)
-most≤pairs_depth [] [] same = omega arith
-most≤pairs_depth [] (value ∷ values) same = absurd (omega arith)
-most≤pairs_depth (key ∷ keys) [] same = absurd (omega arith)
-most≤pairs_depth (key ∷ keys) (value ∷ values) same =
-    let rest : length keys ≡ length values = omega arith in
-    omega (arith, deep-Value≤depth value, most≤pairs_depth keys values rest)
+most≤pairs_depth : (pairs : List Pair) → most deep-Pair pairs ≤ pairs_depth (pairs_of pairs)
+most≤pairs_depth [] = omega arith
+most≤pairs_depth (pair ∷ pairs) = omega (arith, deep-Value≤depth pair.value, most≤pairs_depth pairs)
 
 pub items_fall : (a : ArrayInside) → deep-ArrayValue a ≤ items_depth (trees_in a.items.items)
 items_fall a = omega (arith, most≤items_depth a.items.items)
 
-pub pairs_fall : (m : MapInside) → length m.columns.value.keys.keys ≡ length m.columns.value.values.items
-    → deep-MapValue m ≤ pairs_depth (pairs_in m.columns.value.keys.keys m.columns.value.values.items)
-pairs_fall m same = omega (arith, most≤pairs_depth m.columns.value.keys.keys m.columns.value.values.items same)
+pub pairs_fall : (m : MapInside) → deep-MapValue m ≤ pairs_depth (pairs_of m.columns.pairs.items)
+pairs_fall m = omega (arith, most≤pairs_depth m.columns.pairs.items)

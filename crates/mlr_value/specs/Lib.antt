@@ -1,4 +1,5 @@
 pub mod Value
+pub mod Texts
 pub mod Collections
 pub mod Depth
 pub mod Falls

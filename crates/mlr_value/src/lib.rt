@@ -5,6 +5,7 @@
 mod arithmetic;
 mod array_value;
 mod bytes;
+mod key_index;
 mod map_value;
 mod order;
 mod short;

@@ -1,34 +1,46 @@
 //! Maps of values, with their keys in order.
-ghost use Rattle.std.specs.Prelude.{◌≡◌, ◌<◌, ◌++◌, ◌∷◌, [], true, length, if◌then◌else◌, is_ok, is_some, IfOk, OnOk, None, Some, slice_get};
+ghost use Rattle.std.specs.Prelude.{◌≡◌, ◌<◌, ◌++◌, ◌∷◌, [], true, length, if◌then◌else◌, is_ok, is_some, IfOk, OnOk, OnErr, None, Some, slice_get};
 ghost use Rattle.std.specs.Option.{option_map};
 ghost use Rattle.mlr_spec.specs.Pairs.{value_at, put_at, remove_at, keys_of, are_distinct};
 ghost use Rattle.mlr_value.specs.Value.{tree_of};
-ghost use Rattle.mlr_value.specs.Collections.{pairs_in};
+ghost use Rattle.mlr_value.specs.Collections.{pairs_of, IsPlaceOf, IsIndex, IsIndexOf};
 
-use crate::Value;
-use indexmap::IndexSet;
+use crate::key_index::KeyIndex;
+use crate::{Bytes, Value};
 use mlr_spec::NoMemory;
 use std::alloc::Global;
 use std::marker::Model;
 
-/// A map: pairs of a key and a value in the order of insertion, no two of one key. A search goes by a hash of the key.
+/// A map: pairs of a key and a value in the order of insertion, no two of one key. A search goes over the keys while they are
+/// few, and by a hash of the key once they are many.
 #[cycle(value)]
 #[derive(Debug, Drop)]
 pub struct MapValue {
     alloc: Global,
-    columns: Box<Columns>,
+    columns: Columns,
 }
 
-/// The keys of a map, and at the same places the values.
+/// The pairs of a map, and its keys again by their hash once there are many.
 #[cycle(value)]
 #[derive(Debug, Drop)]
 struct Columns {
-    keys: IndexSet<Vec<u8>>,
-    values: Vec<Value>,
+    pairs: Vec<Pair>,
+    index: Option<Box<KeyIndex>>,
 }
 
+/// A key and its value.
+#[cycle(value)]
+#[derive(Debug, Drop)]
+struct Pair {
+    key: Bytes,
+    value: Value,
+}
+
+/// How many pairs a map has before its keys are found by their hash.
+const MOST_SEARCHED: usize = 16;
+
 impl Model for MapValue {
-    ghost use Rattle.std.specs.Prelude.{◌≡◌, ℕ, List, length};
+    ghost use Rattle.std.specs.Prelude.{◌≡◌, ℕ, List, true};
     ghost use Rattle.mlr_spec.specs.Tree.{Tree};
     ghost use Rattle.mlr_spec.specs.TreeCode.{coded_pairs};
 
@@ -36,34 +48,32 @@ impl Model for MapValue {
 
     ghost coded = { coded_pairs };
 
-    ghost use Rattle.mlr_value.specs.Collections.{pairs_in};
+    ghost use Rattle.mlr_spec.specs.Pairs.{keys_of, are_distinct};
+    ghost use Rattle.mlr_value.specs.Collections.{pairs_of, IsIndex};
     ghost use Rattle.mlr_value.specs.Depth.{pairs_depth};
 
-    ghost view = { λ m. pairs_in m.columns.value.keys.keys m.columns.value.values.items };
+    ghost view = { λ m. pairs_of m.columns.pairs.items };
 
-    ghost invariant = { λ m. length m.columns.value.keys.keys
-        ≡ length m.columns.value.values.items };
+    ghost invariant = { λ m. (are_distinct (keys_of (pairs_of m.columns.pairs.items)) ≡ true)
+        × IsIndex m.columns };
 
     ghost size = { pairs_depth };
 
     ghost use Rattle.mlr_value.specs.Falls.{pairs_fall};
 
-    ghost size_decreases = { λ m h. pairs_fall m h };
+    ghost size_decreases = { λ m h. pairs_fall m };
 }
 
 impl MapValue {
-    /// The empty map. It takes memory.
+    /// The empty map. It takes no memory.
     pub fn new(alloc: Global) -> Result<Self, NoMemory>
         ensures { IfOk result (λ made. made ≡ []) }
     {
         let columns = Columns {
-            keys: IndexSet::new(alloc),
-            values: Vec::new(alloc),
+            pairs: Vec::new(alloc),
+            index: None,
         };
-        Ok(MapValue {
-            alloc,
-            columns: Box::new(alloc, columns)?,
-        })
+        Ok(MapValue { alloc, columns })
     }
 
     /// How many pairs it has.
@@ -71,16 +81,15 @@ impl MapValue {
         ensures length { result ≡ length self.now }
         ensures distinct { are_distinct (keys_of self.now) ≡ true }
     {
-        self.columns.keys.len()
+        self.columns.pairs.len()
     }
 
     /// The value of this key. It takes no memory.
     pub fn get(&self, key: &[u8]) -> Option<&Value>
         ensures { option_map (λ value. tree_of value.now) result ≡ value_at key.now self.now }
     {
-        let columns: &Columns = &self.columns;
-        let place = columns.keys.get_index_of(key)?;
-        Some(&columns.values[place])
+        let place = place_of(&self.columns, key)?;
+        Some(&self.columns.pairs[place].value)
     }
 
     /// The pair at this place, which counts from 0. It takes no memory.
@@ -100,8 +109,8 @@ impl MapValue {
         requires { place < length self.now }
         ensures { slice_get self.now place ≡ Some (result.0.now, tree_of result.1.now) }
     {
-        let columns: &Columns = &self.columns;
-        (columns.keys[place].as_slice(), &columns.values[place])
+        let pair = &self.columns.pairs[place];
+        (pair.key.as_slice(), &pair.value)
     }
 
     /// Gives the key this value: in its place if it is there, else last.
@@ -109,15 +118,12 @@ impl MapValue {
         ensures { self.new ≡ (if is_ok result then put_at key.now (tree_of value) self.old
             else self.old) }
     {
-        match self.columns.keys.get_index_of(key) {
+        match place_of(&self.columns, key) {
             Some(place) => {
-                self.columns.values[place] = value;
+                self.columns.pairs[place].value = value;
                 Ok(())
             }
-            None => {
-                push_pair(&mut self.columns, self.alloc, key, value)?;
-                Ok(())
-            }
+            None => push_pair(&mut self.columns, self.alloc, key, value),
         }
     }
 
@@ -135,11 +141,10 @@ impl MapValue {
         ensures { self.new ≡ (if is_ok result then self.old ++ (key.now, tree_of value) ∷ []
             else self.old) }
     {
-        push_pair(&mut self.columns, self.alloc, key, value)?;
-        Ok(())
+        push_pair(&mut self.columns, self.alloc, key, value)
     }
 
-    /// A copy, which takes the room of the two lists at once.
+    /// A copy, which takes the room of the list at once.
     #[cycle(copy)]
     pub fn copy(&self, alloc: Global) -> Result<Self, NoMemory>
         ensures { IfOk result (λ copy. copy ≡ self.now) }
@@ -155,13 +160,10 @@ fn with_room(alloc: Global, room: usize) -> Result<MapValue, NoMemory>
     ensures { IfOk result (λ made. made ≡ []) }
 {
     let columns = Columns {
-        keys: IndexSet::with_capacity(alloc, room)?,
-        values: Vec::with_capacity(alloc, room)?,
+        pairs: Vec::with_capacity(alloc, room)?,
+        index: None,
     };
-    Ok(MapValue {
-        alloc,
-        columns: Box::new(alloc, columns)?,
-    })
+    Ok(MapValue { alloc, columns })
 }
 
 /// Appends copies of all pairs to an empty map.
@@ -177,36 +179,94 @@ fn copy_pairs(from: &MapValue, into: &mut MapValue, alloc: Global) -> Result<(),
     Ok(())
 }
 
+/// The place of the pair of this key.
+fn place_of(columns: &Columns, key: &[u8]) -> Option<usize>
+    requires { IsIndex columns.now }
+    ensures { IsPlaceOf key.now columns.now.pairs.items result }
+{
+    match &columns.index {
+        None => place_among(&columns.pairs, key),
+        Some(index) => index.place_of(key),
+    }
+}
+
+/// The place of the pair of this key, by a search from the first pair on.
+fn place_among(pairs: &[Pair], key: &[u8]) -> Option<usize>
+    ensures { IsPlaceOf key.now pairs.now result }
+{
+    for (place, pair) in pairs.iter().enumerate() {
+        if pair.key.as_slice() == key {
+            return Some(place);
+        }
+    }
+    None
+}
+
 /// Appends a key and a value, where the key isn't there.
 fn push_pair(columns: &mut Columns, alloc: Global, key: &[u8], value: Value) -> Result<(), NoMemory>
-    requires lengths { length columns.old.keys.keys ≡ length columns.old.values.items }
-    requires absent { value_at key.now (pairs_in columns.old.keys.keys columns.old.values.items)
-        ≡ None }
-    ensures lengths { length columns.new.keys.keys ≡ length columns.new.values.items }
-    ensures pairs { pairs_in columns.new.keys.keys columns.new.values.items
-        ≡ (if is_ok result then pairs_in columns.old.keys.keys columns.old.values.items
-        ++ (key.now, tree_of value) ∷ []
-        else pairs_in columns.old.keys.keys columns.old.values.items) }
+    requires index { IsIndex columns.old }
+    requires distinct { are_distinct (keys_of (pairs_of columns.old.pairs.items)) ≡ true }
+    requires absent { value_at key.now (pairs_of columns.old.pairs.items) ≡ None }
+    ensures index { IsIndex columns.new }
+    ensures pairs { pairs_of columns.new.pairs.items
+        ≡ (if is_ok result then pairs_of columns.old.pairs.items ++ (key.now, tree_of value) ∷ []
+        else pairs_of columns.old.pairs.items) }
 {
-    let name = Vec::from_slice(alloc, key)?;
-    columns.values.reserve(1)?;
-    columns.keys.insert(name)?;
-    columns.values.push_reserved(value);
+    let name = Bytes::copy_of(alloc, key)?;
+    columns.pairs.reserve(1)?;
+    index_key(&mut columns.index, &columns.pairs, alloc, key)?;
+    columns.pairs.push_reserved(Pair { key: name, value });
     Ok(())
 }
 
-/// Takes the key and its value out, and says whether it was there.
-fn remove_pair(columns: &mut Columns, key: &[u8]) -> bool
-    requires { length columns.old.keys.keys ≡ length columns.old.values.items }
-    ensures lengths { length columns.new.keys.keys ≡ length columns.new.values.items }
-    ensures found { result ≡ is_some (value_at key.now
-        (pairs_in columns.old.keys.keys columns.old.values.items)) }
-    ensures pairs { pairs_in columns.new.keys.keys columns.new.values.items
-        ≡ remove_at key.now (pairs_in columns.old.keys.keys columns.old.values.items) }
+/// Appends a key to the index of these pairs, which is made once they are many.
+fn index_key(
+    index: &mut Option<Box<KeyIndex>>,
+    pairs: &[Pair],
+    alloc: Global,
+    key: &[u8],
+) -> Result<(), NoMemory>
+    requires index { IsIndexOf index.old (keys_of (pairs_of pairs.now)) }
+    requires distinct { are_distinct (keys_of (pairs_of pairs.now)) ≡ true }
+    requires absent { value_at key.now (pairs_of pairs.now) ≡ None }
+    ensures ok { OnOk result (IsIndexOf index.new (keys_of (pairs_of pairs.now) ++ key.now ∷ [])) }
+    ensures err { OnErr result (IsIndexOf index.new (keys_of (pairs_of pairs.now))) }
 {
-    let Some((place, _)) = columns.keys.shift_remove_full(key) else {
+    if let Some(index) = index {
+        return index.push(key);
+    }
+    if pairs.len() >= MOST_SEARCHED {
+        let mut made = index_of(pairs, alloc)?;
+        made.push(key)?;
+        *index = Some(Box::new(alloc, made)?);
+    }
+    Ok(())
+}
+
+/// The index of the keys of these pairs.
+fn index_of(pairs: &[Pair], alloc: Global) -> Result<KeyIndex, NoMemory>
+    requires { are_distinct (keys_of (pairs_of pairs.now)) ≡ true }
+    ensures { IfOk result (λ index. index ≡ keys_of (pairs_of pairs.now)) }
+{
+    let mut index = KeyIndex::new(alloc);
+    for place in 0..pairs.len() {
+        index.push(pairs[place].key.as_slice())?;
+    }
+    Ok(index)
+}
+
+/// Takes the pair of this key out, and says whether it was there. The keys are indexed again with the next new key.
+fn remove_pair(columns: &mut Columns, key: &[u8]) -> bool
+    requires { IsIndex columns.old }
+    ensures index { IsIndex columns.new }
+    ensures found { result ≡ is_some (value_at key.now (pairs_of columns.old.pairs.items)) }
+    ensures pairs { pairs_of columns.new.pairs.items
+        ≡ remove_at key.now (pairs_of columns.old.pairs.items) }
+{
+    let Some(place) = place_of(columns, key) else {
         return false;
     };
-    columns.values.remove(place);
+    columns.pairs.remove(place);
+    columns.index = None;
     true
 }

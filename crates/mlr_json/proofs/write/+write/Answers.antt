@@ -40,17 +40,17 @@ append_pairs-loop-place-preserved t c =
 
 pub append_map-returns-clause-ok : goal.append_map-returns-clause-ok
 append_map-returns-clause-ok t c =
-    last-part c.append-3.result c.append-3.new.self c.append_line_end.new.into (codes "}") _ c.append-3.ensures
-    (map-written c.args.style c.args.level c.args.pairs.now c.args.into.now c.append-2.new.self c.append_pairs.new.into c.append_line_end.new.into
-    (λ e. c.if-len-eq0.false (c.len.ensures.length ∙ e)) c.in_ok-append.ensures
-    (c.in_ok-append_pairs.ensures.ok ∙ ap (λ level. c.append-2.new.self ++ led (is_stacked c.args.style) true level (map (json_field c.args.style level) c.args.pairs.now)) c.in_ok-inner.ensures)
+    last-part c.push-2.result c.push-2.new.self c.append_line_end.new.into (codes "}") _ c.push-2.ensures
+    (map-written c.args.style c.args.level c.args.pairs.now c.args.into.now c.push.new.self c.append_pairs.new.into c.append_line_end.new.into
+    (λ e. c.if-len-eq0.false (c.len.ensures.length ∙ e)) c.in_ok-push.ensures
+    (c.in_ok-append_pairs.ensures.ok ∙ ap (λ level. c.push.new.self ++ led (is_stacked c.args.style) true level (map (json_field c.args.style level) c.args.pairs.now)) c.in_ok-inner.ensures)
     (c.in_ok-append_line_end.ensures.ok ∙ ap (λ lines. c.append_pairs.new.into ++ line_end lines c.args.level) c.is_stacked.ensures))
 
 pub append_array-returns-clause-ok : goal.append_array-returns-clause-ok
 append_array-returns-clause-ok t c =
     let lines_is : c.if-is_stacked.lines ≡ (is_stacked c.args.style && list_any is_collection c.args.items.now) = search rules in
-    last-part c.append-3.result c.append-3.new.self c.append_line_end.new.into (codes "]") _ c.append-3.ensures
-    (array-written c.args.style c.if-is_stacked.lines c.args.level c.args.items.now c.args.into.now c.append-2.new.self c.append_items.new.into c.append_line_end.new.into
-    (λ e. c.if-len-eq0.false (c.len.ensures ∙ e)) lines_is c.in_ok-append.ensures
-    (c.in_ok-append_items.ensures.ok ∙ ap (λ level. c.append-2.new.self ++ led c.if-is_stacked.lines true level (map (json_at c.args.style level) c.args.items.now)) c.in_ok-inner.ensures)
+    last-part c.push-2.result c.push-2.new.self c.append_line_end.new.into (codes "]") _ c.push-2.ensures
+    (array-written c.args.style c.if-is_stacked.lines c.args.level c.args.items.now c.args.into.now c.push.new.self c.append_items.new.into c.append_line_end.new.into
+    (λ e. c.if-len-eq0.false (c.len.ensures ∙ e)) lines_is c.in_ok-push.ensures
+    (c.in_ok-append_items.ensures.ok ∙ ap (λ level. c.push.new.self ++ led c.if-is_stacked.lines true level (map (json_at c.args.style level) c.args.items.now)) c.in_ok-inner.ensures)
     c.in_ok-append_line_end.ensures.ok)
