@@ -1,5 +1,5 @@
 //! The place of a line in a Markdown table.
-use mlr_event::Header;
+use mlr_fields::Header;
 
 /// The place of the next line of a Markdown file.
 #[derive(Drop)]

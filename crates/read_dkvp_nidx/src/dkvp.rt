@@ -9,8 +9,7 @@ ghost use Rattle.read_dkvp_nidx.specs.Row.{row_items};
 use crate::row::Row;
 use itoa::Buffer;
 use mlr_event::ReadOpts;
-use mlr_event::rows::put_text;
-use mlr_record::Record;
+use mlr_fields::Fields;
 use mlr_record::split::{next_part, separator_place};
 use mlr_spec::NoMemory;
 use std::alloc::Global;
@@ -25,9 +24,9 @@ pub(crate) fn dkvp_row(alloc: Global, opts: &ReadOpts, line: &[u8]) -> Result<Ro
     if line.is_empty() {
         return Ok(Row::Nothing);
     }
-    let mut record = Record::new(alloc)?;
+    let mut record = Fields::new(alloc)?;
     put_pieces(alloc, opts, line, &mut record)?;
-    Ok(Row::Fields(record))
+    Ok(Row::Fields(record.into_record()))
 }
 
 /// Adds the fields of a line to an empty record.
@@ -35,7 +34,7 @@ fn put_pieces(
     alloc: Global,
     opts: &ReadOpts,
     line: &[u8],
-    record: &mut Record,
+    record: &mut Fields,
 ) -> Result<(), NoMemory>
     requires ifs { 0 < length opts.now.ifs }
     requires ips { 0 < length opts.now.ips }
@@ -65,7 +64,7 @@ fn put_piece(
     opts: &ReadOpts,
     position: u64,
     piece: &[u8],
-    record: &mut Record,
+    record: &mut Fields,
 ) -> Result<(), NoMemory>
     requires ips { 0 < length opts.now.ips }
     requires room { length record.old < 2 ^ 63 }
@@ -77,17 +76,11 @@ fn put_piece(
     match separator_place(opts.ips.as_slice(), piece) {
         Some(place) => {
             let value = &piece[place + opts.ips.len()..];
-            put_text(alloc, opts, &piece[..place], value, record)
+            record.put_text(alloc, opts, &piece[..place], value)
         }
         None => {
             let mut buffer = Buffer::new();
-            put_text(
-                alloc,
-                opts,
-                buffer.format(position).as_bytes(),
-                piece,
-                record,
-            )
+            record.put_text(alloc, opts, buffer.format(position).as_bytes(), piece)
         }
     }
 }

@@ -10,8 +10,9 @@ ghost use Rattle.read_dkvp_nidx.specs.Row.{block_of, place_of, row_items};
 use crate::block::Block;
 use crate::cells::{are_rules, cells_of};
 use crate::row::Row;
-use mlr_event::rows::{push_text, put_text};
-use mlr_event::{Fault, FileRef, Header, ReadOpts};
+use mlr_event::rows::push_text;
+use mlr_event::{Fault, FileRef, ReadOpts};
+use mlr_fields::{Fields, Header};
 use mlr_record::Record;
 use mlr_spec::NoMemory;
 use mlr_value::Bytes;
@@ -109,28 +110,28 @@ fn cells_row(
     if cells.len() != header.len() {
         return Ok(Row::Fault(length_fault(place, header, cells)));
     }
-    let mut record = Record::new(alloc)?;
-    fill(alloc, opts, header, cells, &mut record)?;
-    Ok(Row::Fields(record))
+    Ok(Row::Fields(cells_record(alloc, opts, header, cells)?))
 }
 
-/// Adds the cells to an empty record. There is one for each name of the header.
-fn fill(
+/// The record of the cells. There is one for each name of the header.
+fn cells_record(
     alloc: Global,
     opts: &ReadOpts,
     header: &Header,
     cells: &[Bytes],
-    record: &mut Record,
-) -> Result<(), NoMemory>
-    requires same { length cells.now ≡ length header.now }
-    requires empty { record.old ≡ [] }
-    ensures { OnOk result (record.new ≡ record_of opts.now.dedupe header.now
+) -> Result<Record, NoMemory>
+    requires { length cells.now ≡ length header.now }
+    ensures { IfOk result (λ made. made ≡ record_of opts.now.dedupe header.now
         (map (tree_of_data opts.now.infer) cells.now)) }
 {
     if opts.dedupe {
-        push_cells(alloc, opts, header.keys(), cells, record)
+        let mut record = Record::new(alloc)?;
+        push_cells(alloc, opts, header.keys(), cells, &mut record)?;
+        Ok(record)
     } else {
-        put_cells(alloc, opts, header.names(), cells, record)
+        let mut record = Fields::new(alloc)?;
+        put_cells(alloc, opts, header.names(), cells, &mut record)?;
+        Ok(record.into_record())
     }
 }
 
@@ -160,7 +161,7 @@ fn put_cells(
     opts: &ReadOpts,
     names: &[Bytes],
     cells: &[Bytes],
-    record: &mut Record,
+    record: &mut Fields,
 ) -> Result<(), NoMemory>
     requires length { length cells.now < 2 ^ 63 }
     requires same { length cells.now ≡ length names.now }
@@ -169,7 +170,7 @@ fn put_cells(
         (map (tree_of_data opts.now.infer) cells.now)) }
 {
     for (i, cell) in cells.iter().enumerate() {
-        put_text(alloc, opts, names[i].as_slice(), cell.as_slice(), record)?;
+        record.put_text(alloc, opts, names[i].as_slice(), cell.as_slice())?;
     }
     Ok(())
 }

@@ -1,6 +1,6 @@
 //! The state of reading a file, between lines.
-use mlr_event::{Ctx, Events, FileRef, Header, ReadOpts};
-use mlr_record::Record;
+use mlr_event::{Ctx, Events, FileRef, ReadOpts};
+use mlr_fields::{Fields, Header};
 use std::alloc::Global;
 
 /// How the lines of a PPRINT file are read, and the state after the lines so far.
@@ -27,7 +27,7 @@ pub(crate) struct XtabRules {
     /// The events of the comments since the last empty line.
     pub(crate) passed: Events,
     /// The current record, if a line of it has been read.
-    pub(crate) begun: Option<Record>,
+    pub(crate) begun: Option<Fields>,
     /// The context of the last record.
     pub(crate) at: Ctx,
 }

@@ -10,8 +10,9 @@ ghost use Rattle.read_xtab_pprint.specs.PprintRules.{plain_header, plain_items, 
 
 use crate::cells::{copy_cells, count_cells, is_barred, next_cell};
 use crate::row::Row;
-use mlr_event::rows::{push_text, put_text};
-use mlr_event::{Fault, FileRef, Header, ReadOpts};
+use mlr_event::rows::push_text;
+use mlr_event::{Fault, FileRef, ReadOpts};
+use mlr_fields::{Fields, Header};
 use mlr_record::Record;
 use mlr_spec::NoMemory;
 use mlr_value::Bytes;
@@ -107,28 +108,28 @@ fn row_under(
             have: count as u64,
         }));
     }
-    let mut record = Record::new(alloc)?;
-    fill(alloc, opts, header, line, &mut record)?;
-    Ok(Row::Fields(record))
+    Ok(Row::Fields(cells_record(alloc, opts, header, line)?))
 }
 
-/// Adds the cells of a line to an empty record. There is one for each name of the header.
-fn fill(
+/// The record of the cells of a line. There is one for each name of the header.
+fn cells_record(
     alloc: Global,
     opts: &ReadOpts,
     header: &Header,
     line: &[u8],
-    record: &mut Record,
-) -> Result<(), NoMemory>
-    requires same { length (cells_in line.now) ≡ length header.now }
-    requires empty { record.old ≡ [] }
-    ensures { OnOk result (record.new ≡ record_of opts.now.dedupe header.now
+) -> Result<Record, NoMemory>
+    requires { length (cells_in line.now) ≡ length header.now }
+    ensures { IfOk result (λ made. made ≡ record_of opts.now.dedupe header.now
         (map (tree_of_data opts.now.infer) (cells_in line.now))) }
 {
     if opts.dedupe {
-        push_cells(alloc, opts, header.keys(), line, record)
+        let mut record = Record::new(alloc)?;
+        push_cells(alloc, opts, header.keys(), line, &mut record)?;
+        Ok(record)
     } else {
-        put_cells(alloc, opts, header.names(), line, record)
+        let mut record = Fields::new(alloc)?;
+        put_cells(alloc, opts, header.names(), line, &mut record)?;
+        Ok(record.into_record())
     }
 }
 
@@ -163,7 +164,7 @@ fn put_cells(
     opts: &ReadOpts,
     header: &[Bytes],
     line: &[u8],
-    record: &mut Record,
+    record: &mut Fields,
 ) -> Result<(), NoMemory>
     requires length { length header.now < 2 ^ 63 }
     requires same { length (cells_in line.now) ≡ length header.now }
@@ -175,7 +176,7 @@ fn put_cells(
     let mut place = 0;
     let mut left = line;
     while let Some((cell, rest)) = next_cell(barred, left) {
-        put_text(alloc, opts, header[place].as_slice(), cell, record)?;
+        record.put_text(alloc, opts, header[place].as_slice(), cell)?;
         place += 1;
         left = rest;
     }

@@ -6,9 +6,9 @@ ghost use Rattle.read_xtab_pprint.specs.XtabRules.{after_gap, begun_pairs, gap_e
 
 use crate::rules::XtabRules;
 use crate::words::{cut_word, without_spaces};
-use mlr_event::rows::{is_comment, next_ctx, push_comment, put_text};
+use mlr_event::rows::{is_comment, next_ctx, push_comment};
 use mlr_event::{Event, Events, ReadOpts};
-use mlr_record::Record;
+use mlr_fields::Fields;
 use mlr_spec::NoMemory;
 use std::alloc::Global;
 use std::mem;
@@ -53,7 +53,7 @@ impl XtabRules {
         push_all(mem::replace(&mut self.passed, Events::new(self.alloc)), out)?;
         if let Some(record) = mem::replace(&mut self.begun, None) {
             self.at = next_ctx(self.at);
-            out.push(Event::Rec(record, self.at))?;
+            out.push(Event::Rec(record.into_record(), self.at))?;
         }
         Ok(())
     }
@@ -73,17 +73,20 @@ fn put_line(
     alloc: Global,
     opts: &ReadOpts,
     text: &[u8],
-    record: &mut Option<Record>,
+    record: &mut Option<Fields>,
 ) -> Result<(), NoMemory>
     requires { length (begun_pairs record.old) < 2 ^ 63 }
     ensures { OnOk result (record.new ≡ with_text opts.now text.now record.old) }
 {
-    let mut begun = match mem::replace(record, None) {
-        Some(begun) => begun,
-        None => Record::new(alloc)?,
-    };
     let (key, rest) = cut_word(text);
-    put_text(alloc, opts, key, without_spaces(rest), &mut begun)?;
-    *record = Some(begun);
-    Ok(())
+    let value = without_spaces(rest);
+    match record {
+        Some(begun) => begun.put_text(alloc, opts, key, value),
+        None => {
+            let mut begun = Fields::new(alloc)?;
+            begun.put_text(alloc, opts, key, value)?;
+            *record = Some(begun);
+            Ok(())
+        }
+    }
 }

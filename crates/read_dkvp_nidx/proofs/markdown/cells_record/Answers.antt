@@ -1,7 +1,7 @@
 use Rattle.std.proofs.Common.{◌^◌, ◌<◌, [], length, ap, sym, ◌∙◌, arith}
 use Rattle.mlr_spec.specs.Pairs.{are_distinct}
 use Rattle.mlr_event.proofs.Distinct.{are_distinct-names, length-distinct}
-use Rattle.read_dkvp_nidx.proofs.markdown.fill.Goals as goal
+use Rattle.read_dkvp_nidx.proofs.markdown.cells_record.Goals as goal
 
 pub push_cells-requires-clause-distinct : goal.push_cells-requires-clause-distinct
 push_cells-requires-clause-distinct c =
@@ -9,4 +9,4 @@ push_cells-requires-clause-distinct c =
     ap are_distinct c.keys.ensures ∙ are_distinct-names c.args.header.now few
 
 pub push_cells-requires-clause-same : goal.push_cells-requires-clause-same
-push_cells-requires-clause-same c = c.requires.same ∙ sym (ap length c.keys.ensures ∙ length-distinct [] c.args.header.now)
+push_cells-requires-clause-same c = c.requires ∙ sym (ap length c.keys.ensures ∙ length-distinct [] c.args.header.now)

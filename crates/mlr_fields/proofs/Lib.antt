@@ -1,0 +1,3 @@
+pub mod Suffixing
+pub mod Building
+mod Texts

@@ -1,0 +1,192 @@
+//! Records built field by field.
+ghost use Rattle.std.specs.Prelude.{◌≡◌, ◌^◌, ◌<◌, ◌++◌, ◌∷◌, [], None, true, length, IfOk, OnOk};
+ghost use Rattle.mlr_spec.specs.Infer.{tree_of_data};
+ghost use Rattle.mlr_spec.specs.Pairs.{are_distinct, keys_of, value_at};
+ghost use Rattle.mlr_value.specs.Value.{tree_of};
+ghost use Rattle.mlr_event.specs.Rows.{with_field};
+
+use crate::distinct::FEW;
+use crate::name_index::NameIndex;
+use crate::suffixes::{FIRST, first_free};
+use mlr_event::ReadOpts;
+use mlr_event::rows::TakenNames;
+use mlr_record::Record;
+use mlr_spec::NoMemory;
+use mlr_value::{Value, from_data};
+use std::alloc::Global;
+use std::marker::Model;
+use std::mem;
+
+/// A record that is built field by field. Its names have an index once they are many, so that it takes time
+/// proportional to the count of fields.
+pub struct Fields {
+    record: Record,
+    /// The names of the first fields, where there are many.
+    index: Option<NameIndex>,
+}
+
+// Written by hand, so that the crates above call it instead of dropping the fields themselves.
+impl Drop for Fields {
+    #[inline]
+    fn drop(self) {
+        let Fields { record, index } = self;
+        drop(record);
+        drop(index);
+    }
+}
+
+impl Model for Fields {
+    ghost use Rattle.std.specs.Prelude.{List, ℕ, IfSome};
+    ghost use Rattle.mlr_spec.specs.Tree.{Tree};
+    ghost use Rattle.mlr_spec.specs.TreeCode.{coded_pairs};
+    ghost use Rattle.mlr_spec.specs.Pairs.{keys_of};
+    ghost use Rattle.mlr_fields.specs.Prefixes.{IsPrefix};
+
+    ghost Value = { List (List ℕ × Tree) };
+
+    ghost coded = { coded_pairs };
+
+    ghost view = { λ fields. fields.record };
+
+    ghost invariant = { λ fields. IfSome fields.index (λ index. IsPrefix index (keys_of fields.record)) };
+}
+
+impl Fields {
+    /// A record without fields.
+    #[inline]
+    pub fn new(alloc: Global) -> Result<Self, NoMemory>
+        ensures { IfOk result (λ made. made ≡ []) }
+    {
+        Ok(Fields {
+            record: Record::new(alloc)?,
+            index: None,
+        })
+    }
+
+    /// The record. It takes no memory.
+    #[inline]
+    pub fn into_record(self) -> Record
+        ensures { result ≡ self }
+    {
+        let Fields { record, index } = self;
+        drop(index);
+        record
+    }
+
+    /// Appends a field whose name isn't there. It makes no search.
+    #[inline]
+    pub fn push(&mut self, name: &[u8], value: Value) -> Result<(), NoMemory>
+        requires { value_at name.now self.old ≡ None }
+        ensures { OnOk result (self.new ≡ self.old ++ (name.now, tree_of value) ∷ []) }
+    {
+        self.record.push(name, value)
+    }
+
+    /// Sets a field. A name that is there gets a suffix, or its value is replaced.
+    #[inline]
+    pub fn put(
+        &mut self,
+        alloc: Global,
+        name: &[u8],
+        value: Value,
+        dedupe: bool,
+    ) -> Result<(), NoMemory>
+        requires { length self.old < 2 ^ 63 }
+        ensures { OnOk result (self.new ≡ with_field dedupe name.now (tree_of value) self.old) }
+    {
+        if self.index.is_none() && self.record.len() < FEW {
+            put_few(alloc, &mut self.record, name, value, dedupe)
+        } else {
+            self.put_many(alloc, name, value, dedupe)
+        }
+    }
+
+    /// Sets a field of this text, by the options. A name that is there gets a suffix, or its value is replaced.
+    #[inline]
+    pub fn put_text(
+        &mut self,
+        alloc: Global,
+        opts: &ReadOpts,
+        name: &[u8],
+        text: &[u8],
+    ) -> Result<(), NoMemory>
+        requires { length self.old < 2 ^ 63 }
+        ensures { OnOk result (self.new ≡ with_field opts.now.dedupe name.now
+            (tree_of_data opts.now.infer text.now) self.old) }
+    {
+        let value = from_data(alloc, text, opts.infer)?;
+        self.put(alloc, name, value, opts.dedupe)
+    }
+
+    /// Sets a field of a record of many fields.
+    #[inline(never)]
+    fn put_many(
+        &mut self,
+        alloc: Global,
+        name: &[u8],
+        value: Value,
+        dedupe: bool,
+    ) -> Result<(), NoMemory>
+        requires { length self.old < 2 ^ 63 }
+        ensures { OnOk result (self.new ≡ with_field dedupe name.now (tree_of value) self.old) }
+    {
+        let mut index = match mem::replace(&mut self.index, None) {
+            Some(index) => index,
+            None => NameIndex::new(alloc),
+        };
+        index.add_names(&self.record)?;
+        put_indexed(&mut self.record, &mut index, name, value, dedupe)?;
+        self.index = Some(index);
+        Ok(())
+    }
+}
+
+/// Sets a field in a record of few fields.
+#[inline]
+fn put_few(
+    alloc: Global,
+    record: &mut Record,
+    name: &[u8],
+    value: Value,
+    dedupe: bool,
+) -> Result<(), NoMemory>
+    requires { length record.old < 2 ^ 63 }
+    ensures { OnOk result (record.new ≡ with_field dedupe name.now (tree_of value) record.old) }
+{
+    if !dedupe {
+        record.put(name, value)
+    } else if record.has(name) {
+        let (_, free) = first_free(alloc, record, name, FIRST)?;
+        record.push(free.as_slice(), value)
+    } else {
+        record.push(name, value)
+    }
+}
+
+/// Sets a field in a record whose names are in an index. It adds no name to the index.
+fn put_indexed(
+    record: &mut Record,
+    index: &mut NameIndex,
+    name: &[u8],
+    value: Value,
+    dedupe: bool,
+) -> Result<(), NoMemory>
+    requires few { length record.old < 2 ^ 63 }
+    requires distinct { are_distinct index.old ≡ true }
+    requires index { index.old ≡ keys_of record.old }
+    ensures record { OnOk result (record.new
+        ≡ with_field dedupe name.now (tree_of value) record.old) }
+    ensures index { index.new ≡ index.old }
+{
+    if dedupe {
+        let free = index.free_name(name)?;
+        return record.push(free.as_slice(), value);
+    }
+    match index.place(name) {
+        None => record.push(name, value),
+        Some(place) => {
+            record.replace(place, value);
+            Ok(())
+        }
+    }
+}
