@@ -1,5 +1,5 @@
 //! Keys by their hash.
-ghost use Rattle.std.specs.Prelude.{◌≡◌, ◌++◌, ◌∷◌, [], false, if◌then◌else◌, is_ok};
+ghost use Rattle.std.specs.Prelude.{◌≡◌, ◌++◌, ◌∷◌, [], false, if◌then◌else◌, is_ok, remove};
 ghost use Rattle.std.specs.List.{list_any};
 ghost use Rattle.std.specs.Str.{bytes_eq};
 ghost use Rattle.mlr_value.specs.Texts.{IsPlaceAmong};
@@ -51,5 +51,12 @@ impl KeyIndex {
         let key = Vec::from_slice(self.alloc, key)?;
         self.keys.insert(key)?;
         Ok(())
+    }
+
+    /// Takes the key at this place out.
+    pub(crate) fn remove(&mut self, place: usize)
+        ensures { self.new ≡ remove self.old place }
+    {
+        self.keys.shift_remove_index(place);
     }
 }

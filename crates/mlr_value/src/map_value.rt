@@ -1,5 +1,5 @@
 //! Maps of values, with their keys in order.
-ghost use Rattle.std.specs.Prelude.{◌≡◌, ◌<◌, ◌++◌, ◌∷◌, [], true, length, if◌then◌else◌, is_ok, is_some, IfOk, OnOk, OnErr, None, Some, slice_get};
+ghost use Rattle.std.specs.Prelude.{◌≡◌, ◌<◌, ◌++◌, ◌∷◌, [], true, length, if◌then◌else◌, is_ok, is_some, IfOk, OnOk, OnErr, None, Some, slice_get, ℕ, List, remove};
 ghost use Rattle.std.specs.Option.{option_map};
 ghost use Rattle.mlr_spec.specs.Pairs.{value_at, put_at, remove_at, keys_of, are_distinct};
 ghost use Rattle.mlr_value.specs.Value.{tree_of};
@@ -255,7 +255,7 @@ fn index_of(pairs: &[Pair], alloc: Global) -> Result<KeyIndex, NoMemory>
     Ok(index)
 }
 
-/// Takes the pair of this key out, and says whether it was there. The keys are indexed again with the next new key.
+/// Takes the pair of this key out, and says whether it was there.
 fn remove_pair(columns: &mut Columns, key: &[u8]) -> bool
     requires { IsIndex columns.old }
     ensures index { IsIndex columns.new }
@@ -267,6 +267,15 @@ fn remove_pair(columns: &mut Columns, key: &[u8]) -> bool
         return false;
     };
     columns.pairs.remove(place);
-    columns.index = None;
+    unindex(&mut columns.index, place);
     true
+}
+
+/// Takes the key at this place out of the index, if there is one.
+fn unindex(index: &mut Option<Box<KeyIndex>>, place: usize)
+    ensures { (keys : List (List ℕ)) → IsIndexOf index.old keys → IsIndexOf index.new (remove keys place) }
+{
+    if let Some(index) = index {
+        index.remove(place);
+    }
 }

@@ -1,5 +1,7 @@
-use Rattle.std.proofs.Common.{ap, sym, ◌∙◌, arith, is_some}
-use Rattle.mlr_value.specs.Collections.{pairs_of, has_key}
+use Rattle.std.proofs.Common.{ap, sym, subst, ◌∙◌, arith, is_some, remove}
+use Rattle.indexmap.proofs.SetLemmas.{map-remove}
+use Rattle.mlr_spec.specs.Pairs.{keys_of}
+use Rattle.mlr_value.specs.Collections.{IsIndexOf, pair_of, pairs_of, has_key}
 use Rattle.mlr_value.proofs.Places.{value_at-absent, value_at-first, remove_at-absent, remove_at-first, first-below}
 use Rattle.mlr_value.proofs.map_value.remove_pair.Goals as goal
 
@@ -19,3 +21,11 @@ returns-clause-found c = ap is_some (sym (value_at-first c.args.key.now c.args.c
 
 pub returns-clause-pairs : goal.returns-clause-pairs
 returns-clause-pairs c = ap pairs_of c.remove.ensures.items ∙ sym (remove_at-first c.args.key.now c.args.columns.now.pairs.items c.in-Some.place c.in-Some.ensures)
+
+pub returns-clause-index : goal.returns-clause-index
+returns-clause-index c =
+    let pairs = c.args.columns.now.pairs.items in
+    let keys_removed = map-remove (λ pair. pair.0) (pairs_of pairs) c.in-Some.place in
+    let pairs_removed = map-remove pair_of pairs c.in-Some.place in
+    subst (IsIndexOf c.unindex.new.index) (sym (ap (λ t. keys_of (pairs_of t)) c.remove.ensures.items ∙ ap keys_of pairs_removed ∙ keys_removed))
+    (c.unindex.ensures (keys_of (pairs_of pairs)) c.requires)
