@@ -1,5 +1,5 @@
 //! Byte texts, of which the short ones are stored without an allocation.
-ghost use Rattle.std.specs.Prelude.{◌≡◌, ◌≤◌, ◌↔◌, [], ◌∷◌, ◌++◌, length, if◌then◌else◌, is_ok, OnOk, IfOk, IsOk, IsTrue};
+ghost use Rattle.std.specs.Prelude.{◌≡◌, ◌≤◌, ◌↔◌, [], ◌∷◌, ◌++◌, length, if◌then◌else◌, is_ok, OnOk, IfOk, IsOk, IsTrue, ◌+◌, vec_len, vec_capacity};
 
 use crate::short::{CAPACITY, Short, put};
 use mlr_spec::NoMemory;
@@ -99,7 +99,8 @@ impl Bytes {
     /// Appends the text. The capacity at least doubles where it grows.
     #[inline(always)]
     pub fn append(&mut self, text: &[u8]) -> Result<(), NoMemory>
-        ensures { self.new ≡ (if is_ok result then self.old ++ text.now else self.old) }
+        ensures appended { self.new ≡ (if is_ok result then self.old ++ text.now else self.old) }
+        ensures nothing { text.now ≡ [] → IsOk result }
     {
         match &mut self.room {
             Room::Heap(heap)
@@ -113,7 +114,8 @@ impl Bytes {
     /// Appends a text of any length to a text stored in either way.
     #[inline(never)]
     fn append_any(&mut self, text: &[u8]) -> Result<(), NoMemory>
-        ensures { self.new ≡ (if is_ok result then self.old ++ text.now else self.old) }
+        ensures appended { self.new ≡ (if is_ok result then self.old ++ text.now else self.old) }
+        ensures nothing { text.now ≡ [] → IsOk result }
     {
         match &mut self.room {
             Room::Inline(short) if text.len() <= CAPACITY - short.len() => {
@@ -190,8 +192,9 @@ impl Bytes {
 #[inline(always)]
 fn append_short(heap: &mut Vec<u8>, text: &[u8]) -> Result<(), NoMemory>
     requires { length text.now ≤ CAPACITY }
-    ensures { heap.new.items ≡ (if is_ok result then heap.old.items ++ text.now
+    ensures appended { heap.new.items ≡ (if is_ok result then heap.old.items ++ text.now
         else heap.old.items) }
+    ensures room { CAPACITY + vec_len heap.old ≤ vec_capacity heap.old → IsOk result }
 {
     let len = heap.len();
     let mut cells = [0; CAPACITY];

@@ -8,7 +8,7 @@ append_escape-requires c =
     first_is_escaped text c.split_at.result.0.now c.split_at.result.1.now c.args.into.now c.append.new.self
     (c.split_at.ensures.front ∙ ap (λ n. take n text) c.plain_prefix-plain.ensures.place)
     (c.split_at.ensures.back ∙ ap (λ n. drop n text) c.plain_prefix-plain.ensures.place)
-    c.in_ok-append.ensures c.in-len1-up.len_at_least
+    c.in_ok-append.ensures.appended c.in-len1-up.len_at_least
 
 pub returns-in-empty-clause-ok : goal.returns-in-empty-clause-ok
 returns-in-empty-clause-ok c =
@@ -16,7 +16,7 @@ returns-in-empty-clause-ok c =
     run_is text c.split_at.result.0.now c.split_at.result.1.now c.args.into.now c.append.new.self
     (c.split_at.ensures.front ∙ ap (λ n. take n text) c.plain_prefix-plain.ensures.place)
     (c.split_at.ensures.back ∙ ap (λ n. drop n text) c.plain_prefix-plain.ensures.place)
-    c.in_ok-append.ensures
+    c.in_ok-append.ensures.appended
 
 pub returns-in_ok-append_escape-in-len1-up-clause-ok : goal.returns-in_ok-append_escape-in-len1-up-clause-ok
 returns-in_ok-append_escape-in-len1-up-clause-ok c =
@@ -24,5 +24,5 @@ returns-in_ok-append_escape-in-len1-up-clause-ok c =
     run_with_escape text c.split_at.result.0.now c.split_at.result.1.now c.args.into.now c.append.new.self
     (c.split_at.ensures.front ∙ ap (λ n. take n text) c.plain_prefix-plain.ensures.place)
     (c.split_at.ensures.back ∙ ap (λ n. drop n text) c.plain_prefix-plain.ensures.place)
-    c.in_ok-append.ensures
+    c.in_ok-append.ensures.appended
     c.append_escape.new.into c.in-len1-up.len_at_least c.in_ok-append_escape-in-len1-up.ensures.ok

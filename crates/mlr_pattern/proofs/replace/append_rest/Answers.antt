@@ -33,6 +33,6 @@ returns-clause-text c =
     (subst (λ r. Answers r (next_match false (matcher_pattern l.matcher) text l.after) (Appends re text by l.out new l.after)) c.in_default.is
     c.in_ok-end.ensures.found) in
     let kept = subst (λ r. IfNone r (new ≡ l.out)) c.in_default.is c.in_ok-end.ensures.none in
-    on_ok c.append.result _ _ _ _ c.append.ensures
+    on_ok c.append.result _ _ _ _ c.append.ensures.appended
     (ap₂ ◌++◌ kept (take_rest text c.saturating_sub.result ∙ ap (λ n. drop n text) c.saturating_sub.ensures)
     ∙ last_step re text by l.after l.out _ none l.invariant.text)
