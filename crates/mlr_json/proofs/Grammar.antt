@@ -1,19 +1,18 @@
 -- The machine reads the grammar: what its frames and its phase represent, and where each token leads.
-use Rattle.std.proofs.Common.{◌≡◌, ℕ, ◌+◌, ◌≤◌, Bool, true, false, cond, List, [], ◌∷◌, ◌++◌, map, length, refl, ap, ap₂, sym, subst, ◌∙◌, append_assoc}
+use Rattle.std.proofs.Common.{◌≡◌, ℕ, true, false, List, [], ◌∷◌, ◌++◌, map, refl, ap, sym, subst, ◌∙◌, append_assoc}
 use Rattle.std.proofs.lemmas.List.{append-nil, map-append}
 use Rattle.std.specs.List.{flat_map}
 use Rattle.std.proofs.lemmas.Grind.{flat_map-append}
-use Rattle.mlr_spec.specs.declared.json.JsonMark.{JsonMark}
 use Rattle.mlr_spec.specs.declared.json.JsonMark.TheVariants.{BeginMap, EndMap, BeginArray, EndArray, Colon, Comma}
 use Rattle.mlr_spec.specs.Tree.{Tree, map_of, array_of}
 use Rattle.mlr_spec.specs.Pairs.{put_at, put_each}
 use Rattle.mlr_spec.specs.JsonTokens.{Token, sign, text_token, word_token}
-use Rattle.mlr_spec.specs.JsonGrammar.{Syntax, text, word, object, elements, Members, no_members, member_and, Elements, no_elements, element_and, tokens_in, member_tokens, later_members, element_tokens, later_elements, text_value, value_of, pairs_of, values_of, Begins}
+use Rattle.mlr_spec.specs.JsonGrammar.{Syntax, text, word, object, elements, Members, no_members, member_and, Elements, no_elements, element_and, tokens_in, member_tokens, element_tokens, value_of, pairs_of, values_of}
 use Rattle.mlr_json.specs.declared.frame.Frame.{Frame}
 use Rattle.mlr_json.specs.declared.frame.Frame.TheVariants.{Array, Map}
 use Rattle.mlr_json.specs.declared.frame.Phase.{Phase}
 use Rattle.mlr_json.specs.declared.frame.Phase.TheVariants as phase
-use Rattle.mlr_json.specs.Machine.{Step, on, whole, wrong, takes_value, takes_key, with_value, with_key, map_ended, array_ended, after_comma, comma_read, colon_read, step_mark, step}
+use Rattle.mlr_json.specs.Machine.{Step, on, whole, wrong, takes_value, takes_key, with_value, with_key, map_ended, array_ended, comma_read, colon_read, step_mark, step}
 
 -- items and members that were read, as lists
 abbrev pub elements_of : List Syntax → Elements

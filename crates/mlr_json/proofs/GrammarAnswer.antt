@@ -1,5 +1,5 @@
 -- Each text has one outcome, and the machine finds it.
-use Rattle.std.proofs.Common.{◌≡◌, ℕ, ◌+◌, List, length, refl, sym}
+use Rattle.std.proofs.Common.{◌≡◌, ℕ, ◌+◌, List, length, sym}
 use Rattle.mlr_spec.specs.declared.infer.InferOpts.{InferOpts}
 use Rattle.mlr_spec.specs.JsonTokens.{tokens_of}
 use Rattle.mlr_json.specs.Machine.{Outcome, read, syntax, deep, outcome_of}

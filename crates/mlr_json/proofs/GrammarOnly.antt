@@ -1,19 +1,18 @@
 -- What the grammar says of a text, the machine finds: so it says one thing.
-use Rattle.std.proofs.Common.{◌≡◌, ℕ, zero, suc, ◌+◌, ◌-◌, ◌<◌, ◌≤◌, Bool, true, false, cond, List, [], ◌∷◌, ◌++◌, map, length, take, Option, Some, None, ◌⊎◌, inl, inr, refl, ap, ap₂, sym, subst, ◌∙◌, append_assoc, arith, ltb, zero-add}
+use Rattle.std.proofs.Common.{◌≡◌, ℕ, ◌+◌, ◌<◌, ◌≤◌, cond, List, [], ◌∷◌, ◌++◌, length, take, Option, Some, None, ◌⊎◌, inl, inr, refl, ap, sym, subst, ◌∙◌, append_assoc, arith}
 use Rattle.std.proofs.Math.Seq.{take-append-add}
 use Rattle.std.proofs.lemmas.List.{append-nil, map-append}
 use Rattle.std.proofs.lemmas.Bool.{le-ltb, lt-ltb}
 use Rattle.std.specs.List.{count_by}
-use Rattle.mlr_spec.specs.Tree.{Tree}
 use Rattle.mlr_spec.specs.JsonTokens.{Token}
-use Rattle.mlr_spec.specs.JsonGrammar.{Syntax, tokens_in, value_of, Begins, is_opening, is_closing, level_of, IsShallow, bare, IsWrongAt, IsCutAt, IsDeepAt}
+use Rattle.mlr_spec.specs.JsonGrammar.{Syntax, tokens_in, value_of, Begins, is_opening, is_closing, level_of, IsShallow, bare}
 use Rattle.mlr_json.specs.declared.frame.Frame.{Frame}
 use Rattle.mlr_json.specs.declared.frame.Phase.{Phase}
 use Rattle.mlr_json.specs.declared.frame.Phase.TheVariants as phase
 use Rattle.mlr_json.specs.Machine.{Step, on, whole, wrong, step, Outcome, read, syntax, deep, outcome_after, outcome_cut, outcome_from}
 use Rattle.mlr_json.proofs.Grammar.{Represents, Leads, leads}
-use Rattle.mlr_json.proofs.GrammarRuns.{begins-prefix, represents-begins, whole_then, run, run_on, run-cons, run-whole}
-use Rattle.mlr_json.proofs.GrammarOutcome.{one_if, Balanced, balanced, count-push, run-append, run-push, run_on-nil, begins-run, bare-push, Reads, reads-nothing, reads-push, level-push, outcome_on, outcome-step, Holds}
+use Rattle.mlr_json.proofs.GrammarRuns.{begins-prefix, represents-begins, run, run_on, run-cons, run-whole}
+use Rattle.mlr_json.proofs.GrammarOutcome.{one_if, Balanced, balanced, count-push, run-append, run-push, run_on-nil, begins-run, Reads, reads-nothing, reads-push, level-push, outcome_on, outcome-step, Holds}
 
 -- a run leads where the grammar leads
 leads-run : (frames : List Frame) (at : Phase) (before tokens : List Token) → Represents frames at before → Leads (run frames at tokens) (before ++ tokens)

@@ -1,13 +1,13 @@
 -- The outcome of the machine is what the grammar says of the text, and the grammar says nothing else.
-use Rattle.std.proofs.Common.{◌≡◌, ℕ, zero, suc, ◌+◌, ◌-◌, ◌<◌, ◌≤◌, Bool, true, false, cond, List, [], ◌∷◌, ◌++◌, map, length, take, Option, Some, None, ◌⊎◌, inl, inr, refl, ap, ap₂, sym, subst, ◌∙◌, append_assoc, arith, ltb, zero-add}
+use Rattle.std.proofs.Common.{◌≡◌, ℕ, zero, suc, ◌+◌, ◌<◌, ◌≤◌, Bool, true, false, cond, List, [], ◌∷◌, ◌++◌, length, take, Option, Some, None, ◌⊎◌, inl, inr, refl, ap, sym, subst, ◌∙◌, append_assoc, arith, ltb, zero-add}
 use Rattle.std.proofs.Math.Seq.{take-length}
 use Rattle.std.proofs.lemmas.List.{append-nil, map-append, take-append-le, length-append}
 use Rattle.std.proofs.lemmas.List.Sums.{sum_by-append}
-use Rattle.std.proofs.lemmas.Bool.{ltb-true, ltb-false, lt-ltb, cases_Bool, cond-true, cond-false}
-use Rattle.std.specs.List.{count_by, sum_by}
+use Rattle.std.proofs.lemmas.Bool.{ltb-true, ltb-false, cases_Bool}
+use Rattle.std.specs.List.{count_by}
 use Rattle.mlr_spec.specs.declared.json.JsonMark.TheVariants.{BeginMap, EndMap, BeginArray, EndArray, Colon, Comma}
 use Rattle.mlr_spec.specs.Tree.{Tree}
-use Rattle.mlr_spec.specs.JsonTokens.{Token, sign, text_token, word_token, Tokens}
+use Rattle.mlr_spec.specs.JsonTokens.{Token, sign, text_token, word_token}
 use Rattle.mlr_spec.specs.JsonGrammar.{Syntax, tokens_in, value_of, Begins, is_opening, is_closing, level_of, IsShallow, bare, IsWrongAt, IsCutAt, IsDeepAt, text_value}
 use Rattle.mlr_json.specs.declared.frame.Frame.{Frame}
 use Rattle.mlr_json.specs.declared.frame.Frame.TheVariants.{Array, Map}
@@ -15,7 +15,7 @@ use Rattle.mlr_json.specs.declared.frame.Phase.{Phase}
 use Rattle.mlr_json.specs.declared.frame.Phase.TheVariants as phase
 use Rattle.mlr_json.specs.Machine.{Step, on, whole, wrong, with_value, with_key, step, step_mark, map_ended, array_ended, comma_read, colon_read, Outcome, read, syntax, deep, outcome_after, outcome_cut, outcome_from}
 use Rattle.mlr_json.proofs.Grammar.{Represents, Leads, leads}
-use Rattle.mlr_json.proofs.GrammarRuns.{begins-prefix, represents-begins, whole_then, run, run_on, run-cons, run-whole}
+use Rattle.mlr_json.proofs.GrammarRuns.{represents-begins, whole_then, run, run_on, run-cons, run-whole}
 
 -- ---- how many frames there are
 

@@ -1,8 +1,8 @@
 -- Whole runs of the machine: the tokens that it represents begin a value, and the tokens of a value lead it
 -- to that value.
-use Rattle.std.proofs.Common.{◌≡◌, ℕ, ◌+◌, ◌≤◌, Bool, true, false, cond, List, [], ◌∷◌, ◌++◌, map, length, refl, ap, ap₂, sym, subst, ◌∙◌, append_assoc}
+use Rattle.std.proofs.Common.{◌≡◌, ℕ, Bool, true, false, cond, List, [], ◌∷◌, ◌++◌, refl, ap, sym, subst, ◌∙◌, append_assoc}
 use Rattle.std.proofs.lemmas.List.{append-nil}
-use Rattle.mlr_spec.specs.declared.json.JsonMark.TheVariants.{BeginMap, EndMap, BeginArray, EndArray, Colon, Comma}
+use Rattle.mlr_spec.specs.declared.json.JsonMark.TheVariants.{BeginMap, EndMap, BeginArray, EndArray, Colon}
 use Rattle.mlr_spec.specs.Tree.{Tree, map_of, array_of}
 use Rattle.mlr_spec.specs.Pairs.{put_at, put_each}
 use Rattle.mlr_spec.specs.JsonTokens.{Token, sign, text_token, word_token}
@@ -11,8 +11,8 @@ use Rattle.mlr_json.specs.declared.frame.Frame.{Frame}
 use Rattle.mlr_json.specs.declared.frame.Frame.TheVariants.{Array, Map}
 use Rattle.mlr_json.specs.declared.frame.Phase.{Phase}
 use Rattle.mlr_json.specs.declared.frame.Phase.TheVariants as phase
-use Rattle.mlr_json.specs.Machine.{Step, on, whole, wrong, takes_value, takes_key, with_value, step}
-use Rattle.mlr_json.proofs.Grammar.{elements_of, members_of, member_text, each_item, each_member, Awaits, Represents, Leads, leads, items-tokens, members-tokens, awaits-first}
+use Rattle.mlr_json.specs.Machine.{Step, on, whole, wrong, takes_value, with_value, step}
+use Rattle.mlr_json.proofs.Grammar.{elements_of, members_of, member_text, each_item, each_member, Awaits, Represents, items-tokens, members-tokens}
 
 pub begins-prefix : (a b : List Token) → Begins (a ++ b) → Begins a
 begins-prefix a b h = record { syntax = h.syntax; more = b ++ h.more; whole = sym (append_assoc a b h.more) ∙ h.whole }

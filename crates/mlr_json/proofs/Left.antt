@@ -1,10 +1,9 @@
 -- The rest of a text, lexeme by lexeme and token by token.
 use Rattle.std.proofs.Common.{◌≡◌, ℕ, zero, suc, ◌+◌, ◌-◌, ◌==◌, ◌<◌, ◌≤◌, Bool, true, false, cond, nat_lt, nat_le, List, [], ◌∷◌, length, take, drop, Some, None, refl, ap, sym, subst, ◌∙◌, arith, add-one, length-drop}
 use Rattle.std.specs.List.{prefix_len, take_while}
-use Rattle.std.proofs.lemmas.Bool.{cond_both, leb-true}
-use Rattle.std.proofs.lemmas.List.Sums.{prefix_len-le-length}
+use Rattle.std.proofs.lemmas.Bool.{cond_both}
 use Rattle.mlr_spec.specs.Infer.{number}
-use Rattle.mlr_spec.specs.JsonTokens.{raw, unit, Lexeme, blank, mark, word, quote, piece, Scanned, found, begun, bad, is_blank, is_word_byte, is_raw, is_hex, mark_of, escape_of, lexeme_unmarked, lexeme_outside, lexeme_of_unit, lexeme_of_escape, lexeme_inside, first_lexeme, Lexemes, and_lexeme, is_inside, lexemes_from, tokens_outside, tokens_inside}
+use Rattle.mlr_spec.specs.JsonTokens.{raw, unit, Lexeme, quote, piece, Scanned, found, begun, bad, is_raw, is_hex, escape_of, lexeme_outside, lexeme_of_unit, lexeme_of_escape, lexeme_inside, first_lexeme, Lexemes, and_lexeme, is_inside, lexemes_from, tokens_outside, tokens_inside}
 use Rattle.mlr_json.specs.Readable.{plain}
 use Rattle.mlr_json.specs.Reading.{lexemes_left, tokens_left, inside_left, stopped, is_of_string}
 use Rattle.mlr_json.proofs.Within.{IsPrefixWithin, prefix-within}

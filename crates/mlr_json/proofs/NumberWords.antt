@@ -1,15 +1,15 @@
 -- A number's text is a word, and no other word than that number.
-use Rattle.std.proofs.Common.{◌≡◌, ℕ, zero, suc, ◌+◌, ◌<◌, ◌≤◌, Bool, true, false, cond, not, ◌||◌, ◌&&◌, ◌==◌, nat_lt, nat_le, List, [], ◌∷◌, ◌++◌, drop, Option, Some, None, ◌⊎◌, inl, inr, refl, ap, sym, subst, ◌∙◌, arith}
+use Rattle.std.proofs.Common.{◌≡◌, ℕ, ◌<◌, ◌≤◌, Bool, true, false, cond, not, ◌||◌, ◌&&◌, ◌==◌, nat_lt, nat_le, List, [], ◌∷◌, Some, None, ◌⊎◌, inl, inr, refl, ap, sym, subst, ◌∙◌, arith}
 use Rattle.std.specs.List.{list_all}
 use Rattle.std.specs.Str.{bytes_eq}
 use Rattle.std.specs.Prelude.{codes}
-use Rattle.std.proofs.lemmas.Bool.{or_parts, or_right, eqb-true, cases_Bool, and_parts, ltb-true, leb-true, le-leb, false_from_ne_true, true≢false}
+use Rattle.std.proofs.lemmas.Bool.{or_right, eqb-true, cases_Bool, and_parts, ltb-true, leb-true, le-leb, false_from_ne_true, true≢false}
 use Rattle.std.proofs.lemmas.Slice.Eq.{bytes_eq-Decides}
 use Rattle.mlr_spec.specs.declared.infer.Kind.{Kind}
 use Rattle.mlr_spec.specs.declared.infer.Kind.TheVariants.{Empty, Str, Int, Frac, Wide}
-use Rattle.mlr_spec.specs.Infer.{digit, are_digits, number, is_negative, unsigned, base_of, base_of_letter, is_based, is_e, is_fraction, whole, word as word_kind, kind_after_sign, kind_of}
+use Rattle.mlr_spec.specs.Infer.{digit, are_digits, is_negative, unsigned, base_of_letter, is_based, is_e, is_fraction, kind_after_sign, kind_of}
 use Rattle.mlr_spec.specs.Tree.{Tree}
-use Rattle.mlr_spec.specs.JsonTokens.{is_word_byte, number_of_kind, word_value, Token, word_token, token_of_word}
+use Rattle.mlr_spec.specs.JsonTokens.{is_word_byte, number_of_kind, word_value, word_token, token_of_word}
 use Rattle.mlr_infer.specs.Fraction.{fraction_from}
 use Rattle.mlr_infer.proofs.Fractions.{fraction_from-whole}
 use Rattle.mlr_json.specs.Readable.{plain}

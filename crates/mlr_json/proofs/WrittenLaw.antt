@@ -1,12 +1,11 @@
 -- What is written of a value is read as that value.
-use Rattle.std.proofs.Common.{◌≡◌, ℕ, ◌+◌, ◌≤◌, true, List, [], ◌∷◌, ◌++◌, refl, ap, sym, subst, ◌∙◌}
+use Rattle.std.proofs.Common.{◌≡◌, ◌≤◌, [], ◌∷◌, refl, ap, sym, subst, ◌∙◌}
 use Rattle.std.proofs.lemmas.List.{append-nil}
 use Rattle.mlr_spec.specs.declared.json.JsonStyle.{JsonStyle}
 use Rattle.mlr_spec.specs.Tree.{Tree, absent, empty, string, int, fraction, wide, boolean, mapping, array, error, Trees, no_trees, tree_and, Fields, no_fields, field_and, fields_of, trees_of, pairs_in}
-use Rattle.mlr_spec.specs.Pairs.{keys_of, are_distinct, put_each}
-use Rattle.mlr_spec.specs.Json.{json_text, json_at}
-use Rattle.mlr_spec.specs.JsonTokens.{tokens_of}
-use Rattle.mlr_spec.specs.JsonGrammar.{tokens_in, value_of, pairs_of, values_of, IsJson, IsShallow}
+use Rattle.mlr_spec.specs.Pairs.{keys_of, are_distinct}
+use Rattle.mlr_spec.specs.Json.{json_text}
+use Rattle.mlr_spec.specs.JsonGrammar.{tokens_in, value_of, pairs_of, values_of, IsJson}
 use Rattle.mlr_spec.proofs.Flattening.{put_each-distinct}
 use Rattle.mlr_value.specs.Depth.{depth}
 use Rattle.mlr_json.specs.Readable.{plain, read_back, pairs_read_back, items_read_back, IsReadable, ArePairsReadable, AreItemsReadable}

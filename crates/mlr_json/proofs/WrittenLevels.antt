@@ -1,13 +1,11 @@
 -- The tokens of a value are as deep as its maps and arrays.
-use Rattle.std.proofs.Common.{◌≡◌, ℕ, zero, suc, ◌+◌, ◌-◌, ◌<◌, ◌≤◌, Bool, true, false, cond, List, [], ◌∷◌, ◌++◌, length, take, refl, ap, sym, subst, ◌∙◌, append_assoc, arith, zero-add}
-use Rattle.std.specs.List.{count_by, sum_by}
-use Rattle.std.proofs.lemmas.List.{append-nil}
+use Rattle.std.proofs.Common.{◌≡◌, ℕ, zero, suc, ◌+◌, ◌-◌, ◌≤◌, Bool, true, false, cond, List, [], ◌∷◌, ◌++◌, take, refl, ap, sym, subst, ◌∙◌, arith, zero-add}
+use Rattle.std.specs.List.{count_by}
 use Rattle.std.proofs.lemmas.List.Sums.{sum_by-append}
-use Rattle.std.proofs.Common.{max}
 use Rattle.mlr_spec.specs.declared.json.JsonMark.TheVariants.{BeginMap, EndMap, BeginArray, EndArray, Colon, Comma}
 use Rattle.mlr_spec.specs.Tree.{Tree, absent, empty, string, int, fraction, wide, boolean, mapping, array, error, Trees, no_trees, tree_and, Fields, no_fields, field_and}
 use Rattle.mlr_spec.specs.JsonTokens.{Token, sign, text_token, word_token}
-use Rattle.mlr_spec.specs.JsonGrammar.{tokens_in, member_tokens, later_members, element_tokens, later_elements, is_opening, is_closing, level_of, IsShallow}
+use Rattle.mlr_spec.specs.JsonGrammar.{tokens_in, member_tokens, later_members, element_tokens, later_elements, is_opening, is_closing, IsShallow}
 use Rattle.mlr_value.specs.Depth.{depth, fields_depth, trees_depth}
 use Rattle.mlr_json.proofs.GrammarOutcome.{one_if}
 use Rattle.mlr_json.proofs.WrittenValues.{syntax_of, members_of, elements_of}

@@ -1,14 +1,11 @@
 -- A string that was written is read back, piece by piece.
-use Rattle.std.proofs.Common.{◌≡◌, ℕ, zero, suc, ◌+◌, ◌-◌, ◌*◌, ◌/◌, ◌%◌, ◌<◌, ◌≤◌, Bool, true, false, cond, not, ◌||◌, ◌==◌, nat_lt, List, [], ◌∷◌, ◌++◌, map, length, take, drop, ◌⊎◌, inl, inr, refl, ap, ap₂, sym, subst, ◌∙◌, append_assoc, arith, one-add}
+use Rattle.std.proofs.Common.{◌≡◌, ℕ, suc, ◌+◌, ◌/◌, ◌%◌, ◌<◌, ◌≤◌, Bool, true, false, cond, ◌||◌, ◌==◌, nat_lt, List, [], ◌∷◌, ◌++◌, map, take, drop, inl, inr, refl, ap, sym, subst, ◌∙◌, append_assoc, arith, one-add}
 use Rattle.std.specs.List.{flat_map, prefix_len, take_while}
-use Rattle.std.proofs.lemmas.Bool.{or_parts, or_from, ltb-true, ltb-false, lt-ltb, le-ltb, le-leb, lt-leb, eqb-true, eqb-false, ne_eqb, cases_Bool, not-true, cond-false, cond-true}
-use Rattle.std.proofs.lemmas.List.{append-nil, map-append}
+use Rattle.std.proofs.lemmas.Bool.{or_parts, ltb-true, ltb-false, lt-ltb, le-leb, lt-leb, eqb-true, cases_Bool, not-true}
 use Rattle.std.proofs.lemmas.Str.{encode_ascii}
 use Rattle.mlr_spec.specs.Infer.{digit, number}
 use Rattle.mlr_spec.specs.Json.{escaped, escape_letter, hex_digit, json_string}
-use Rattle.mlr_spec.specs.JsonTokens.{Piece, raw, unit, Lexeme, blank, mark, word, quote, piece, Scanned, found, begun, bad, is_raw, is_hex, lexeme_inside, lexeme_outside, first_lexeme, is_inside, decoded, lone_unit}
-use Rattle.mlr_json.specs.Escapes.{is_escaped}
-use Rattle.mlr_json.proofs.Escaping.{escaped-plain}
+use Rattle.mlr_spec.specs.JsonTokens.{Piece, raw, unit, Lexeme, quote, piece, found, is_raw, is_hex, lexeme_inside, lexeme_outside, first_lexeme, is_inside, decoded, lone_unit}
 
 -- a text continues with these lexemes up to the rest; `inside` and `after` say whether a string is open
 -- before and after them

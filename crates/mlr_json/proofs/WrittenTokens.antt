@@ -1,13 +1,13 @@
 -- Texts that are read as these tokens, up to a rest.
-use Rattle.std.proofs.Common.{◌≡◌, ℕ, zero, suc, ◌+◌, ◌-◌, ◌*◌, ◌<◌, ◌≤◌, Bool, true, false, cond, not, ◌||◌, ◌&&◌, ◌==◌, nat_lt, List, [], ◌∷◌, ◌++◌, map, length, take, drop, replicate, Option, Some, None, ◌⊎◌, inl, inr, refl, ap, ap₂, sym, subst, ◌∙◌, append_assoc, arith, one-add}
-use Rattle.std.specs.List.{flat_map, prefix_len, take_while, list_all}
-use Rattle.std.proofs.lemmas.Bool.{or_parts, or_from, eqb-true, eqb-false, cases_Bool, not-true, cond-false, cond-true, and_parts, lt-ltb, false_from_ne_true, true≢false}
-use Rattle.std.proofs.lemmas.List.{append-nil, map-append, length-drop}
+use Rattle.std.proofs.Common.{◌≡◌, ℕ, zero, suc, ◌+◌, ◌<◌, Bool, true, false, cond, not, ◌==◌, List, [], ◌∷◌, ◌++◌, map, length, take, drop, replicate, Option, Some, None, refl, ap, ap₂, sym, subst, ◌∙◌, append_assoc, arith, one-add}
+use Rattle.std.specs.List.{prefix_len, take_while, list_all}
+use Rattle.std.proofs.lemmas.Bool.{eqb-true, not-true, cond-true, and_parts, false_from_ne_true, true≢false}
+use Rattle.std.proofs.lemmas.List.{append-nil, length-drop}
 use Rattle.std.proofs.Math.Seq.{drop-append_seam, take-append_seam}
 use Rattle.mlr_json.specs.Readable.{plain}
 use Rattle.mlr_spec.specs.declared.json.JsonMark.{JsonMark}
 use Rattle.mlr_spec.specs.Json.{json_string}
-use Rattle.mlr_spec.specs.JsonTokens.{Piece, Lexeme, blank, mark, word, quote, piece, Scanned, found, begun, bad, mark_of, is_blank, is_word_byte, lexeme_inside, lexeme_outside, lexeme_unmarked, first_lexeme, is_inside, decoded, Lexemes, and_lexeme, lexemes_from, lexemes_of, Token, sign, text_token, word_token, Tokens, and_token, or_stop, token_of_word, pieces_in, tokens_outside, tokens_inside, tokens_of}
+use Rattle.mlr_spec.specs.JsonTokens.{Piece, Lexeme, blank, mark, word, quote, piece, Scanned, found, begun, bad, mark_of, is_blank, is_word_byte, lexeme_inside, lexeme_outside, lexeme_unmarked, is_inside, decoded, Lexemes, and_lexeme, lexemes_from, lexemes_of, Token, sign, text_token, Tokens, or_stop, token_of_word, pieces_in, tokens_outside, tokens_inside, tokens_of}
 use Rattle.mlr_spec.specs.JsonGrammar.{bare}
 use Rattle.mlr_json.proofs.WrittenStrings.{Lexes, lexes-append, written-string}
 

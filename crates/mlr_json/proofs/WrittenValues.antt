@@ -1,20 +1,19 @@
 -- A value that was written is read back: its text has the tokens of that value.
-use Rattle.std.proofs.Common.{◌≡◌, ℕ, zero, suc, ◌+◌, ◌*◌, ◌<◌, ◌≤◌, Bool, true, false, cond, not, ◌&&◌, List, [], ◌∷◌, ◌++◌, map, length, replicate, Option, Some, None, refl, ap, ap₂, sym, subst, ◌∙◌, append_assoc, arith}
+use Rattle.std.proofs.Common.{◌≡◌, ℕ, ◌+◌, ◌*◌, Bool, true, false, not, ◌&&◌, List, [], ◌∷◌, ◌++◌, Some, refl, ap, sym, subst, ◌∙◌, append_assoc}
 use Rattle.std.specs.Prelude.{codes}
 use Rattle.std.specs.List.{list_all, list_any}
 use Rattle.std.proofs.lemmas.Bool.{and_parts}
 use Rattle.std.proofs.lemmas.List.{append-nil}
-use Rattle.mlr_spec.specs.declared.infer.Kind.TheVariants.{Int, Frac, Wide}
 use Rattle.mlr_spec.specs.declared.json.JsonStyle.{JsonStyle}
 use Rattle.mlr_spec.specs.declared.json.JsonMark.{JsonMark}
 use Rattle.mlr_spec.specs.declared.json.JsonMark.TheVariants.{BeginMap, EndMap, BeginArray, EndArray, Colon, Comma}
 use Rattle.mlr_spec.specs.Infer.{kind_of}
 use Rattle.mlr_spec.specs.Json.{json_string, joined, new_line, bracketed, is_stacked, json_at, json_pairs, json_items}
 use Rattle.mlr_spec.specs.Tree.{Tree, absent, empty, string, int, fraction, wide, boolean, mapping, array, error, Trees, no_trees, tree_and, Fields, no_fields, field_and, items_in, is_collection, spelled}
-use Rattle.mlr_spec.specs.JsonTokens.{Token, sign, text_token, word_token, mark_of, is_word_byte, is_blank, number_of_kind, token_of_word}
-use Rattle.mlr_spec.specs.JsonGrammar.{Syntax, text, word, object, elements, Members, no_members, member_and, Elements, no_elements, element_and, tokens_in, member_tokens, later_members, element_tokens, later_elements}
+use Rattle.mlr_spec.specs.JsonTokens.{Token, sign, text_token, word_token, mark_of, is_word_byte, is_blank, number_of_kind}
+use Rattle.mlr_spec.specs.JsonGrammar.{Syntax, text, word, object, elements, Members, no_members, member_and, Elements, no_elements, element_and, tokens_in, member_tokens, element_tokens}
 use Rattle.mlr_json.specs.Readable.{plain, IsReadable, ArePairsReadable, AreItemsReadable}
-use Rattle.mlr_json.proofs.WrittenTokens.{Reads, reads-nothing, reads-append, reads-string, reads-mark, reads-space, reads-line, reads-word, is_filled, ends_word, word-byte-prefix}
+use Rattle.mlr_json.proofs.WrittenTokens.{Reads, reads-append, reads-string, reads-mark, reads-space, reads-line, reads-word, is_filled, ends_word, word-byte-prefix}
 use Rattle.mlr_json.proofs.NumberWords.{IsNumber, number-words, number-value}
 
 -- how a value is written

@@ -1,5 +1,5 @@
 -- Reading token by token, with a stack of the brackets that are open, the innermost first.
-use Rattle.std.specs.Prelude.{ℕ, ◌+◌, ◌==◌, nat_lt, Bool, true, false, if◌then◌else◌, List, [], ◌∷◌, ◌++◌, length, Option, Some, None}
+use Rattle.std.specs.Prelude.{ℕ, nat_lt, Bool, true, false, if◌then◌else◌, List, [], ◌∷◌, ◌++◌, length, Option, Some, None}
 use Rattle.mlr_spec.specs.declared.json.JsonMark.{JsonMark}
 use Rattle.mlr_spec.specs.declared.json.JsonMark.TheVariants.{BeginMap, EndMap, BeginArray, EndArray, Colon, Comma}
 use Rattle.mlr_spec.specs.Tree.{Tree, map_of, array_of}

@@ -1,5 +1,5 @@
 -- Values whose written text is read as the same value.
-use Rattle.std.specs.Prelude.{◌≡◌, ℕ, true, false, List, [], ◌∷◌}
+use Rattle.std.specs.Prelude.{◌≡◌, true, false}
 use Rattle.mlr_spec.specs.declared.infer.InferOpts.{InferOpts}
 use Rattle.mlr_spec.specs.declared.infer.Kind.TheVariants.{Int, Frac, Wide}
 use Rattle.mlr_spec.specs.Infer.{kind_of}

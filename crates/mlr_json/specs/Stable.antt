@@ -1,6 +1,6 @@
 -- What is found at the start of a text stays found when bytes follow.
 use Rattle.std.specs.Prelude.{◌≡◌, ◌⊎◌, ℕ, ◌<◌, Bool, true, false, List, ◌++◌, length}
-use Rattle.mlr_spec.specs.JsonTokens.{Piece, raw, unit, Lexeme, blank, mark, word, quote, piece, found, first_lexeme}
+use Rattle.mlr_spec.specs.JsonTokens.{raw, unit, Lexeme, blank, mark, word, quote, piece, found, first_lexeme}
 
 -- a lexeme that more bytes may make longer
 abbrev pub is_run : Lexeme → Bool

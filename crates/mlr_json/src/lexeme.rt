@@ -123,7 +123,7 @@ fn is_raw(byte: u8) -> bool
 
 /// How many blanks a text begins with.
 #[inline(always)]
-fn blank_len(text: &[u8]) -> usize
+pub(crate) fn blank_len(text: &[u8]) -> usize
     ensures { result ≡ prefix_len is_blank text.now }
 {
     for (place, byte) in text.iter().enumerate() {

@@ -11,7 +11,7 @@ ghost use Rattle.mlr_json.specs.Seen.{lexeme_seen};
 ghost use Rattle.mlr_value.specs.Value.{tree_of};
 ghost use Rattle.mlr_json.specs.Turns.{outcome_at, after_at, IsTurn, IsTurnShorter, IsAfter, IsAnswer, IsRead, is_token};
 
-use crate::token::{Next, Token, following, next_token};
+use crate::token::{Next, Token, after_blank, following, next_token};
 use crate::{Lexeme, Machine, Scanned, Went, first_lexeme};
 use mlr_spec::NoMemory;
 use mlr_value::Value;
@@ -60,7 +60,7 @@ fn read_text(alloc: Global, text: &[u8]) -> Result<JsonRead, NoMemory>
     let mut left = text;
     loop {
         match next_turn(alloc, &mut machine, left)? {
-            Turn::On(following) => left = following,
+            Turn::On(following) => left = after_blank(following),
             Turn::Whole(value, following) => return Ok(whole(value, text, following)),
             Turn::Syntax(rest) => return Ok(JsonRead::Syntax(place(text, rest))),
             Turn::Deep(rest) => return Ok(JsonRead::Deep(place(text, rest))),

@@ -1,5 +1,5 @@
 //! The steps of the machine: one for each token.
-ghost use Rattle.std.specs.Prelude.{◌≡◌, ◌∷◌, [], List, if◌then◌else◌, IfOk};
+ghost use Rattle.std.specs.Prelude.{◌≡◌, ◌∷◌, [], List, if◌then◌else◌, IfOk, OnOk};
 ghost use Rattle.mlr_spec.specs.JsonTokens.{sign, text_token, word_token};
 ghost use Rattle.mlr_spec.specs.JsonGrammar.{text_value};
 ghost use Rattle.mlr_value.specs.Value.{tree_of};
@@ -124,14 +124,13 @@ impl Machine {
         ensures { IfOk result (λ went. IsStep (with_value (tree_of value) (frames_of self.old)) went
             self.new) }
     {
-        match self.frames.pop() {
+        match self.frames.last_mut() {
             None => {
                 self.phase = Phase::Value;
                 Ok(Went::Whole(value))
             }
             Some(frame) => {
-                let frame = frame_with(frame, value)?;
-                self.frames.push(frame)?;
+                add_value(frame, value)?;
                 self.phase = Phase::Later;
                 Ok(Went::On)
             }
@@ -143,14 +142,14 @@ impl Machine {
     fn key(&mut self, key: Bytes) -> Result<Went, NoMemory>
         ensures { IfOk result (λ went. IsStep (with_key key (frames_of self.old)) went self.new) }
     {
-        match self.frames.pop() {
-            Some(Frame::Map(pairs, _)) => {
-                self.frames.push(Frame::Map(pairs, key))?;
-                self.phase = Phase::Colon;
-                Ok(Went::On)
-            }
-            _ => Ok(Went::Wrong),
+        let Some(frame) = self.frames.last_mut() else {
+            return Ok(Went::Wrong);
+        };
+        if !give_key(frame, key) {
+            return Ok(Went::Wrong);
         }
+        self.phase = Phase::Colon;
+        Ok(Went::On)
     }
 
     #[inline(always)]
@@ -224,20 +223,29 @@ impl Machine {
     }
 }
 
-/// An open bracket with one value more.
+/// Adds a value to an open bracket: as the next item, or as the value of the key before it.
 #[inline(always)]
-fn frame_with(frame: Frame, value: Value) -> Result<Frame, NoMemory>
-    ensures { IfOk result (λ more. (frames : List Frame)
-        → with_value (tree_of value) (frame ∷ frames) ≡ on (more ∷ frames) Phase.Later) }
+fn add_value(frame: &mut Frame, value: Value) -> Result<(), NoMemory>
+    ensures { OnOk result ((frames : List Frame)
+        → with_value (tree_of value) (frame.old ∷ frames) ≡ on (frame.new ∷ frames) Phase.Later) }
 {
     match frame {
-        Frame::Array(mut items) => {
-            items.push(value)?;
-            Ok(Frame::Array(items))
-        }
-        Frame::Map(mut pairs, key) => {
-            pairs.put(key.as_slice(), value)?;
-            Ok(Frame::Map(pairs, key))
+        Frame::Array(items) => items.push(value),
+        Frame::Map(pairs, key) => pairs.put(key.as_slice(), value),
+    }
+}
+
+/// Gives an open map the key of its next pair, and says whether it is a map.
+#[inline(always)]
+fn give_key(frame: &mut Frame, key: Bytes) -> bool
+    ensures { (frames : List Frame) → with_key key (frame.old ∷ frames)
+        ≡ (if result then on (frame.new ∷ frames) Phase.Colon else wrong) }
+{
+    match frame {
+        Frame::Array(_) => false,
+        Frame::Map(_, last) => {
+            *last = key;
+            true
         }
     }
 }

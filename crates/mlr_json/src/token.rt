@@ -1,10 +1,11 @@
 //! The tokens of a JSON text, one after another.
-ghost use Rattle.std.specs.Prelude.{◌≡◌, ℕ, ◌-◌, ◌<◌, ◌≤◌, List, Bool, true, false, length, drop, IfOk};
-ghost use Rattle.mlr_spec.specs.JsonTokens.{text_token, and_token, or_stop, token_of_word, decoded};
+ghost use Rattle.std.specs.Prelude.{◌≡◌, ℕ, ◌-◌, ◌<◌, ◌≤◌, List, [], ◌∷◌, Bool, true, false, length, drop, IfOk, IfSome};
+ghost use Rattle.mlr_spec.specs.JsonTokens.{raw, text_token, and_token, or_stop, token_of_word, decoded};
 ghost use Rattle.mlr_json.specs.Readable.{plain};
 ghost use Rattle.mlr_json.specs.Seen.{lexeme_seen};
 ghost use Rattle.mlr_json.specs.Reading.{tokens_left, inside_left, pieces_left, IsFirst, Gives, IsShorter, IsWanted, IsStringEnd, EndsWithin, is_of_string, PieceGives, IsPieceShorter};
 
+use crate::lexeme::blank_len;
 use crate::{Lexeme, Scanned, StringBuilder, first_lexeme, word_value};
 use mlr_spec::{InferOpts, JsonMark, NoMemory};
 use mlr_value::{Bytes, Value};
@@ -45,6 +46,7 @@ pub(crate) enum StringEnd<'a> {
 }
 
 /// What comes next within a string, with the text after it.
+#[derive(Drop)]
 enum PieceAt<'a> {
     Raw(&'a [u8], &'a [u8]),
     Unit(u16, &'a [u8]),
@@ -153,6 +155,36 @@ fn read_string(alloc: Global, text: &[u8]) -> Result<StringEnd<'_>, NoMemory>
         → IsStringEnd end text.now ended) }
     ensures within { IfOk result (EndsWithin (length text.now)) }
 {
+    match one_piece(text) {
+        Some((piece, following)) => Ok(StringEnd::Closed(Bytes::copy_of(alloc, piece)?, following)),
+        None => read_pieces(alloc, text),
+    }
+}
+
+/// The bytes of a string that is one piece, from after its first quote, and the text after it.
+#[inline(always)]
+fn one_piece(text: &[u8]) -> Option<(&[u8], &[u8])>
+    ensures tokens { IfSome result (λ found. (end : ℕ) → length text.now ≤ end
+        → (pieces_left end text.now ≡ raw found.0.now ∷ [])
+        × (inside_left end text.now ≡ tokens_left end found.1.now)) }
+    ensures within { IfSome result (λ found. length found.1.now < length text.now) }
+{
+    let PieceAt::Raw(piece, rest) = piece_at(text) else {
+        return None;
+    };
+    match piece_at(rest) {
+        PieceAt::Quote(following) => Some((piece, following)),
+        _ => None,
+    }
+}
+
+/// Reads a string piece by piece.
+#[inline(never)]
+fn read_pieces(alloc: Global, text: &[u8]) -> Result<StringEnd<'_>, NoMemory>
+    ensures tokens { IfOk result (λ ended. (end : ℕ) → length text.now ≤ end
+        → IsStringEnd end text.now ended) }
+    ensures within { IfOk result (EndsWithin (length text.now)) }
+{
     let mut builder = StringBuilder::new(alloc);
     let mut left = text;
     loop {
@@ -208,4 +240,14 @@ pub(crate) fn following(text: &[u8], len: usize) -> &[u8]
     ensures { result.now ≡ drop len text.now }
 {
     &text[len..]
+}
+
+/// The text after the blanks that it begins with.
+#[inline(always)]
+pub(crate) fn after_blank(text: &[u8]) -> &[u8]
+    ensures same { (end : ℕ) → length text.now ≤ end
+        → tokens_left end result.now ≡ tokens_left end text.now }
+    ensures shorter { length result.now ≤ length text.now }
+{
+    following(text, blank_len(text))
 }

@@ -1,4 +1,4 @@
-use Rattle.std.proofs.Common.{◌+◌, ◌≤◌, length, ap, sym, subst, ◌∙◌, arith}
+use Rattle.std.proofs.Common.{◌+◌, ◌<◌, ◌≤◌, length, ap, sym, subst, ◌∙◌, arith}
 use Rattle.mlr_json.specs.declared.frame.Phase.TheVariants as phase
 use Rattle.mlr_json.specs.Machine.{syntax, deep, outcome_of}
 use Rattle.mlr_json.specs.Steps.{frames_of}
@@ -24,12 +24,15 @@ loop-machine-preserved c =
     let end = length c.args.text.now + 1 in
     let left = c.loop-machine.left.now in
     let machine = c.loop-machine.machine in
+    let following = c.in-On.following.now in
     let fits : length left ≤ end = omega arith in
-    let shorter = subst (IsTurnShorter (length left)) c.in-On.is c.in_ok-following.ensures.shorter in
+    let shorter : length following < length left = subst (IsTurnShorter (length left)) c.in-On.is c.in_ok-following.ensures.shorter in
+    let rest_fits : length following ≤ end = omega (arith, shorter) in
     record {
-      shorter = omega (arith, shorter, c.loop-machine.invariant.shorter);
+      shorter = omega (arith, shorter, c.loop-machine.invariant.shorter, c.after_blank-left.ensures.shorter);
       same = c.loop-machine.invariant.same
-          ∙ subst (IsTurn end (outcome_at end (frames_of machine) machine.phase (tokens_left end left)) c.next_turn.new.machine) c.in-On.is (c.in_ok-following.ensures.outcome end fits);
+          ∙ subst (IsTurn end (outcome_at end (frames_of machine) machine.phase (tokens_left end left)) c.next_turn.new.machine) c.in-On.is (c.in_ok-following.ensures.outcome end fits)
+          ∙ ap (outcome_at end (frames_of c.next_turn.new.machine) c.next_turn.new.machine.phase) (sym (c.after_blank-left.ensures.same end rest_fits));
     }
 
 pub returns-in-Whole : goal.returns-in-Whole

@@ -2,7 +2,7 @@ use Rattle.std.proofs.Common.{◌≡◌, ℕ, ◌≤◌, List, ◌++◌, length}
 use Rattle.mlr_spec.specs.JsonTokens.{Piece}
 use Rattle.mlr_json.specs.Decoding.{Holds}
 use Rattle.mlr_json.specs.Reading.{inside_left, pieces_left}
-use Rattle.mlr_json.proofs.token.read_string.Given as goal
+use Rattle.mlr_json.proofs.token.read_pieces.Given as goal
 
 -- the pieces so far, with the remaining ones, are all of them
 abbrev pub invariant-loop-piece : goal.invariant-loop-piece
