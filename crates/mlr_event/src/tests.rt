@@ -1,12 +1,8 @@
-//! Names made distinct, names and options copied, and events in their order.
+//! Names and options copied, and events in their order.
 
 use crate::models::{Cat, give, take};
-use crate::rows::{
-    distinct_names, is_comment, next_ctx, push_comment, push_text, put_field, put_text,
-};
-use crate::{
-    Comments, Ctx, Event, Events, Format, Header, InputName, Names, ReadOpts, Step, Target,
-};
+use crate::rows::{TakenNames, is_comment, next_ctx, push_comment, push_text};
+use crate::{Comments, Ctx, Event, Events, Format, InputName, Names, ReadOpts, Step, Target};
 use mlr_record::Record;
 use mlr_spec::{InferOpts, NoMemory};
 use mlr_value::{Bytes, Value};
@@ -22,28 +18,15 @@ fn are(alloc: Global, names: &[Bytes], text: &str) -> Result<bool, NoMemory> {
     Ok(all.as_slice() == text.as_bytes())
 }
 
-/// The names of a record with a semicolon after each.
-fn names_of(alloc: Global, record: &Record) -> Result<Bytes, NoMemory> {
-    let mut all = Bytes::new(alloc);
-    for place in 0..record.len() {
-        all.append(record.entry(place).0)?;
-        all.append(b";")?;
-    }
-    Ok(all)
-}
-
-/// Names with a semicolon after each, and the same as they are made distinct.
-const NAMES: [(&[&str], &str, &str); 7] = [
-    (&["a", "b"], "a;b;", "a;b;"),
-    (&["a", "a"], "a;a;", "a;a_2;"),
-    (&["a", "a", "a"], "a;a;a;", "a;a_2;a_3;"),
-    (&["a", "a_2", "a"], "a;a_2;a;", "a;a_2;a_3;"),
-    (&["a", "a", "a_2"], "a;a;a_2;", "a;a_2;a_2_2;"),
-    (&["", ""], ";;", ";_2;"),
+/// Names, and a text of them with a semicolon after each.
+const NAMES: [(&[&str], &str); 5] = [
+    (&[], ""),
+    (&["a", "b"], "a;b;"),
+    (&["a", "a_2", "a"], "a;a_2;a;"),
+    (&["", ""], ";;"),
     (
-        &["b", "a", "", "a", "a name past 16 bytes"],
-        "b;a;;a;a name past 16 bytes;",
-        "b;a;;a_2;a name past 16 bytes;",
+        &["b", "", "a", "a name past 16 bytes"],
+        "b;;a;a name past 16 bytes;",
     ),
 ];
 
@@ -54,17 +37,6 @@ fn names_from(alloc: Global, texts: &[&str]) -> Result<Names, NoMemory> {
         names.push(Bytes::copy_of(alloc, text.as_bytes())?)?;
     }
     Ok(names)
-}
-
-/// A record of empty fields of these names, made distinct.
-fn record_from(alloc: Global, texts: &[&str]) -> Result<Record, NoMemory> {
-    let mut record = Record::new(alloc)?;
-    for text in texts {
-        if record.len() < 100 {
-            put_field(alloc, &mut record, text.as_bytes(), Value::Empty, true)?;
-        }
-    }
-    Ok(record)
 }
 
 /// Whether the list has each of the texts at its place.
@@ -78,31 +50,12 @@ fn are_at_their_places(names: &Names, texts: &[&str]) -> bool {
     names.len() == texts.len() && names.at(texts.len()).is_none() && !names.has(b"c")
 }
 
-/// Whether a header has these names, and the distinct ones as its keys.
-fn is_header(alloc: Global, names: Names, same: &str, distinct: &str) -> Result<bool, NoMemory> {
-    let count = names.len();
-    let header = Header::new(alloc, names.into_vec())?;
-    Ok(
-        header.len() == count
-            && are(alloc, header.names(), same)?
-            && are(alloc, header.keys(), distinct)?,
-    )
-}
-
-/// Whether names, a copy of them, a record and a header are as a row says.
-fn are_named(alloc: Global, row: &(&[&str], &str, &str)) -> Result<bool, NoMemory> {
-    let (texts, same, distinct) = *row;
-    let names = names_from(alloc, texts)?;
-    let copy = names.copy()?;
-    let made = distinct_names(alloc, copy.as_slice())?;
-    let record = record_from(alloc, texts)?;
-    Ok(
-        are_at_their_places(&copy, texts)
-            && are(alloc, copy.as_slice(), same)?
-            && are(alloc, made.as_slice(), distinct)?
-            && names_of(alloc, &record)?.as_slice() == distinct.as_bytes()
-            && is_header(alloc, names, same, distinct)?,
-    )
+/// Whether a copy of some names is as a row says.
+fn are_named(alloc: Global, row: &(&[&str], &str)) -> Result<bool, NoMemory> {
+    let (texts, same) = *row;
+    let copy = names_from(alloc, texts)?.copy()?;
+    let taken = copy.as_slice();
+    Ok(are_at_their_places(&copy, texts) && are(alloc, taken, same)?)
 }
 
 fn first_misnamed(alloc: Global) -> Result<Option<usize>, NoMemory> {
@@ -115,7 +68,7 @@ fn first_misnamed(alloc: Global) -> Result<Option<usize>, NoMemory> {
 }
 
 #[test]
-fn equal_names_are_kept_or_made_distinct(rt: HostRuntime) -> Result<(), NoMemory> {
+fn copies_of_names_are_equal(rt: HostRuntime) -> Result<(), NoMemory> {
     assert_eq!(rt; first_misnamed(rt.alloc())?, None);
     Ok(())
 }
@@ -209,31 +162,22 @@ fn copies_of_names_and_options_are_equal(rt: HostRuntime) -> Result<(), NoMemory
     Ok(())
 }
 
-/// The names of a record in which a name is put a second time as a text.
-fn two_texts(alloc: Global) -> Result<Record, NoMemory> {
+/// A record with one field, which was read from a text.
+fn one_text(alloc: Global) -> Result<Record, NoMemory> {
     let opts = options(alloc, ",", "=", false, Comments::Keep)?;
     let mut record = Record::new(alloc)?;
     push_text(alloc, &opts, b"a", b"0x10", &mut record)?;
-    put_text(alloc, &opts, b"a", b"x", &mut record)?;
     Ok(record)
 }
 
-/// Whether a text is put with a suffix where its name is there.
-fn are_texts_put(alloc: Global) -> Result<bool, NoMemory> {
-    let record = two_texts(alloc)?;
+/// Whether a text is pushed as the value that it is read as.
+fn is_text_pushed(alloc: Global) -> Result<bool, NoMemory> {
+    let record = one_text(alloc)?;
     Ok(
-        names_of(alloc, &record)?.as_slice() == b"a;a_2;".as_slice()
-            && matches!(record.get(b"a"), Some(Value::Int(number)) if number.n == 16)
-            && matches!(record.get(b"a_2"), Some(Value::Str(_))),
+        record.has(b"a")
+            && !record.has(b"a_2")
+            && matches!(record.get(b"a"), Some(Value::Int(number)) if number.n == 16),
     )
-}
-
-/// Whether a value is put in its name's place where names aren't made distinct.
-fn is_value_replaced(alloc: Global) -> Result<bool, NoMemory> {
-    let mut record = Record::new(alloc)?;
-    put_field(alloc, &mut record, b"a", Value::Empty, false)?;
-    put_field(alloc, &mut record, b"a", Value::Bool(true), false)?;
-    Ok(record.len() == 1 && matches!(record.get(b"a"), Some(Value::Bool(true))))
 }
 
 /// Whether comments are known by their prefix.
@@ -322,7 +266,7 @@ fn events_and_fields_come_in_their_order(rt: HostRuntime) -> Result<(), NoMemory
         filenum: 2,
     };
     assert_eq!(rt; next_ctx(second), next);
-    assert!(rt; are_texts_put(alloc)? && is_value_replaced(alloc)?);
+    assert!(rt; is_text_pushed(alloc)?);
     assert!(rt; are_comments_known(alloc)? && are_comments_passed(alloc)?);
     assert_eq!(rt; reversed(alloc)?.as_slice(), b"t321".as_slice());
     assert_eq!(rt; passed(alloc)?.as_slice(), b"1te".as_slice());

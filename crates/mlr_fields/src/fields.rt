@@ -63,6 +63,14 @@ impl Fields {
         })
     }
 
+    /// How many fields it has.
+    #[inline]
+    pub fn len(&self) -> usize
+        ensures { result ≡ length self.now }
+    {
+        self.record.len()
+    }
+
     /// The record. It takes no memory.
     #[inline]
     pub fn into_record(self) -> Record

@@ -67,7 +67,7 @@ fn names_of(alloc: Global, record: &Record) -> Result<Bytes, NoMemory> {
 fn record_from(alloc: Global, names: &[Bytes], dedupe: bool) -> Result<Record, NoMemory> {
     let mut fields = Fields::new(alloc)?;
     for (place, name) in names.iter().enumerate() {
-        if place < 1000 {
+        if fields.len() < 1000 {
             let value = Value::Bool(place + 1 == names.len());
             fields.put(alloc, name.as_slice(), value, dedupe)?;
         }

@@ -2,7 +2,7 @@
 ghost use Rattle.std.specs.Prelude.{◌≡◌, true, IfOk};
 ghost use Rattle.mlr_event.specs.Reading.{distinct_names};
 
-use mlr_event::Header;
+use mlr_fields::Header;
 use mlr_spec::NoMemory;
 use mlr_value::Bytes;
 use std::alloc::Global;

@@ -9,24 +9,12 @@ ghost use Rattle.read_csv.specs.Headers.{source_of};
 
 use crate::heading::Heading;
 use itoa::Buffer;
-use mlr_event::Header;
-use mlr_event::rows::put_field;
+use mlr_fields::{Fields, Header, few};
 use mlr_record::Record;
 use mlr_spec::NoMemory;
 use mlr_value::{Bytes, Value};
 use std::alloc::Global;
 use std::mem;
-
-/// A number of fields that no memory can hold.
-const MANY: usize = 1 << 62;
-
-/// Returns an error if there are more fields than any memory can hold.
-#[inline]
-fn few(count: usize) -> Result<(), NoMemory>
-    ensures { OnOk result (count < 2 ^ 62) }
-{
-    if count < MANY { Ok(()) } else { Err(NoMemory) }
-}
 
 /// The record of a row of these values, which it moves out of `values`.
 pub(crate) fn record_of_row(
@@ -45,12 +33,12 @@ pub(crate) fn record_of_row(
     if distinct && values.len() == names.len() {
         return full_record(alloc, names, values);
     }
-    let mut record = Record::new(alloc)?;
+    let mut record = Fields::new(alloc)?;
     let named = values.len().min(names.len());
-    put_named(distinct, names, values, named, &mut record)?;
+    put_named(alloc, distinct, names, values, named, &mut record)?;
     put_surplus(alloc, dedupe, values, named, &mut record)?;
     values.clear();
-    Ok(record)
+    Ok(record.into_record())
 }
 
 /// The record of a row that has a value for each name of the header, under the distinct names. This is the
@@ -69,11 +57,12 @@ fn full_record(alloc: Global, names: &Header, values: &mut Vec<Value>) -> Result
 /// Moves the first `named` values into an empty record, under the names of the header. With `dedupe` each
 /// name is distinct, so no search is needed; else the last value of a repeated name remains.
 fn put_named(
+    alloc: Global,
     dedupe: bool,
     header: &Header,
     values: &mut Vec<Value>,
     named: usize,
-    into: &mut Record,
+    into: &mut Fields,
 ) -> Result<(), NoMemory>
     requires values { named ≤ vec_len values.old }
     requires names { named ≤ length header.now }
@@ -89,7 +78,7 @@ fn put_named(
         if dedupe {
             into.push(header.key(place), value)?;
         } else {
-            into.put(header.name(place), value)?;
+            into.put(alloc, header.name(place), value, false)?;
         }
     }
     Ok(())
@@ -101,7 +90,7 @@ fn put_surplus(
     dedupe: bool,
     values: &mut Vec<Value>,
     named: usize,
-    into: &mut Record,
+    into: &mut Fields,
 ) -> Result<(), NoMemory>
     requires few { vec_len values.old < 2 ^ 62 }
     requires into { length into.old ≤ named }
@@ -112,13 +101,7 @@ fn put_surplus(
     for place in named..values.len() {
         let value = taken(values, place);
         let mut buffer = Buffer::new();
-        put_field(
-            alloc,
-            into,
-            buffer.format(place + 1).as_bytes(),
-            value,
-            dedupe,
-        )?;
+        into.put(alloc, buffer.format(place + 1).as_bytes(), value, dedupe)?;
     }
     Ok(())
 }

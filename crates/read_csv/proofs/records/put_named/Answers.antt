@@ -1,9 +1,9 @@
-use Rattle.std.proofs.Common.{◌+◌, ◌<◌, [], length, map, drop, get_or, ap, sym, ◌∙◌, arith}
+use Rattle.std.proofs.Common.{◌≡◌, ◌+◌, ◌<◌, [], length, length-take, map, take, drop, get_or, ap, sym, ◌∙◌, arith}
 use Rattle.mlr_spec.specs.Tree.{empty}
 use Rattle.mlr_event.specs.Rows.{with_field}
 use Rattle.mlr_value.specs.Value.{tree_of}
 use Rattle.std.proofs.lemmas.List.{length-map}
-use Rattle.read_csv.proofs.Recording.{drop-at, key-is, key-free, keys-now, one-more, pushed-is, put-is}
+use Rattle.read_csv.proofs.Recording.{drop-at, key-is, key-free, keys-now, one-more, pushed-is, put-is, length-with_fields}
 use Rattle.read_csv.proofs.records.put_named.Goals as goal
 use Rattle.read_csv.proofs.records.put_named.Goals.{then-dedupe+in_ok-push, else-dedupe+in_ok-put}
 
@@ -15,6 +15,16 @@ push-requires c =
     let below : place < length header = omega (arith, c.loop-place-test.true, c.requires.names) in
     let below_2 : place < length values = omega (arith, c.loop-place-test.true, c.requires.values, length-map c.args.values.now.items tree_of) in
     key-free header c.loop-place.into place below c.requires.few (keys-now c.args.dedupe header values place below below_2 c.loop-place.into c.loop-place.invariant.fields c.if-dedupe.true) c.key.result.now c.key.ensures
+
+pub put-requires : goal.put-requires
+put-requires c =
+    let header = c.args.header.now in
+    let values = map tree_of c.args.values.now.items in
+    let place = c.loop-place.place in
+    let low : place < length header = omega (arith, c.loop-place-test.true, c.requires.names) in
+    let low_2 : place < length values = omega (arith, c.loop-place-test.true, c.requires.values, length-map c.args.values.now.items tree_of) in
+    let same : length (take place header) ≡ length (take place values) = omega (arith, length-take place header, length-take place values, low, low_2) in
+    omega (arith, ap length c.loop-place.invariant.fields, length-with_fields c.args.dedupe [] (take place header) (take place values) same, length-take place header, low, c.requires.few)
 
 pub loop-place-preserved : goal.loop-place-preserved
 loop-place-preserved c =

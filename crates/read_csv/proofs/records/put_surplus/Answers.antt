@@ -16,7 +16,7 @@ loop-place-preserved c =
     let count = vec_len c.loop-place.values in
     let rest = map tree_of (drop (place + 1) c.taken-value.new.values.items) in
     let text = c.as_bytes.ensures.value ∙ c.format.ensures.text in
-    let put : c.put_field.new.record ≡ with_field dedupe (decimal (place + 1)) value pairs = c.in_ok-put_field.ensures ∙ ap (λ k. with_field dedupe k value pairs) text in
+    let put : c.put.new.self ≡ with_field dedupe (decimal (place + 1)) value pairs = c.in_ok-put.ensures ∙ ap (λ k. with_field dedupe k value pairs) text in
     record {
       fields = ap₂ (λ p n. with_fields dedupe p (positions_from (place + 1 + 1) (n - (place + 1))) rest) put c.taken-value.ensures.len
           ∙ surplus-more dedupe pairs place count value rest (omega (arith, c.loop-place-test.true, c.loop-place.invariant.len))

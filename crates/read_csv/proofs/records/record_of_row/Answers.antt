@@ -42,7 +42,7 @@ returns-clause-made c =
     c.in_ok-put_named.ensures.fields
     ∙ ap (λ h. with_fields (dedupe || c.is_distinct.result) [] (take named h) (take named values)) c.header-names.ensures
     ∙ fields-distinct dedupe c.is_distinct.result header values named low low_2 (omega (arith, c.len-3.ensures.few, ap length c.header-names.ensures)) c.is_distinct.ensures in
-    c.in_ok-put_surplus.ensures
+    c.into_record.ensures ∙ c.in_ok-put_surplus.ensures
     ∙ ap₂ (λ n rest. with_fields dedupe c.put_named.new.into (positions_from (named + 1) (n - named)) (map tree_of rest)) count c.in_ok-put_named.ensures.rest
     ∙ ap₂ (λ p vs. with_fields dedupe p (positions_from (named + 1) (length values - named)) vs) fields (map-drop tree_of items named)
     ∙ row-made dedupe header values named low_2 low (λ less. omega (arith, c.min-named.ensures, c.len-3.ensures.count, ap length c.header-names.ensures, length-map items tree_of))

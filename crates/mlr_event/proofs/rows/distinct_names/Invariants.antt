@@ -1,7 +1,0 @@
-use Rattle.std.proofs.Common.{◌≡◌, ◌++◌, drop}
-use Rattle.mlr_event.specs.Reading.{distinct_after, distinct_names}
-use Rattle.mlr_event.proofs.rows.distinct_names.Given as goal
-
--- the names so far and the remaining ones give what all names give
-abbrev pub invariant-loop-name : goal.invariant-loop-name
-invariant-loop-name l = l.made.items ++ distinct_after l.made.items (drop l.name-index l.names) ≡ distinct_names l.names
