@@ -156,6 +156,7 @@ impl KeyTable {
     pub fn enter(&mut self, key: &[u8]) -> Result<usize, NoMemory>
         ensures entered { self.new ≡ (if is_ok result then entered self.old key.now else self.old) }
         ensures place { IfOk result (λ place. slice_get self.new place ≡ Some key.now) }
+        ensures known { is_among self.old key.now ≡ true → IsOk result }
     {
         match self.keys.get_index_of(key) {
             Some(place) => Ok(place),

@@ -1,4 +1,5 @@
 use Rattle.std.proofs.Common.{◌≡◌, true, false, Some, slice_get, sym, ap, subst, ◌∙◌, is_ok, if◌then◌else◌}
+use Rattle.std.proofs.lemmas.Bool.{true≢false}
 use Rattle.mlr_value.proofs.Columns.{IsAt-position}
 use Rattle.mlr_event.specs.Reading.{is_among}
 use Rattle.mlr_groups.proofs.Tables.{among-texts, among-at, text-at, entered-known, entered-new}
@@ -30,3 +31,6 @@ pub returns-in-None-clause-entered : goal.returns-in-None-clause-entered
 returns-in-None-clause-entered c =
     c.push.ensures.pushed
     ∙ ap (λ keys. if is_ok c.push.result then keys else c.args.self.now) (sym (entered-new c.args.self.now c.args.key.now (absent (goal.at.returns-in-None-clause-entered c).In-None)))
+
+pub returns-in-None-clause-known : goal.returns-in-None-clause-known
+returns-in-None-clause-known c = λ is. absurd (true≢false (sym is ∙ absent (goal.at.returns-in-None-clause-known c).In-None))
