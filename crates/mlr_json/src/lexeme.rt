@@ -118,7 +118,7 @@ fn is_word_byte(byte: u8) -> bool
 fn is_raw(byte: u8) -> bool
     ensures { result ≡ is_raw byte }
 {
-    byte != b'"' && byte != b'\\'
+    byte > b'\\' || (byte != b'"' && byte != b'\\')
 }
 
 /// How many blanks a text begins with.

@@ -76,7 +76,7 @@ fn next_turn<'a>(alloc: Global, machine: &mut Machine, text: &'a [u8]) -> Result
         (tokens_left end text.now)) machine.new turn) }
     ensures shorter { IfOk result (IsTurnShorter (length text.now)) }
 {
-    match next_token(alloc, machine.takes_text(), text)? {
+    match next_token(alloc, machine, text)? {
         Next::Blank(following) => Ok(Turn::On(following)),
         Next::Token(token, following) => token_turn(machine, token, text.len(), following),
         Next::Refused => Ok(Turn::Syntax(text.len())),

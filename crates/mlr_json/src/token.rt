@@ -3,10 +3,11 @@ ghost use Rattle.std.specs.Prelude.{◌≡◌, ℕ, ◌-◌, ◌<◌, ◌≤◌,
 ghost use Rattle.mlr_spec.specs.JsonTokens.{raw, text_token, and_token, or_stop, token_of_word, decoded};
 ghost use Rattle.mlr_json.specs.Readable.{plain};
 ghost use Rattle.mlr_json.specs.Seen.{lexeme_seen};
+ghost use Rattle.mlr_json.specs.Steps.{frames_of, takes_text};
 ghost use Rattle.mlr_json.specs.Reading.{tokens_left, inside_left, pieces_left, IsFirst, Gives, IsShorter, IsWanted, IsStringEnd, EndsWithin, is_of_string, PieceGives, IsPieceShorter};
 
 use crate::lexeme::blank_len;
-use crate::{Lexeme, Scanned, StringBuilder, first_lexeme, word_value};
+use crate::{Lexeme, Machine, Scanned, StringBuilder, first_lexeme, word_value};
 use mlr_spec::{InferOpts, JsonMark, NoMemory};
 use mlr_value::{Bytes, Value};
 use std::alloc::Global;
@@ -56,22 +57,20 @@ enum PieceAt<'a> {
     Stop(usize),
 }
 
-/// Reads the next token, or blanks. A string is read only where it is wanted.
+/// Reads the next token, or blanks. A string is read only where the machine takes one.
 #[inline(always)]
-pub(crate) fn next_token(alloc: Global, wants_text: bool, text: &[u8]) -> Result<Next<'_>, NoMemory>
+pub(crate) fn next_token<'a>(
+    alloc: Global,
+    machine: &Machine,
+    text: &'a [u8],
+) -> Result<Next<'a>, NoMemory>
     ensures tokens { IfOk result (λ next. (end : ℕ) → length text.now ≤ end
         → Gives end (length text.now) next (tokens_left end text.now)) }
     ensures shorter { IfOk result (IsShorter (length text.now)) }
-    ensures wanted { IfOk result (IsWanted wants_text) }
+    ensures wanted { IfOk result (IsWanted (takes_text (frames_of machine.now) machine.now.phase)) }
 {
     match first_lexeme(false, text) {
-        Scanned::Found(lexeme, len) => token_of(
-            alloc,
-            wants_text,
-            lexeme,
-            text,
-            following(text, len),
-        ),
+        Scanned::Found(lexeme, len) => token_of(alloc, machine, lexeme, text, following(text, len)),
         Scanned::Begun => Ok(Next::End),
         Scanned::Bad(offset) => Ok(Next::Bad(text.len() - offset)),
     }
@@ -81,7 +80,7 @@ pub(crate) fn next_token(alloc: Global, wants_text: bool, text: &[u8]) -> Result
 #[inline(always)]
 fn token_of<'a>(
     alloc: Global,
-    wants_text: bool,
+    machine: &Machine,
     lexeme: Lexeme<'_>,
     text: &[u8],
     following: &'a [u8],
@@ -91,12 +90,12 @@ fn token_of<'a>(
         → IsFirst false end text.now (lexeme_seen lexeme.entry) following.now
         → Gives end (length text.now) next (tokens_left end text.now)) }
     ensures shorter { IfOk result (IsShorter (length text.now)) }
-    ensures wanted { IfOk result (IsWanted wants_text) }
+    ensures wanted { IfOk result (IsWanted (takes_text (frames_of machine.now) machine.now.phase)) }
 {
     match lexeme {
         Lexeme::Mark(mark) => Ok(Next::Token(Token::Mark(mark), following)),
         Lexeme::Word(word) => word_token(alloc, word, text, following),
-        Lexeme::Quote => string_token(alloc, wants_text, text, following),
+        Lexeme::Quote => string_token(alloc, machine, text, following),
         Lexeme::Blank | Lexeme::Raw(_) | Lexeme::Unit(_) => Ok(Next::Blank(following)),
     }
 }
@@ -127,7 +126,7 @@ fn word_token<'a>(
 #[inline(always)]
 fn string_token<'a>(
     alloc: Global,
-    wanted: bool,
+    machine: &Machine,
     text: &[u8],
     following: &'a [u8],
 ) -> Result<Next<'a>, NoMemory>
@@ -137,9 +136,9 @@ fn string_token<'a>(
         (and_token (end - length text.now) (text_token (decoded (pieces_left end following.now)))
         (inside_left end following.now))) }
     ensures shorter { IfOk result (IsShorter (length text.now)) }
-    ensures wanted { IfOk result (IsWanted wanted) }
+    ensures wanted { IfOk result (IsWanted (takes_text (frames_of machine.now) machine.now.phase)) }
 {
-    if !wanted {
+    if !machine.takes_text() {
         return Ok(Next::Refused);
     }
     match read_string(alloc, following)? {
