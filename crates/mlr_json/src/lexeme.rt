@@ -118,7 +118,7 @@ fn is_word_byte(byte: u8) -> bool
 fn is_raw(byte: u8) -> bool
     ensures { result ≡ is_raw byte }
 {
-    byte > b'\\' || (byte != b'"' && byte != b'\\')
+    byte != b'"' && byte != b'\\'
 }
 
 /// How many blanks a text begins with.
@@ -149,7 +149,7 @@ pub fn word_len(text: &[u8]) -> usize
 
 /// How many bytes come before the first quote or backslash.
 #[inline(always)]
-fn raw_len(text: &[u8]) -> usize
+pub(crate) fn raw_len(text: &[u8]) -> usize
     ensures { result ≡ prefix_len is_raw text.now }
 {
     for (place, byte) in text.iter().enumerate() {

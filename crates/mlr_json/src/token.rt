@@ -6,19 +6,21 @@ ghost use Rattle.mlr_json.specs.Seen.{lexeme_seen};
 ghost use Rattle.mlr_json.specs.Steps.{frames_of, takes_text};
 ghost use Rattle.mlr_json.specs.Reading.{tokens_left, inside_left, pieces_left, IsFirst, Gives, IsShorter, IsWanted, IsStringEnd, EndsWithin, is_of_string, PieceGives, IsPieceShorter};
 
-use crate::lexeme::blank_len;
+use crate::lexeme::{blank_len, raw_len};
 use crate::{Lexeme, Machine, Scanned, StringBuilder, first_lexeme, word_value};
 use mlr_spec::{InferOpts, JsonMark, NoMemory};
 use mlr_value::{Bytes, Value};
 use std::alloc::Global;
 
 #[derive(Drop)]
-pub(crate) enum Token {
+pub(crate) enum Token<'a> {
     Mark(JsonMark),
     /// A word with its value.
     Word(Value),
     /// A string with its text.
     Text(Bytes),
+    /// A string with its text, which stands in the text that is read.
+    Piece(&'a [u8]),
 }
 
 /// What comes next in a text, with the text after it. The place of a fault is given by how many bytes remain
@@ -26,7 +28,7 @@ pub(crate) enum Token {
 #[derive(Drop)]
 pub(crate) enum Next<'a> {
     Blank(&'a [u8]),
-    Token(Token, &'a [u8]),
+    Token(Token<'a>, &'a [u8]),
     /// A string, where none may come.
     Refused,
     /// A string that is cut off here, or has a byte here that it can't hold.
@@ -47,7 +49,6 @@ pub(crate) enum StringEnd<'a> {
 }
 
 /// What comes next within a string, with the text after it.
-#[derive(Drop)]
 enum PieceAt<'a> {
     Raw(&'a [u8], &'a [u8]),
     Unit(u16, &'a [u8]),
@@ -141,22 +142,12 @@ fn string_token<'a>(
     if !machine.takes_text() {
         return Ok(Next::Refused);
     }
-    match read_string(alloc, following)? {
+    if let Some((piece, following)) = one_piece(following) {
+        return Ok(Next::Token(Token::Piece(piece), following));
+    }
+    match read_pieces(alloc, following)? {
         StringEnd::Closed(text, following) => Ok(Next::Token(Token::Text(text), following)),
         StringEnd::Cut(rest) => Ok(Next::Cut(rest)),
-    }
-}
-
-/// Reads a string from after its first quote.
-#[inline(always)]
-fn read_string(alloc: Global, text: &[u8]) -> Result<StringEnd<'_>, NoMemory>
-    ensures tokens { IfOk result (λ ended. (end : ℕ) → length text.now ≤ end
-        → IsStringEnd end text.now ended) }
-    ensures within { IfOk result (EndsWithin (length text.now)) }
-{
-    match one_piece(text) {
-        Some((piece, following)) => Ok(StringEnd::Closed(Bytes::copy_of(alloc, piece)?, following)),
-        None => read_pieces(alloc, text),
     }
 }
 
@@ -168,16 +159,14 @@ fn one_piece(text: &[u8]) -> Option<(&[u8], &[u8])>
         × (inside_left end text.now ≡ tokens_left end found.1.now)) }
     ensures within { IfSome result (λ found. length found.1.now < length text.now) }
 {
-    let PieceAt::Raw(piece, rest) = piece_at(text) else {
-        return None;
-    };
-    match piece_at(rest) {
-        PieceAt::Quote(following) => Some((piece, following)),
+    let len = raw_len(text);
+    match following(text, len) {
+        [b'"', rest @ ..] if len > 0 => Some((&text[..len], rest)),
         _ => None,
     }
 }
 
-/// Reads a string piece by piece.
+/// Reads a string from after its first quote, piece by piece.
 #[inline(never)]
 fn read_pieces(alloc: Global, text: &[u8]) -> Result<StringEnd<'_>, NoMemory>
     ensures tokens { IfOk result (λ ended. (end : ℕ) → length text.now ≤ end
