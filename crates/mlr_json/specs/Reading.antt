@@ -40,6 +40,7 @@ abbrev pub token_seen : TokenRead → Token
 token_seen (read.Mark m) = sign m
 token_seen (read.Word value) = word_token (tree_of value)
 token_seen (read.Text text) = text_token text
+token_seen (read.Piece text) = text_token text.now
 
 -- what comes next is how these tokens begin, where so many bytes remain
 abbrev pub Gives : ℕ → ℕ → Next → Tokens → Type 0

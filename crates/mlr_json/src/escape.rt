@@ -1,6 +1,7 @@
 //! Texts written as JSON strings, with escapes.
-ghost use Rattle.std.specs.Prelude.{◌≡◌, ◌<◌, ◌≤◌, ◌++◌, true, length, IfOk, OnOk, OnErr};
+ghost use Rattle.std.specs.Prelude.{◌≡◌, ◌<◌, ◌≤◌, ◌++◌, ◌∷◌, true, length, IfOk, OnOk, OnErr};
 ghost use Rattle.std.specs.List.{flat_map, position_or_len};
+ghost use Rattle.mlr_spec.specs.Ascii.{quote_mark};
 ghost use Rattle.mlr_spec.specs.Json.{json_string, escaped, escape_letter, hex_digit};
 ghost use Rattle.mlr_json.specs.Escapes.{is_escaped, RepresentsBefore};
 
@@ -14,12 +15,21 @@ pub fn append_json_string(text: &[u8], into: &mut Bytes) -> Result<(), NoMemory>
     ensures ok { OnOk result (into.new ≡ into.old ++ json_string text.now) }
     ensures err { OnErr result (RepresentsBefore into.old into.new) }
 {
-    into.push(b'"')?;
-    append_escaped(text, into)?;
+    append_opened(text, into)?;
     into.push(b'"')
 }
 
+/// Appends a JSON string without its last quote.
+pub(crate) fn append_opened(text: &[u8], into: &mut Bytes) -> Result<(), NoMemory>
+    ensures ok { OnOk result (into.new ≡ into.old ++ quote_mark ∷ flat_map escaped text.now) }
+    ensures err { OnErr result (RepresentsBefore into.old into.new) }
+{
+    into.push(b'"')?;
+    append_escaped(text, into)
+}
+
 /// Goes from one byte that wants an escape to the next.
+#[inline(always)]
 fn append_escaped(text: &[u8], into: &mut Bytes) -> Result<(), NoMemory>
     ensures ok { OnOk result (into.new ≡ into.old ++ flat_map escaped text.now) }
     ensures err { OnErr result (RepresentsBefore into.old into.new) }
@@ -70,7 +80,7 @@ fn plain_prefix(text: &[u8]) -> usize
 fn wants_escape(byte: u8) -> bool
     ensures { result ≡ is_escaped byte }
 {
-    byte < 0x20 || byte == b'"' || byte == b'\\'
+    byte <= b'\\' && (byte < 0x20 || byte == b'"' || byte == b'\\')
 }
 
 fn append_escape(byte: u8, into: &mut Bytes) -> Result<(), NoMemory>

@@ -149,7 +149,7 @@ pub fn word_len(text: &[u8]) -> usize
 
 /// How many bytes come before the first quote or backslash.
 #[inline(always)]
-fn raw_len(text: &[u8]) -> usize
+pub(crate) fn raw_len(text: &[u8]) -> usize
     ensures { result ≡ prefix_len is_raw text.now }
 {
     for (place, byte) in text.iter().enumerate() {

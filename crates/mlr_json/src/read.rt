@@ -14,7 +14,7 @@ ghost use Rattle.mlr_json.specs.Turns.{outcome_at, after_at, IsTurn, IsTurnShort
 use crate::token::{Next, Token, after_blank, following, next_token};
 use crate::{Lexeme, Machine, Scanned, Went, first_lexeme};
 use mlr_spec::NoMemory;
-use mlr_value::Value;
+use mlr_value::{Bytes, Value};
 use std::alloc::Global;
 
 /// What a JSON text is read as. Places of bytes count from 1, and the place after the last byte is one more.
@@ -76,7 +76,7 @@ fn next_turn<'a>(alloc: Global, machine: &mut Machine, text: &'a [u8]) -> Result
         (tokens_left end text.now)) machine.new turn) }
     ensures shorter { IfOk result (IsTurnShorter (length text.now)) }
 {
-    match next_token(alloc, machine.takes_text(), text)? {
+    match next_token(alloc, machine, text)? {
         Next::Blank(following) => Ok(Turn::On(following)),
         Next::Token(token, following) => token_turn(machine, token, text.len(), following),
         Next::Refused => Ok(Turn::Syntax(text.len())),
@@ -90,14 +90,14 @@ fn next_turn<'a>(alloc: Global, machine: &mut Machine, text: &'a [u8]) -> Result
 #[inline(always)]
 fn token_turn<'a>(
     machine: &mut Machine,
-    token: Token,
+    token: Token<'_>,
     left: usize,
     following: &'a [u8],
 ) -> Result<Turn<'a>, NoMemory>
     requires { length following.now < left }
     ensures outcome { IfOk result (λ turn. (end : ℕ)
         → IsTurn end (outcome_at end (frames_of machine.old) machine.old.phase
-        (and_token (end - left) (token_seen token) (tokens_left end following.now))) machine.new
+        (and_token (end - left) (token_seen token.entry) (tokens_left end following.now))) machine.new
         turn) }
     ensures shorter { IfOk result (IsTurnShorter left) }
 {
@@ -110,14 +110,18 @@ fn token_turn<'a>(
 }
 
 #[inline(always)]
-fn take(machine: &mut Machine, token: Token) -> Result<Went, NoMemory>
+fn take(machine: &mut Machine, token: Token<'_>) -> Result<Went, NoMemory>
     ensures { IfOk result (λ went. IsStep (step (frames_of machine.old) machine.old.phase
-        (token_seen token)) went machine.new) }
+        (token_seen token.entry)) went machine.new) }
 {
     match token {
         Token::Mark(mark) => machine.mark(mark),
         Token::Word(value) => machine.word(value),
         Token::Text(text) => machine.text(text),
+        Token::Piece(piece) => {
+            let text = Bytes::copy_of(machine.alloc, piece)?;
+            machine.text(text)
+        }
     }
 }
 

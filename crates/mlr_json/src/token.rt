@@ -3,21 +3,24 @@ ghost use Rattle.std.specs.Prelude.{◌≡◌, ℕ, ◌-◌, ◌<◌, ◌≤◌,
 ghost use Rattle.mlr_spec.specs.JsonTokens.{raw, text_token, and_token, or_stop, token_of_word, decoded};
 ghost use Rattle.mlr_json.specs.Readable.{plain};
 ghost use Rattle.mlr_json.specs.Seen.{lexeme_seen};
+ghost use Rattle.mlr_json.specs.Steps.{frames_of, takes_text};
 ghost use Rattle.mlr_json.specs.Reading.{tokens_left, inside_left, pieces_left, IsFirst, Gives, IsShorter, IsWanted, IsStringEnd, EndsWithin, is_of_string, PieceGives, IsPieceShorter};
 
-use crate::lexeme::blank_len;
-use crate::{Lexeme, Scanned, StringBuilder, first_lexeme, word_value};
+use crate::lexeme::{blank_len, raw_len};
+use crate::{Lexeme, Machine, Scanned, StringBuilder, first_lexeme, word_value};
 use mlr_spec::{InferOpts, JsonMark, NoMemory};
 use mlr_value::{Bytes, Value};
 use std::alloc::Global;
 
 #[derive(Drop)]
-pub(crate) enum Token {
+pub(crate) enum Token<'a> {
     Mark(JsonMark),
     /// A word with its value.
     Word(Value),
     /// A string with its text.
     Text(Bytes),
+    /// A string with its text, which stands in the text that is read.
+    Piece(&'a [u8]),
 }
 
 /// What comes next in a text, with the text after it. The place of a fault is given by how many bytes remain
@@ -25,7 +28,7 @@ pub(crate) enum Token {
 #[derive(Drop)]
 pub(crate) enum Next<'a> {
     Blank(&'a [u8]),
-    Token(Token, &'a [u8]),
+    Token(Token<'a>, &'a [u8]),
     /// A string, where none may come.
     Refused,
     /// A string that is cut off here, or has a byte here that it can't hold.
@@ -46,7 +49,6 @@ pub(crate) enum StringEnd<'a> {
 }
 
 /// What comes next within a string, with the text after it.
-#[derive(Drop)]
 enum PieceAt<'a> {
     Raw(&'a [u8], &'a [u8]),
     Unit(u16, &'a [u8]),
@@ -56,22 +58,20 @@ enum PieceAt<'a> {
     Stop(usize),
 }
 
-/// Reads the next token, or blanks. A string is read only where it is wanted.
+/// Reads the next token, or blanks. A string is read only where the machine takes one.
 #[inline(always)]
-pub(crate) fn next_token(alloc: Global, wants_text: bool, text: &[u8]) -> Result<Next<'_>, NoMemory>
+pub(crate) fn next_token<'a>(
+    alloc: Global,
+    machine: &Machine,
+    text: &'a [u8],
+) -> Result<Next<'a>, NoMemory>
     ensures tokens { IfOk result (λ next. (end : ℕ) → length text.now ≤ end
         → Gives end (length text.now) next (tokens_left end text.now)) }
     ensures shorter { IfOk result (IsShorter (length text.now)) }
-    ensures wanted { IfOk result (IsWanted wants_text) }
+    ensures wanted { IfOk result (IsWanted (takes_text (frames_of machine.now) machine.now.phase)) }
 {
     match first_lexeme(false, text) {
-        Scanned::Found(lexeme, len) => token_of(
-            alloc,
-            wants_text,
-            lexeme,
-            text,
-            following(text, len),
-        ),
+        Scanned::Found(lexeme, len) => token_of(alloc, machine, lexeme, text, following(text, len)),
         Scanned::Begun => Ok(Next::End),
         Scanned::Bad(offset) => Ok(Next::Bad(text.len() - offset)),
     }
@@ -81,7 +81,7 @@ pub(crate) fn next_token(alloc: Global, wants_text: bool, text: &[u8]) -> Result
 #[inline(always)]
 fn token_of<'a>(
     alloc: Global,
-    wants_text: bool,
+    machine: &Machine,
     lexeme: Lexeme<'_>,
     text: &[u8],
     following: &'a [u8],
@@ -91,12 +91,12 @@ fn token_of<'a>(
         → IsFirst false end text.now (lexeme_seen lexeme.entry) following.now
         → Gives end (length text.now) next (tokens_left end text.now)) }
     ensures shorter { IfOk result (IsShorter (length text.now)) }
-    ensures wanted { IfOk result (IsWanted wants_text) }
+    ensures wanted { IfOk result (IsWanted (takes_text (frames_of machine.now) machine.now.phase)) }
 {
     match lexeme {
         Lexeme::Mark(mark) => Ok(Next::Token(Token::Mark(mark), following)),
         Lexeme::Word(word) => word_token(alloc, word, text, following),
-        Lexeme::Quote => string_token(alloc, wants_text, text, following),
+        Lexeme::Quote => string_token(alloc, machine, text, following),
         Lexeme::Blank | Lexeme::Raw(_) | Lexeme::Unit(_) => Ok(Next::Blank(following)),
     }
 }
@@ -127,7 +127,7 @@ fn word_token<'a>(
 #[inline(always)]
 fn string_token<'a>(
     alloc: Global,
-    wanted: bool,
+    machine: &Machine,
     text: &[u8],
     following: &'a [u8],
 ) -> Result<Next<'a>, NoMemory>
@@ -137,27 +137,17 @@ fn string_token<'a>(
         (and_token (end - length text.now) (text_token (decoded (pieces_left end following.now)))
         (inside_left end following.now))) }
     ensures shorter { IfOk result (IsShorter (length text.now)) }
-    ensures wanted { IfOk result (IsWanted wanted) }
+    ensures wanted { IfOk result (IsWanted (takes_text (frames_of machine.now) machine.now.phase)) }
 {
-    if !wanted {
+    if !machine.takes_text() {
         return Ok(Next::Refused);
     }
-    match read_string(alloc, following)? {
+    if let Some((piece, following)) = one_piece(following) {
+        return Ok(Next::Token(Token::Piece(piece), following));
+    }
+    match read_pieces(alloc, following)? {
         StringEnd::Closed(text, following) => Ok(Next::Token(Token::Text(text), following)),
         StringEnd::Cut(rest) => Ok(Next::Cut(rest)),
-    }
-}
-
-/// Reads a string from after its first quote.
-#[inline(always)]
-fn read_string(alloc: Global, text: &[u8]) -> Result<StringEnd<'_>, NoMemory>
-    ensures tokens { IfOk result (λ ended. (end : ℕ) → length text.now ≤ end
-        → IsStringEnd end text.now ended) }
-    ensures within { IfOk result (EndsWithin (length text.now)) }
-{
-    match one_piece(text) {
-        Some((piece, following)) => Ok(StringEnd::Closed(Bytes::copy_of(alloc, piece)?, following)),
-        None => read_pieces(alloc, text),
     }
 }
 
@@ -169,16 +159,14 @@ fn one_piece(text: &[u8]) -> Option<(&[u8], &[u8])>
         × (inside_left end text.now ≡ tokens_left end found.1.now)) }
     ensures within { IfSome result (λ found. length found.1.now < length text.now) }
 {
-    let PieceAt::Raw(piece, rest) = piece_at(text) else {
-        return None;
-    };
-    match piece_at(rest) {
-        PieceAt::Quote(following) => Some((piece, following)),
+    let len = raw_len(text);
+    match following(text, len) {
+        [b'"', rest @ ..] if len > 0 => Some((&text[..len], rest)),
         _ => None,
     }
 }
 
-/// Reads a string piece by piece.
+/// Reads a string from after its first quote, piece by piece.
 #[inline(never)]
 fn read_pieces(alloc: Global, text: &[u8]) -> Result<StringEnd<'_>, NoMemory>
     ensures tokens { IfOk result (λ ended. (end : ℕ) → length text.now ≤ end

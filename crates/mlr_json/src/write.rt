@@ -7,7 +7,7 @@ ghost use Rattle.mlr_value.specs.Value.{tree_of};
 ghost use Rattle.mlr_json.specs.Escapes.{RepresentsBefore};
 ghost use Rattle.mlr_json.specs.Writing.{gap, line_end, led};
 
-use crate::escape::append_json_string;
+use crate::escape::{append_json_string, append_opened};
 use mlr_spec::{JsonStyle, NoMemory};
 use mlr_value::{ArrayValue, Bytes, MapValue, Value, append_text};
 use std::alloc::Global;
@@ -80,8 +80,8 @@ fn append_field(
         ++ json_field style level (key.now, tree_of value.now)) }
     ensures err { OnErr result (RepresentsBefore into.old into.new) }
 {
-    append_json_string(key, into)?;
-    into.append(b": ")?;
+    append_opened(key, into)?;
+    into.append(b"\": ")?;
     append_at(value, style, level, into)
 }
 
@@ -210,10 +210,14 @@ fn append_gap(lines: bool, first: bool, level: usize, into: &mut Bytes) -> Resul
     if !lines {
         return if first { Ok(()) } else { into.append(b", ") };
     }
-    if !first {
-        into.push(b',')?;
+    if first {
+        return append_new_line(level, into);
     }
-    append_new_line(level, into)
+    if level <= SHORT_LEVEL {
+        return into.append(&SHORT_GAP[..2 + 2 * level]);
+    }
+    into.push(b',')?;
+    append_deep_line(level, into)
 }
 
 /// What precedes a closing bracket.
@@ -229,7 +233,10 @@ fn append_line_end(lines: bool, level: usize, into: &mut Bytes) -> Result<(), No
     }
 }
 
-/// A new line of a level up to which it is written at once.
+/// A comma and a new line, of a level up to which they are written at once.
+const SHORT_GAP: &[u8] = b",\n              ";
+
+/// The new line alone.
 const SHORT_LINE: &[u8] = b"\n              ";
 
 const SHORT_LEVEL: usize = 7;

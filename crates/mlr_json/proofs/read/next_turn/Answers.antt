@@ -1,6 +1,6 @@
 use Rattle.std.proofs.Common.{ℕ, ◌≤◌, length, ap, sym, subst, ◌∙◌}
 use Rattle.std.proofs.lemmas.Result.{IfOk-weaker}
-use Rattle.mlr_json.specs.Steps.{frames_of}
+use Rattle.mlr_json.specs.Steps.{frames_of, takes_text}
 use Rattle.mlr_json.specs.Reading.{Gives, IsWanted, tokens_left}
 use Rattle.mlr_json.specs.Turns.{outcome_at, IsTurn}
 use Rattle.mlr_json.proofs.Turned.{is-shallow, text-cut, text-refused}
@@ -25,14 +25,14 @@ returns-in-Refused-clause-outcome c = λ end fits.
     let frames = frames_of c.args.machine.now in
     let at = c.args.machine.now.phase in
     let given = subst (λ next. Gives end (length text) next (tokens_left end text)) c.in-Refused.is (c.in_ok-following.ensures.tokens end fits) in
-    let refused = subst (IsWanted c.takes_text.result) c.in-Refused.is c.in_ok-following.ensures.wanted in
-    ap (outcome_at end frames at) given.2 ∙ text-refused end frames at _ given.0 given.1 (sym c.takes_text.ensures ∙ refused)
+    let refused = subst (IsWanted (takes_text frames at)) c.in-Refused.is c.in_ok-following.ensures.wanted in
+    ap (outcome_at end frames at) given.2 ∙ text-refused end frames at _ given.0 given.1 refused
 
 pub returns-in-Cut-clause-outcome : goal.returns-in-Cut-clause-outcome
 returns-in-Cut-clause-outcome c = λ end fits.
     let text = c.args.text.now in
     let machine = c.args.machine.now in
     let given = subst (λ next. Gives end (length text) next (tokens_left end text)) c.in-Cut.is (c.in_ok-following.ensures.tokens end fits) in
-    let wanted = subst (IsWanted c.takes_text.result) c.in-Cut.is c.in_ok-following.ensures.wanted in
+    let wanted = subst (IsWanted (takes_text (frames_of machine) machine.phase)) c.in-Cut.is c.in_ok-following.ensures.wanted in
     ap (outcome_at end (frames_of machine) machine.phase) given.1
-    ∙ text-cut end (frames_of machine) machine.phase _ _ given.0 (sym c.takes_text.ensures ∙ wanted) (is-shallow machine)
+    ∙ text-cut end (frames_of machine) machine.phase _ _ given.0 wanted (is-shallow machine)
