@@ -76,7 +76,7 @@ impl Model for MemInputs {
 }
 
 impl MemInputs {
-    /// Inputs with these contents. The first entry of a name counts, and opening any other name is a fault.
+    /// Inputs before the first call. The first of the contents of a name counts.
     ///
     /// Each read that takes bytes uses one of the sizes in `pieces`, in order. `failing` has the numbers, from
     /// 1 over all calls of `open` and `read`, of those that fail.
