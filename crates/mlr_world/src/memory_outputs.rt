@@ -1,5 +1,5 @@
 //! Outputs in memory for tests, with limited room and chosen failures.
-ghost use Rattle.std.specs.Prelude.{◌≡◌, ◌≤◌, ◌+◌, ◌++◌, ◌∷◌, ◌||◌, [], true, false, Some, All, IfOk, OnOk, if◌then◌else◌, is_ok, is_none, length, vec_len, vec_capacity};
+ghost use Rattle.std.specs.Prelude.{◌≡◌, ◌≤◌, ◌+◌, ◌++◌, ◌∷◌, ◌||◌, [], true, false, Some, None, All, IfOk, OnOk, if◌then◌else◌, is_ok, is_none, length, vec_len, vec_capacity};
 ghost use Rattle.std.specs.Option.{option_map};
 ghost use Rattle.mlr_event.specs.declared.names.Target.{Target};
 ghost use Rattle.mlr_world.specs.Calls.{next_fails, called};
@@ -117,6 +117,8 @@ impl Outputs for MemOutputs {
         ensures memory { Tallied (lacked_memory result) self.old.shortages self.new.shortages }
         ensures fails { call_failed result ≡ next_fails self.old.calls }
         ensures kept { call_failed result ≡ true → self.new.held ≡ self.old.held }
+        ensures enough { lacked_memory result ≡ true
+            → held_at self.old.held target.now ≡ None }
         ensures calls { self.new.calls ≡ called self.old.calls }
         ensures room { self.new.room ≡ self.old.room }
     {
@@ -275,6 +277,8 @@ fn open_text(
         (held_at (pairs_of entries.old.items)) (held_at (pairs_of entries.new.items)) }
     ensures fails { call_failed result ≡ fails }
     ensures kept { fails ≡ true → entries.new.items ≡ entries.old.items }
+    ensures enough { lacked_memory result ≡ true
+        → held_at (pairs_of entries.old.items) target.now ≡ None }
     ensures fine { All (HasRoom room) entries.old.items → All (HasRoom room) entries.new.items }
 {
     if fails {
@@ -294,6 +298,8 @@ pub(crate) fn open_entry(
     ensures bytes { ChangesOnly target.now (OpenLeaves mode result)
         (held_at (pairs_of entries.old.items)) (held_at (pairs_of entries.new.items)) }
     ensures no_fault { call_failed result ≡ false }
+    ensures enough { lacked_memory result ≡ true
+        → held_at (pairs_of entries.old.items) target.now ≡ None }
     ensures fine { All (HasRoom room) entries.old.items → All (HasRoom room) entries.new.items }
 {
     match place_of(entries, target) {
