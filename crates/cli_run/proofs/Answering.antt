@@ -8,7 +8,7 @@ use Rattle.mlr_event.specs.declared.names.InputName.{InputName}
 use Rattle.mlr_event.specs.declared.names.Target.TheVariants.{Stdout, Stderr}
 use Rattle.mlr_world.specs.Inputs.{Contents}
 use Rattle.mlr_world.specs.Outputs.{Held, ChangesAt}
-use Rattle.mlr_world.specs.Taken.{Take}
+use Rattle.mlr_world.specs.Taken.{Take, OpenEntry}
 use Rattle.mlr_world.specs.declared.outputs.Done.{Done}
 use Rattle.mlr_world.proofs.Changes.{ChangesAt-none}
 use Rattle.serial_core.specs.declared.answer.Ended.{Ended}
@@ -63,7 +63,7 @@ told-nothing None taken = tt
 told-nothing (Some told) None = tt
 told-nothing (Some told) (Some takes) = tt
 
-pub ran-refused : (words : List (List ℕ)) (number : ℕ) → IsRefusedAt words number → (contents : Option Contents) (taken : Option (List Take)) (name : Option InputName) (held : Option Held)
+pub ran-refused : (words : List (List ℕ)) (number : ℕ) → IsRefusedAt words number → (contents : Option Contents) (taken : Option (List Take)) (name : Option OpenEntry) (held : Option Held)
     → Ran words [] [] (answer.Refused (record { word = number; why = why.NotBuilt })) contents taken taken held held
 ran-refused words number at contents taken name held =
     let none = following-none contents taken name in
@@ -85,7 +85,7 @@ told-before (Some told) (Some before) taken' given P is holds = subst (λ t. IfS
 
 -- a run of a command line
 pub ran-line : (words names : List (List ℕ)) (command : serial.Command) → IsCommandLine words names command
-    → (ended : Ended) (contents : Option Contents) (taken taken' : Option (List Take)) (name' : Option InputName) (held held' : Option Held) → SerialRun ended command contents taken taken' name' held held'
+    → (ended : Ended) (contents : Option Contents) (taken taken' : Option (List Take)) (name' : Option OpenEntry) (held held' : Option Held) → SerialRun ended command contents taken taken' name' held held'
     → Ran words names (command.write.format ∷ []) ended contents taken taken' held held'
 ran-line words names command is ended contents taken taken' name' held held' r = record {
   meant = Some command;

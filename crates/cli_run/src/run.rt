@@ -153,7 +153,7 @@ fn run_accepted<I: Inputs, O: Outputs>(
         → IsLine words.now command.formats verbs (names_of command words.now)
         → SerialRun result (command_of command.formats verbs (names_of command words.now)
         words.now) (I.contents inputs.old) (I.taken inputs.old) (I.taken inputs.new)
-        (I.open_name inputs.new) (O.held outputs.old) (O.held outputs.new) }
+        (I.open_entry inputs.new) (O.held outputs.old) (O.held outputs.new) }
     ensures contents { I.contents inputs.new ≡ I.contents inputs.old }
     ensures input_cause { InputCause result (I.faults inputs.old) (I.faults inputs.new) }
     ensures output_counts { Counted (has_failed result) (O.faults outputs.old)

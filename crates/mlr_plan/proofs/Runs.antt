@@ -5,7 +5,7 @@ use Rattle.mlr_event.specs.declared.names.InputName.{InputName}
 use Rattle.mlr_event.specs.declared.names.Target.TheVariants.{Stdout}
 use Rattle.mlr_world.specs.Inputs.{Contents}
 use Rattle.mlr_world.specs.Outputs.{Held}
-use Rattle.mlr_world.specs.Taken.{Take}
+use Rattle.mlr_world.specs.Taken.{Take, OpenEntry}
 use Rattle.mlr_world.proofs.Changes.{ChangesAt-none}
 use Rattle.outlet.specs.Represents.{AppendsPrefix}
 use Rattle.outlet.proofs.Writing.{nothing-put}
@@ -29,7 +29,7 @@ command-of plan sound = from plan.styles.items refl
     )
 
 -- want of memory before the first read
-pub unread : (command : Command) (contents : Option Contents) (taken : Option (List Take)) (name : Option InputName) (held : Option Held) → Run NoMemory command contents taken taken name held held
+pub unread : (command : Command) (contents : Option Contents) (taken : Option (List Take)) (name : Option OpenEntry) (held : Option Held) → Run NoMemory command contents taken taken name held held
 unread command contents taken name held = record {
   given = [];
   order = tt;

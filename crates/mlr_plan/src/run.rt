@@ -38,7 +38,7 @@ pub fn run_serial<I: Inputs, O: Outputs>(
     // What was taken, what the outcome says of it, and what standard output is left with.
     ensures run { (command : Command) → IsCommandOf plan.now command
         → Run result command (I.contents inputs.old) (I.taken inputs.old) (I.taken inputs.new)
-        (I.open_name inputs.new) (O.held outputs.old) (O.held outputs.new) }
+        (I.open_entry inputs.new) (O.held outputs.old) (O.held outputs.new) }
     ensures contents { I.contents inputs.new ≡ I.contents inputs.old }
     // Read comes only where a call on that input failed, and Written exactly where one on standard output did.
     ensures cause { InputCause result (I.faults inputs.old) (I.faults inputs.new) }

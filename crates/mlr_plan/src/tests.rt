@@ -460,7 +460,7 @@ impl Inputs for Noting<'_> {
 
     ghost taken = { λ s. ⟦<MemInputs as Inputs>⟧.taken s.inputs };
 
-    ghost open_name = { λ s. ⟦<MemInputs as Inputs>⟧.open_name s.inputs };
+    ghost open_entry = { λ s. ⟦<MemInputs as Inputs>⟧.open_entry s.inputs };
 
     ghost faults = { λ s. ⟦<MemInputs as Inputs>⟧.faults s.inputs };
 

@@ -1,5 +1,5 @@
 -- The inputs in memory: the contents of each name, and the bytes taken.
-use Rattle.std.specs.Prelude.{◌≡◌, ◌≤◌, ◌<◌, ◌+◌, ◌++◌, ℕ, Bool, true, false, List, [], length, take, drop, map, min, Option, Some, None, slice_index_or}
+use Rattle.std.specs.Prelude.{◌≡◌, ◌≤◌, ◌<◌, ◌+◌, ◌-◌, ◌++◌, ℕ, Bool, true, false, List, [], length, take, drop, map, min, Option, Some, None, slice_get, slice_index_or}
 use Rattle.std.specs.Option.{option_map}
 use Rattle.mlr_event.specs.declared.names.InputName.{InputName}
 use Rattle.mlr_event.specs.declared.names.InputName.TheVariants as input
@@ -9,7 +9,7 @@ use Rattle.mlr_world.specs.declared.memory_inputs.Reading.{Reading}
 use Rattle.mlr_world.specs.Inputs.{Contents}
 use Rattle.mlr_world.specs.MemorySource.{contents_at}
 use Rattle.mlr_world.specs.Outputs.{or_empty}
-use Rattle.mlr_world.specs.Taken.{Take, last_take}
+use Rattle.mlr_world.specs.Taken.{Take, OpenEntry, entry_of}
 
 -- the entry at a place
 abbrev pub entry_at : List (InputName × List ℕ) → ℕ → InputName × List ℕ
@@ -33,14 +33,14 @@ take_of contents reading =
 abbrev pub takes_of : List (InputName × List ℕ) → List Reading → List Take
 takes_of contents readings = map (take_of contents) readings
 
--- the name of the input that was opened last
-abbrev pub last_name : List Take → Option InputName
-last_name taken = option_map (λ take. take.name) (last_take taken)
+-- the input that was opened last
+abbrev pub last_entry : List Take → Option OpenEntry
+last_entry taken = option_map (λ take. entry_of take.name (length taken - 1)) (slice_get taken (length taken - 1))
 
 -- the same, if it is still open
-abbrev pub open_of : Bool → List Take → Option InputName
-open_of true taken = last_name taken
-open_of false taken = None
+abbrev pub entry_if : Bool → List Take → Option OpenEntry
+entry_if true taken = last_entry taken
+entry_if false taken = None
 
 -- a reading is of the first entry of its name, and has taken no more bytes than the entry has
 pub record IsReading (contents : List (InputName × List ℕ)) (reading : Reading) : Type 0 where
@@ -56,7 +56,7 @@ TakesFrom max text place got.End into into' = (length text ≤ place) × (into' 
 TakesFrom max text place got.Failed into into' = ⊥
 TakesFrom max text place got.NoMemory into into' = into' ≡ into
 
--- the bytes that are left of the input that was opened last
+-- the bytes that are left of an input, by its entry
 abbrev pub left_of : Contents → Option Take → List ℕ
 left_of contents None = []
 left_of contents (Some take) = drop (length take.bytes) (or_empty (contents take.name))

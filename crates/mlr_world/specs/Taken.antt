@@ -1,5 +1,5 @@
 -- The bytes that were taken from the inputs.
-use Rattle.std.specs.Prelude.{ℕ, Bool, true, false, List, [], ◌∷◌, ◌++◌, Option, Some, None}
+use Rattle.std.specs.Prelude.{ℕ, zero, suc, Bool, true, false, List, [], ◌∷◌, ◌++◌, Option, Some, None, slice_get}
 use Rattle.mlr_event.specs.declared.names.InputName.{InputName}
 
 -- an input that was opened: its name, the bytes taken from it, and whether its end was met
@@ -19,14 +19,26 @@ grown piece take = record { name = take.name; bytes = take.bytes ++ piece; ended
 abbrev pub ended : Take → Take
 ended take = record { name = take.name; bytes = take.bytes; ended = true }
 
--- a list with its last entry changed
-abbrev pub with_last : (Take → Take) → List Take → List Take
-with_last change [] = []
-with_last change (take ∷ []) = change take ∷ []
-with_last change (take ∷ next ∷ more) = take ∷ with_last change (next ∷ more)
+-- The open input: its name, and the place of its entry in what was taken. The place is 0 where that isn't known.
+pub record OpenEntry : Type 0 where
+  pub name : InputName
+  pub place : ℕ
 
--- its last entry
-abbrev pub last_take : List Take → Option Take
-last_take [] = None
-last_take (take ∷ []) = Some take
-last_take (take ∷ next ∷ more) = last_take (next ∷ more)
+abbrev pub entry_of : InputName → ℕ → OpenEntry
+entry_of name place = record { name = name; place = place }
+
+-- a list with the entry at this place changed
+abbrev pub with_entry : ℕ → (Take → Take) → List Take → List Take
+with_entry place change [] = []
+with_entry zero change (take ∷ takes) = change take ∷ takes
+with_entry (suc place) change (take ∷ takes) = take ∷ with_entry place change takes
+
+-- what was taken, with the entry of the open input changed
+abbrev pub with_open : Option OpenEntry → (Take → Take) → List Take → List Take
+with_open None change takes = takes
+with_open (Some entry) change takes = with_entry entry.place change takes
+
+-- the entry of the open input
+abbrev pub open_take : Option OpenEntry → List Take → Option Take
+open_take None takes = None
+open_take (Some entry) takes = slice_get takes entry.place

@@ -2,7 +2,7 @@
 ghost use Rattle.std.specs.Prelude.{◌≡◌, ◌≤◌, ℕ, List, Option, IsSome, IfSome};
 ghost use Rattle.mlr_event.specs.declared.names.InputName.{InputName};
 ghost use Rattle.mlr_world.specs.Counts.{Counted};
-ghost use Rattle.mlr_world.specs.Taken.{Take};
+ghost use Rattle.mlr_world.specs.Taken.{Take, OpenEntry};
 ghost use Rattle.mlr_world.specs.Inputs.{OpenTakes, OpenFinds, opens, open_failed, ReadTakes, read_failed};
 
 use mlr_event::InputName;
@@ -43,8 +43,8 @@ pub trait Inputs {
     /// The bytes taken, with one entry for each successful open, in order.
     ghost taken: { Self → Option (List Take) };
 
-    /// The name of the open input.
-    ghost open_name: { Self → Option InputName };
+    /// The open input, with the place of its entry in `taken`.
+    ghost open_entry: { Self → Option OpenEntry };
 
     /// How many calls on a name have failed. The count never falls, and stays at 2^64 - 1.
     ghost faults: { Self → InputName → ℕ };
@@ -52,7 +52,7 @@ pub trait Inputs {
     /// Opens an input at its start, and closes the one that was open. Unless it returns Ok, no input is open.
     fn open(&mut self, name: &InputName) -> Opened
         ensures contents { contents self.new ≡ contents self.old }
-        ensures open { open_name self.new ≡ opens name.now result }
+        ensures open { open_entry self.new ≡ opens name.now result (taken self.old) }
         ensures taken { OpenTakes name.now result (taken self.old) (taken self.new) }
         ensures finds { OpenFinds name.now result (contents self.old) }
         ensures counts { Counted (open_failed result) (faults self.old) (faults self.new)
@@ -61,12 +61,12 @@ pub trait Inputs {
     /// Reads up to `max` bytes of the open input, and appends them to `into`. After the end it returns End
     /// again.
     fn read(&mut self, max: usize, into: &mut Bytes) -> Got
-        requires open { IsSome (open_name self.old) }
+        requires open { IsSome (open_entry self.old) }
         requires some { 1 ≤ max }
         ensures contents { contents self.new ≡ contents self.old }
-        ensures open { open_name self.new ≡ open_name self.old }
-        ensures taken { ReadTakes max result (contents self.old) (taken self.old) (taken self.new)
-            into.old into.new }
-        ensures counts { IfSome (open_name self.old) (Counted (read_failed result) (faults self.old)
-            (faults self.new)) };
+        ensures open { open_entry self.new ≡ open_entry self.old }
+        ensures taken { ReadTakes max result (open_entry self.old) (contents self.old)
+            (taken self.old) (taken self.new) into.old into.new }
+        ensures counts { IfSome (open_entry self.old) (λ entry. Counted (read_failed result)
+            (faults self.old) (faults self.new) entry.name) };
 }

@@ -3,11 +3,11 @@ ghost use Rattle.std.specs.Prelude.{◌≡◌, ◌<◌, ◌≤◌, ◌||◌, fal
 ghost use Rattle.mlr_event.specs.declared.names.InputName.{InputName};
 ghost use Rattle.mlr_world.specs.Calls.{next_fails, called, limit_of, sizes_after};
 ghost use Rattle.mlr_world.specs.Counts.{Counted};
-ghost use Rattle.mlr_world.specs.Taken.{Take, last_take};
+ghost use Rattle.mlr_world.specs.Taken.{Take, open_take};
 ghost use Rattle.mlr_world.specs.Inputs.{OpenTakes, OpenFinds, opens, open_failed, ReadTakes, read_failed};
 ghost use Rattle.mlr_world.specs.MemoryTexts.{same_input, IsFirstPlace};
 ghost use Rattle.mlr_world.specs.MemorySource.{Source, source_of, contents_at};
-ghost use Rattle.mlr_world.specs.MemoryInputs.{takes_of, last_name, left_of, IsReading, TakesFrom, TakesUpTo};
+ghost use Rattle.mlr_world.specs.MemoryInputs.{takes_of, last_entry, left_of, IsReading, TakesFrom, TakesUpTo};
 
 use crate::calls::{Failing, Pieces};
 use crate::{Got, Inputs, Opened};
@@ -59,13 +59,13 @@ impl Model for MemInputs {
 
     ghost Value = { Source };
 
-    ghost use Rattle.mlr_world.specs.MemoryInputs.{takes_of, open_of, IsReading};
+    ghost use Rattle.mlr_world.specs.MemoryInputs.{takes_of, entry_if, IsReading};
 
     ghost view = { λ s. record {
       contents = s.contents.items;
       taken = takes_of s.contents.items
           s.readings.items;
-      open_name = open_of s.is_open
+      open_entry = entry_if s.is_open
           (takes_of s.contents.items s.readings.items);
       faults = s.faults;
       pieces = s.pieces;
@@ -76,7 +76,7 @@ impl Model for MemInputs {
 }
 
 impl MemInputs {
-    /// Inputs with these contents. The first entry of a name counts, and opening any other name is a fault.
+    /// Inputs before the first call. The first of the contents of a name counts.
     ///
     /// Each read that takes bytes uses one of the sizes in `pieces`, in order. `failing` has the numbers, from
     /// 1 over all calls of `open` and `read`, of those that fail.
@@ -104,13 +104,13 @@ impl Inputs for MemInputs {
 
     ghost taken = { λ s. Some s.taken };
 
-    ghost open_name = { λ s. s.open_name };
+    ghost open_entry = { λ s. s.open_entry };
 
     ghost faults = { λ s _. s.faults };
 
     fn open(&mut self, name: &InputName) -> Opened
         ensures contents { self.new.contents ≡ self.old.contents }
-        ensures open { self.new.open_name ≡ opens name.now result }
+        ensures open { self.new.open_entry ≡ opens name.now result (Some self.old.taken) }
         ensures taken { OpenTakes name.now result (Some self.old.taken) (Some self.new.taken) }
         ensures finds { OpenFinds name.now result (Some (contents_at self.old.contents)) }
         ensures counts { Counted (open_failed result) (λ _. self.old.faults)
@@ -144,18 +144,19 @@ impl Inputs for MemInputs {
     }
 
     fn read(&mut self, max: usize, into: &mut Bytes) -> Got
-        requires open { IsSome self.old.open_name }
+        requires open { IsSome self.old.open_entry }
         requires some { 1 ≤ max }
         ensures contents { self.new.contents ≡ self.old.contents }
-        ensures open { self.new.open_name ≡ self.old.open_name }
-        ensures taken { ReadTakes max result (Some (contents_at self.old.contents))
-            (Some self.old.taken) (Some self.new.taken) into.old into.new }
-        ensures counts { IfSome self.old.open_name (Counted (read_failed result)
-            (λ _. self.old.faults) (λ _. self.new.faults)) }
+        ensures open { self.new.open_entry ≡ self.old.open_entry }
+        ensures taken { ReadTakes max result self.old.open_entry
+            (Some (contents_at self.old.contents)) (Some self.old.taken)
+            (Some self.new.taken) into.old into.new }
+        ensures counts { IfSome self.old.open_entry (λ entry. Counted (read_failed result)
+            (λ _. self.old.faults) (λ _. self.new.faults) entry.name) }
         ensures fails { read_failed result ≡ next_fails self.old.calls }
         ensures calls { self.new.calls ≡ called self.old.calls }
-        ensures most { TakesUpTo (limit_of self.old.pieces max) result
-            (left_of (contents_at self.old.contents) (last_take self.old.taken)) }
+        ensures most { TakesUpTo (limit_of self.old.pieces max) result (left_of
+            (contents_at self.old.contents) (open_take self.old.open_entry self.old.taken)) }
         ensures pieces { self.new.pieces ≡ sizes_after result self.old.pieces }
     {
         if self.failing.next() {
@@ -193,15 +194,16 @@ pub(crate) fn take_on(
     requires within { limit ≤ max }
     requires last { 0 < length readings.old.items }
     requires fine { All (IsReading contents.now) readings.old.items }
-    ensures taken { ReadTakes max result (Some (contents_at contents.now))
-        (Some (takes_of contents.now readings.old.items))
+    ensures taken { ReadTakes max result (last_entry (takes_of contents.now readings.old.items))
+        (Some (contents_at contents.now)) (Some (takes_of contents.now readings.old.items))
         (Some (takes_of contents.now readings.new.items)) into.old into.new }
     ensures most { TakesUpTo limit result (left_of (contents_at contents.now)
-        (last_take (takes_of contents.now readings.old.items))) }
+        (open_take (last_entry (takes_of contents.now readings.old.items))
+        (takes_of contents.now readings.old.items))) }
     ensures no_fault { read_failed result ≡ false }
     ensures fine { All (IsReading contents.now) readings.new.items }
-    ensures name { last_name (takes_of contents.now readings.new.items)
-        ≡ last_name (takes_of contents.now readings.old.items) }
+    ensures entry { last_entry (takes_of contents.now readings.new.items)
+        ≡ last_entry (takes_of contents.now readings.old.items) }
 {
     let last = readings.len() - 1;
     let reading = readings[last];

@@ -71,12 +71,11 @@ impl Model for MemOutputs {
 }
 
 impl MemOutputs {
-    /// Outputs that hold these texts, and standard output and standard error, which are empty unless they are
-    /// in the list. The first entry of a target counts.
+    /// Outputs before the first call. The first of the texts of a target counts.
     ///
-    /// `room` is the number of bytes that may be written over all targets. The memory for them is allocated
-    /// here, and by each open that adds a target. `failing` has the numbers, from 1 over all calls of `open`,
-    /// `write` and `close`, of those that fail.
+    /// `room` is the number of bytes that may be written over all targets. The memory for as many is allocated
+    /// here for each target, and by each open that adds one. `failing` has the numbers, from 1 over all calls
+    /// of `open`, `write` and `close`, of those that fail.
     pub fn new(
         alloc: Global,
         held: Vec<(Target, Bytes)>,

@@ -2,6 +2,7 @@
 ghost use Rattle.std.specs.Prelude.{◌≡◌, ◌↔◌, ◌≤◌, [], ◌++◌, length, take, drop, min, None, IsTrue, IsErr, IfOk, OnOk, OnErr};
 ghost use Rattle.std.specs.declared.result.Result.TheVariants.{Ok};
 ghost use Rattle.mlr_event.specs.declared.names.InputName.{InputName};
+ghost use Rattle.mlr_world.specs.Inputs.{untold_entry};
 ghost use Rattle.std.specs.Io.KnownBytes.{Consumes, IsAtEnd, Keeps};
 
 use crate::{Got, Inputs, Opened};
@@ -40,7 +41,7 @@ impl<R: Files + Input + Drop> RealInputs<R> {
     /// No input is open yet. It allocates one buffer; later calls allocate only for names and for the bytes
     /// that a read returns.
     pub fn new(alloc: Global, rt: R) -> Result<Self, NoMemory>
-        ensures closed { IfOk result (λ made. ⟦<RealInputs<R> as Inputs>⟧.open_name made ≡ None) }
+        ensures closed { IfOk result (λ made. ⟦<RealInputs<R> as Inputs>⟧.open_entry made ≡ None) }
         ensures faults { IfOk result (λ made. (name : InputName)
             → ⟦<RealInputs<R> as Inputs>⟧.faults made name ≡ 0) }
     {
@@ -64,7 +65,7 @@ impl<R: Files + Input> Inputs for RealInputs<R> {
 
     ghost taken = { λ _. None };
 
-    ghost open_name = { λ s. s.name };
+    ghost open_entry = { λ s. untold_entry s.name };
 
     ghost faults = { λ s _. s.faults };
 

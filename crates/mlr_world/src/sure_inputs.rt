@@ -2,7 +2,7 @@
 ghost use Rattle.std.specs.Prelude.{◌≡◌, ◌≤◌, ◌++◌, ◌∷◌, [], false, Some, IfOk, IfSome, IsSome, if◌then◌else◌, is_ok};
 ghost use Rattle.mlr_event.specs.declared.names.InputName.{InputName};
 ghost use Rattle.mlr_world.specs.Counts.{Counted};
-ghost use Rattle.mlr_world.specs.Taken.{Take, last_take};
+ghost use Rattle.mlr_world.specs.Taken.{Take, open_take};
 ghost use Rattle.mlr_world.specs.Inputs.{OpenTakes, OpenFinds, opens, open_failed, ReadTakes, read_failed};
 ghost use Rattle.mlr_world.specs.MemoryTexts.{same_input, IsFirstPlace};
 ghost use Rattle.mlr_world.specs.MemorySource.{SureSource, sure_source_of, contents_at};
@@ -48,14 +48,14 @@ impl Model for SureInputs {
 
     ghost Value = { SureSource };
 
-    ghost use Rattle.mlr_world.specs.MemoryInputs.{takes_of, open_of};
+    ghost use Rattle.mlr_world.specs.MemoryInputs.{takes_of, entry_if};
     ghost use Rattle.mlr_world.specs.SureContents.{SureState};
 
     ghost view = { λ s. record {
       contents = take s.given s.entries.items;
       taken = takes_of
           s.entries.items s.readings.items;
-      open_name = open_of s.is_open
+      open_entry = entry_if s.is_open
           (takes_of s.entries.items s.readings.items);
     } };
 
@@ -82,7 +82,7 @@ impl Inputs for SureInputs {
 
     ghost taken = { λ s. Some s.taken };
 
-    ghost open_name = { λ s. s.open_name };
+    ghost open_entry = { λ s. s.open_entry };
 
     ghost faults = { λ s _. 0 };
 
@@ -108,15 +108,16 @@ impl Inputs for SureInputs {
 
     /// Reads as many bytes as remain, at most `max`.
     fn read(&mut self, max: usize, into: &mut Bytes) -> Got
-        requires open { IsSome self.old.open_name }
+        requires open { IsSome self.old.open_entry }
         requires some { 1 ≤ max }
         ensures contents { self.new.contents ≡ self.old.contents }
-        ensures open { self.new.open_name ≡ self.old.open_name }
-        ensures taken { ReadTakes max result (Some (sure_contents self.old.contents))
-            (Some self.old.taken) (Some self.new.taken) into.old into.new }
+        ensures open { self.new.open_entry ≡ self.old.open_entry }
+        ensures taken { ReadTakes max result self.old.open_entry
+            (Some (sure_contents self.old.contents)) (Some self.old.taken)
+            (Some self.new.taken) into.old into.new }
         ensures no_fault { read_failed result ≡ false }
         ensures most { TakesUpTo max result (left_of (sure_contents self.old.contents)
-            (last_take self.old.taken)) }
+            (open_take self.old.open_entry self.old.taken)) }
     {
         take_on(&self.entries, &mut self.readings, max, max, into)
     }

@@ -7,8 +7,8 @@ use Rattle.mlr_event.specs.declared.event.Ctx.{Ctx}
 use Rattle.mlr_event.specs.declared.names.InputName.{InputName}
 use Rattle.mlr_event.specs.declared.options.ReadOpts.{ReadOpts}
 use Rattle.mlr_world.specs.Inputs.{Contents}
-use Rattle.mlr_world.specs.Taken.{Take, grown, last_take, with_last}
-use Rattle.read_files.specs.Takes.{ArePrefixesTaken, GoesOn, InOrder, TakeGoesOn, ends, stops_at, total}
+use Rattle.mlr_world.specs.Taken.{Take, grown}
+use Rattle.read_files.specs.Takes.{ArePrefixesTaken, GoesOn, InOrder, TakeGoesOn, ends, last_take, stops_at, total, with_last}
 use Rattle.read_files.specs.Sources.{ctx_after_take, ctx_from, events_from, take_gives}
 use Rattle.read_files.specs.Represents.{AllRead}
 

@@ -11,7 +11,7 @@ use Rattle.mlr_event.specs.declared.names.InputName.{InputName}
 use Rattle.mlr_event.specs.declared.options.ReadOpts.{ReadOpts}
 use Rattle.mlr_event.specs.Verb.{is_fault, is_open}
 use Rattle.mlr_world.specs.Inputs.{Contents}
-use Rattle.mlr_world.specs.Taken.{Take, begun}
+use Rattle.mlr_world.specs.Taken.{Take, OpenEntry, begun}
 use Rattle.read_files.specs.declared.reader.FileReader.{FileReader}
 use Rattle.read_files.specs.declared.reader.ReadTurn.{ReadTurn}
 use Rattle.read_files.specs.declared.reader.ReadTurn.TheVariants.{Went, Ended, Failed, TooLong, NoMemory}
@@ -33,7 +33,7 @@ says-opened (Failed failed) opts names given given' name says = (says.0, says.1,
 says-opened TooLong opts names given given' name says = says
 says-opened NoMemory opts names given given' name says = tt
 
-pub turned-opened : (turn : ReadTurn) (opts : ReadOpts) (names : List InputName) (before : Option (List Take)) (given : List Take) (opened : InputName) (reader' : FileReader) (contents contents' : Option Contents) (taken' : Option (List Take)) (name' : Option InputName)
+pub turned-opened : (turn : ReadTurn) (opts : ReadOpts) (names : List InputName) (before : Option (List Take)) (given : List Take) (opened : InputName) (reader' : FileReader) (contents contents' : Option Contents) (taken' : Option (List Take)) (name' : Option OpenEntry)
     (out out' : List Event) → contents' ≡ contents → Turned turn opts names before (given ++ begun opened ∷ []) reader' contents' taken' name' out out' → Turned turn opts names before given reader' contents taken' name' out out'
 turned-opened turn opts names before given opened reader' contents contents' taken' name' out out' same turned = record {
   given' = turned.given';
@@ -50,7 +50,7 @@ turned-opened turn opts names before given opened reader' contents contents' tak
 }
 
 -- it was opened, and there was no memory for its reader
-pub turned-opened-none : (opts : ReadOpts) (names : List InputName) (before : Option (List Take)) (given : List Take) (reader reader' : FileReader) (s : Represents opts names given reader) (contents contents' : Option Contents) (taken' : Option (List Take)) (name' : Option InputName)
+pub turned-opened-none : (opts : ReadOpts) (names : List InputName) (before : Option (List Take)) (given : List Take) (reader reader' : FileReader) (s : Represents opts names given reader) (contents contents' : Option Contents) (taken' : Option (List Take)) (name' : Option OpenEntry)
     (opened : InputName) → contents' ≡ contents → After before (given ++ begun opened ∷ []) contents' taken' name' → InOrder names (given ++ begun opened ∷ []) → stops_at names (given ++ begun opened ∷ []) ≡ Some opened → (out : List Event)
     → Turned NoMemory opts names before given reader' contents taken' name' out out
 turned-opened-none opts names before given reader reader' s contents contents' taken' name' opened same following order stops out = record {
@@ -106,7 +106,7 @@ module _ (opts : ReadOpts) (names : List InputName) (given : List Take) (reader 
       ap (λ n. stops_at n (given ++ begun name ∷ [])) (names-next name left popped) ∙ stops-following s.prefix (name ∷ reverse left.items) given (begun name ∷ []) read-so
 
   -- and there is no other
-  module _ (before : Option (List Take)) (contents : Option Contents) (taken : Option (List Take)) (name : Option InputName) (following : After before given contents taken name) (last : reader.names.items ≡ []) (reader' : FileReader) (out out' : List Event) where
+  module _ (before : Option (List Take)) (contents : Option Contents) (taken : Option (List Take)) (name : Option OpenEntry) (following : After before given contents taken name) (last : reader.names.items ≡ []) (reader' : FileReader) (out out' : List Event) where
     stops-none : stops_at names given ≡ None
     stops-none =
         ap (λ n. stops_at n given) (none.names_are ∙ ap (λ l. s.prefix ++ reverse l) last) ∙ ap (stops_at (s.prefix ++ [])) (sym (append-nil given)) ∙ stops-following s.prefix [] given [] read-so

@@ -9,12 +9,12 @@ use Rattle.mlr_event.specs.declared.options.ReadOpts.{ReadOpts}
 use Rattle.mlr_event.specs.Verb.{is_open}
 use Rattle.mlr_world.specs.Counts.{Counted}
 use Rattle.mlr_world.specs.Inputs.{Contents, MeetsEnd, TakesPiece}
-use Rattle.mlr_world.specs.Taken.{Take, begun, ended, grown, with_last}
+use Rattle.mlr_world.specs.Taken.{Take, OpenEntry, begun, ended, entry_of, grown}
 use Rattle.read_files.specs.declared.open_file.OpenInput.{OpenInput}
 use Rattle.read_files.specs.declared.reader.FileReader.{FileReader}
 use Rattle.read_files.specs.declared.reader.ReadTurn.{ReadTurn}
 use Rattle.read_files.specs.declared.reader.ReadTurn.TheVariants.{Went, Ended, Failed, TooLong, NoMemory}
-use Rattle.read_files.specs.Takes.{After, GoesOn, ends, stops_at, total}
+use Rattle.read_files.specs.Takes.{After, GoesOn, ends, stops_at, total, with_last, last_place}
 use Rattle.read_files.specs.Sources.{events_taken, source}
 use Rattle.read_files.specs.Represents.{Represents, Turned, TurnCause, TurnSays}
 use Rattle.read_files.specs.Steps.{Stepped, failed}
@@ -52,7 +52,7 @@ pub goes_on-same : (given : List Take) → GoesOn given given
 goes_on-same given = subst (GoesOn given) (append-nil given) (goes_on-more given [])
 
 -- a read that led to more, as the inputs tell it
-pub turned-of : (turn : ReadTurn) (opts : ReadOpts) (names : List InputName) (before : Option (List Take)) (given given' : List Take) (reader' : FileReader) (contents : Option Contents) (taken' : Option (List Take)) (name' : Option InputName)
+pub turned-of : (turn : ReadTurn) (opts : ReadOpts) (names : List InputName) (before : Option (List Take)) (given given' : List Take) (reader' : FileReader) (contents : Option Contents) (taken' : Option (List Take)) (name' : Option OpenEntry)
     (out out' : List Event) → Stepped turn opts names given given' reader' out out' → After before given' contents taken' name' → total given' < total given + 65536 → total given' ≤ 2 ^ 60
     → Turned turn opts names before given reader' contents taken' name' out out'
 turned-of turn opts names before given given' reader' contents taken' name' out out' step following one few = record {
@@ -70,7 +70,7 @@ turned-of turn opts names before given given' reader' contents taken' name' out 
 }
 
 -- a call that took nothing, where an input is still to be read
-module _ (opts : ReadOpts) (names : List InputName) (before : Option (List Take)) (given : List Take) (reader reader' : FileReader) (s : Represents opts names given reader) (contents : Option Contents) (taken' : Option (List Take)) (name' : Option InputName)
+module _ (opts : ReadOpts) (names : List InputName) (before : Option (List Take)) (given : List Take) (reader reader' : FileReader) (s : Represents opts names given reader) (contents : Option Contents) (taken' : Option (List Take)) (name' : Option OpenEntry)
     (following : After before given contents taken' name') (next : InputName) (stops : stops_at names given ≡ Some next) (out : List Event) where
   source-same : source opts names given ≡ events_taken opts given ++ []
   source-same = source-stops opts names given next stops ∙ sym (append-nil (events_taken opts given))
@@ -107,14 +107,14 @@ module _ (opts : ReadOpts) (names : List InputName) (before : Option (List Take)
 
 -- a read of the open input
 module _ (opts : ReadOpts) (names : List InputName) (given : List Take) (reader : FileReader) (input : OpenInput) (s : Represents opts names given (record reader { current = Some input }))
-    (before : Option (List Take)) (contents : Option Contents) (taken : Option (List Take)) (name : Option InputName) (following : After before given contents taken name) where
+    (before : Option (List Take)) (contents : Option Contents) (taken : Option (List Take)) (name : Option OpenEntry) (following : After before given contents taken name) where
   abbrev take_so : Take
   take_so = take_of input.name false s.current.bytes
 
   following-so : After before (s.done ++ take_so ∷ []) contents taken name
   following-so = subst (λ g. After before g contents taken name) s.current.given_is following
 
-  pub name-so : name ≡ Some input.name
+  pub name-so : name ≡ Some (entry_of input.name (last_place taken))
   name-so = open-name before s.done take_so refl contents taken taken name name following-so
 
   pub some-so : IsSome name
@@ -137,8 +137,8 @@ module _ (opts : ReadOpts) (names : List InputName) (given : List Take) (reader 
   total-ended : total (with_last ended given) ≡ total given
   total-ended = omega (arith, ap total (with_last-so ended), total-append s.done (ended take_so ∷ []), total-given)
 
-  module _ (taken' : Option (List Take)) (name' : Option InputName) (same : name' ≡ name) (turn : ReadTurn) (reader' : FileReader) (out out' : List Event) where
-    pub turned-piece : {n : ℕ} (max : ℕ) (empty into : List ℕ) → empty ≡ [] → (step : TakesPiece max n contents taken taken' empty into) → max < 65536 → total given + max ≤ 2 ^ 60 → Stepped turn opts names given (with_last (grown into) given) reader' out out'
+  module _ (taken' : Option (List Take)) (name' : Option OpenEntry) (same : name' ≡ name) (turn : ReadTurn) (reader' : FileReader) (out out' : List Event) where
+    pub turned-piece : {n : ℕ} (max : ℕ) (empty into : List ℕ) → empty ≡ [] → (step : TakesPiece max n name contents taken taken' empty into) → max < 65536 → total given + max ≤ 2 ^ 60 → Stepped turn opts names given (with_last (grown into) given) reader' out out'
         → Turned turn opts names before given reader' contents taken' name' out out'
     turned-piece max empty into none step one few stepped =
         let is : into ≡ step.piece = step.appended ∙ ap (λ i. i ++ step.piece) none in
@@ -149,7 +149,7 @@ module _ (opts : ReadOpts) (names : List InputName) (given : List Take) (reader 
         (omega (arith, total-grown into, ap length is, step.count, step.no_more, one))
         (omega (arith, total-grown into, ap length is, step.count, step.no_more, few))
 
-    pub turned-end : (into into' : List ℕ) (step : MeetsEnd contents taken taken' into into') → Stepped turn opts names given (with_last ended given) reader' out out' → Turned turn opts names before given reader' contents taken' name' out out'
+    pub turned-end : (into into' : List ℕ) (step : MeetsEnd name contents taken taken' into into') → Stepped turn opts names given (with_last ended given) reader' out out' → Turned turn opts names before given reader' contents taken' name' out out'
     turned-end into into' step stepped =
         turned-of turn opts names before given (with_last ended given) reader' contents taken' name' out out' stepped
         (subst (λ g. After before g contents taken' name') (sym (with_last-so ended)) (following-ended before s.done take_so refl contents taken taken' name name' following-so step.entry step.all))

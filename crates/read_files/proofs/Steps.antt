@@ -12,11 +12,11 @@ use Rattle.mlr_event.specs.declared.event.Event.TheVariants.{End}
 use Rattle.mlr_event.specs.declared.names.InputName.{InputName}
 use Rattle.mlr_event.specs.declared.options.ReadOpts.{ReadOpts}
 use Rattle.mlr_event.specs.Verb.{is_end, is_fault, is_open, is_part}
-use Rattle.mlr_world.specs.Taken.{Take, ended, grown, with_last}
+use Rattle.mlr_world.specs.Taken.{Take, ended, grown}
 use Rattle.read_files.specs.declared.open_file.OpenInput.{OpenInput}
 use Rattle.read_files.specs.declared.reader.FileReader.{FileReader}
 use Rattle.read_files.specs.declared.reader.ReadTurn.TheVariants.{Went, Ended, Failed, TooLong, NoMemory}
-use Rattle.read_files.specs.Takes.{GoesOn, InOrder, TakeGoesOn, ends, stops_at, total}
+use Rattle.read_files.specs.Takes.{GoesOn, InOrder, TakeGoesOn, ends, stops_at, total, with_last}
 use Rattle.read_files.specs.Readers.{FileRepresents}
 use Rattle.read_files.specs.Sources.{Source, ctx_after_events, ctx_from, events_from, events_taken, gives_as, is_whole, source, until_fault, zero_context}
 use Rattle.read_files.specs.Represents.{AllRead, Represents, TurnSays, can_read, source_after}

@@ -9,7 +9,7 @@ use Rattle.mlr_event.specs.declared.options.ReadOpts.{ReadOpts}
 use Rattle.mlr_event.specs.Verb.{is_open}
 use Rattle.mlr_world.specs.Counts.{Rose}
 use Rattle.mlr_world.specs.Inputs.{Contents}
-use Rattle.mlr_world.specs.Taken.{Take}
+use Rattle.mlr_world.specs.Taken.{Take, OpenEntry}
 use Rattle.read_csv.specs.Usable.{is_usable as csv_usable}
 use Rattle.read_dkvp_nidx.specs.Usable.{is_usable as line_usable}
 use Rattle.read_xtab_pprint.specs.Usable.{is_usable as block_usable}
@@ -94,11 +94,11 @@ TurnSays NoMemory opts names given given' = Unit {0}
 
 -- What a turn did: more was taken, in one read, and unless memory ran out the events that it fixes were
 -- pushed.
-pub record Turned (turn : ReadTurn) (opts : ReadOpts) (names : List InputName) (before : Option (List Take)) (given : List Take) (reader' : FileReader) (contents : Option Contents) (taken' : Option (List Take)) (name' : Option InputName) (out out' : List Event) : Type 0 where
+pub record Turned (turn : ReadTurn) (opts : ReadOpts) (names : List InputName) (before : Option (List Take)) (given : List Take) (reader' : FileReader) (contents : Option Contents) (taken' : Option (List Take)) (entry' : Option OpenEntry) (out out' : List Event) : Type 0 where
   pub given' : List Take
   pub order : InOrder names given'
   pub goes_on : GoesOn given given'
-  pub following : After before given' contents taken' name'
+  pub following : After before given' contents taken' entry'
   pub one_read : total given' < total given + 65536
   pub few : total given' ≤ 2 ^ 60
   pub says : TurnSays turn opts names given given'

@@ -3,7 +3,24 @@ use Rattle.std.specs.Prelude.{◌≡◌, ℕ, ◌+◌, ◌-◌, nat_le, Bool, tr
 use Rattle.std.specs.Option.{option_map}
 use Rattle.mlr_event.specs.declared.names.InputName.{InputName}
 use Rattle.mlr_world.specs.Inputs.{Contents}
-use Rattle.mlr_world.specs.Taken.{Take, last_take}
+use Rattle.mlr_world.specs.Taken.{Take, OpenEntry, entry_of}
+
+-- the last entry
+abbrev pub last_take : List Take → Option Take
+last_take [] = None
+last_take (take ∷ []) = Some take
+last_take (take ∷ next ∷ more) = last_take (next ∷ more)
+
+-- a list with its last entry changed
+abbrev pub with_last : (Take → Take) → List Take → List Take
+with_last change [] = []
+with_last change (take ∷ []) = change take ∷ []
+with_last change (take ∷ next ∷ more) = take ∷ with_last change (next ∷ more)
+
+-- the place of the last entry; 0 where what was taken isn't known
+abbrev pub last_place : Option (List Take) → ℕ
+last_place None = 0
+last_place (Some takes) = length takes - 1
 
 -- how many bytes were taken
 abbrev pub total : List Take → ℕ
@@ -65,9 +82,9 @@ taken_by told (name ∷ names) n = elim (told name) [
       else record { name = name; bytes = take n bytes; ended = false } ∷ []
 ]
 
--- Inputs of which this was taken after what was taken before: the last one is open, if its end wasn't met,
--- and where the inputs' bytes are known, these are prefixes of what the inputs hold.
-pub record After (before : Option (List Take)) (given : List Take) (contents : Option Contents) (taken : Option (List Take)) (name : Option InputName) : Type 0 where
+-- Inputs of which this was taken after what was taken before: the last one is open, if its end wasn't met, and
+-- its entry is the last of all. Where the inputs' bytes are known, these are prefixes of what the inputs hold.
+pub record After (before : Option (List Take)) (given : List Take) (contents : Option Contents) (taken : Option (List Take)) (entry : Option OpenEntry) : Type 0 where
   pub entries : taken ≡ option_map (λ takes. takes ++ given) before
   pub prefixes : IfSome contents (λ told. IfSome taken (λ _. ArePrefixesTaken told given))
-  pub open_is : IfSome (last_take given) (λ last. last.ended ≡ false → name ≡ Some last.name)
+  pub open_is : IfSome (last_take given) (λ last. last.ended ≡ false → entry ≡ Some (entry_of last.name (last_place taken)))

@@ -2,8 +2,8 @@
 ghost use Rattle.std.specs.Prelude.{◌≡◌, ◌+◌, ◌≤◌, ◌^◌, ◌++◌, ◌∷◌, [], List, Option, None, Some, false, true, IfOk, IfSome, IsSome, OnOk, length};
 ghost use Rattle.mlr_event.specs.declared.names.InputName.{InputName as SpecName};
 ghost use Rattle.mlr_event.specs.declared.options.ReadOpts.{ReadOpts as Options};
-ghost use Rattle.mlr_world.specs.Taken.{Take, begun, ended, grown, with_last};
-ghost use Rattle.read_files.specs.Takes.{After, total};
+ghost use Rattle.mlr_world.specs.Taken.{Take, begun, ended, grown};
+ghost use Rattle.read_files.specs.Takes.{After, total, with_last};
 ghost use Rattle.read_files.specs.Represents.{Represents, Turned, TurnCause, can_read};
 ghost use Rattle.read_files.specs.Steps.{Closes, AppendsEnd, RepresentsNext, Stepped, WentTo, failed};
 
@@ -122,14 +122,14 @@ impl FileReader {
         requires { (opts : Options) × (names : List SpecName) × (before : Option (List Take))
             × (given : List Take) × Represents opts names given self.old
             × After before given (I.contents inputs.old) (I.taken inputs.old)
-            (I.open_name inputs.old) }
+            (I.open_entry inputs.old) }
         ensures turned { (opts : Options) (names : List SpecName) (before : Option (List Take))
             (given : List Take)
             → Represents opts names given self.old
             → After before given (I.contents inputs.old) (I.taken inputs.old)
-            (I.open_name inputs.old)
+            (I.open_entry inputs.old)
             → Turned result opts names before given self.new (I.contents inputs.old)
-            (I.taken inputs.new) (I.open_name inputs.new) out.old out.new }
+            (I.taken inputs.new) (I.open_entry inputs.new) out.old out.new }
         ensures contents { I.contents inputs.new ≡ I.contents inputs.old }
         ensures cause { TurnCause result (I.faults inputs.old) (I.faults inputs.new) }
     {
@@ -147,14 +147,14 @@ impl FileReader {
             × (before : Option (List Take)) × (given : List Take)
             × Represents opts names given self.old
             × After before given (I.contents inputs.old) (I.taken inputs.old)
-            (I.open_name inputs.old) }
+            (I.open_entry inputs.old) }
         ensures turned { (opts : Options) (names : List SpecName) (before : Option (List Take))
             (given : List Take)
             → Represents opts names given self.old
             → After before given (I.contents inputs.old) (I.taken inputs.old)
-            (I.open_name inputs.old)
+            (I.open_entry inputs.old)
             → Turned result opts names before given self.new (I.contents inputs.old)
-            (I.taken inputs.new) (I.open_name inputs.new) out.old out.new }
+            (I.taken inputs.new) (I.open_entry inputs.new) out.old out.new }
         ensures contents { I.contents inputs.new ≡ I.contents inputs.old }
         ensures cause { TurnCause result (I.faults inputs.old) (I.faults inputs.new) }
     {
@@ -198,14 +198,14 @@ impl FileReader {
             × (before : Option (List Take)) × (given : List Take)
             × Represents opts names given self.old
             × After before given (I.contents inputs.old) (I.taken inputs.old)
-            (I.open_name inputs.old) }
+            (I.open_entry inputs.old) }
         ensures turned { (opts : Options) (names : List SpecName) (before : Option (List Take))
             (given : List Take)
             → Represents opts names given self.old
             → After before given (I.contents inputs.old) (I.taken inputs.old)
-            (I.open_name inputs.old)
+            (I.open_entry inputs.old)
             → Turned result opts names before given self.new (I.contents inputs.old)
-            (I.taken inputs.new) (I.open_name inputs.new) out.old out.new }
+            (I.taken inputs.new) (I.open_entry inputs.new) out.old out.new }
         ensures contents { I.contents inputs.new ≡ I.contents inputs.old }
         ensures cause { TurnCause result (I.faults inputs.old) (I.faults inputs.new) }
     {

@@ -95,7 +95,7 @@ fn shown(alloc: Global, events: &Events) -> Result<Bytes, NoMemory> {
 fn turn_all<I: Inputs>(reader: &mut FileReader, inputs: &mut I, out: &mut Events) -> ReadTurn
     requires { (opts : Options) × (names : List SpecName) × (before : Option (List Take))
         × (given : List Take) × Represents opts names given reader.old
-        × After before given (I.contents inputs.old) (I.taken inputs.old) (I.open_name inputs.old) }
+        × After before given (I.contents inputs.old) (I.taken inputs.old) (I.open_entry inputs.old) }
 {
     for _ in 0..TURNS {
         match reader.turn(inputs, out) {

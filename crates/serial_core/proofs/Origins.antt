@@ -13,7 +13,7 @@ use Rattle.mlr_event.specs.declared.options.ReadOpts.{ReadOpts}
 use Rattle.mlr_event.specs.Verb.{is_last, is_list, is_open}
 use Rattle.mlr_event.proofs.Ordered.{open-list}
 use Rattle.mlr_world.specs.Inputs.{Contents}
-use Rattle.mlr_world.specs.Taken.{Take}
+use Rattle.mlr_world.specs.Taken.{Take, OpenEntry}
 use Rattle.read_files.specs.declared.reader.FileReader.{FileReader}
 use Rattle.read_files.specs.declared.reader.ReadTurn.{ReadTurn}
 use Rattle.read_files.specs.declared.reader.ReadTurn.TheVariants as turn
@@ -53,7 +53,7 @@ abbrev pub SourceAll : Type 0
 SourceAll = (names : List InputName) (given longer : List Take) → InOrder names given → InOrder names longer → GoesOn given longer → stops_at names given ≡ None → longer ≡ given
 
 module _ (opts : ReadOpts) (names : List InputName) (before : Option (List Take)) (given : List Take) (read : List Event) (read_is : read ≡ events_taken opts given)
-    (took : ReadTurn) (after : FileReader) (contents : Option Contents) (taken' : Option (List Take)) (name' : Option InputName) (out out' : List Event)
+    (took : ReadTurn) (after : FileReader) (contents : Option Contents) (taken' : Option (List Take)) (name' : Option OpenEntry) (out out' : List Event)
     (t : file.Turned took opts names before given after contents taken' name' out out') where
   says-of : (turned : ReadTurn) → took ≡ turned → file.TurnSays turned opts names given t.given'
   says-of turned is = subst (λ turned. file.TurnSays turned opts names given t.given') is t.says
@@ -117,7 +117,7 @@ goes-on [] = tt
 goes-on (take ∷ takes) = ((refl, ([], sym (append-nil take.bytes), λ e. (refl, e))), goes-on takes)
 
 module _ (seq : SeqSpec) (before : Option (List Take)) (given : List Take) (read : List Event) (n : ℕ) (sound : IsSoundSeq seq) (old : SeqSource) (at : RepresentsAt seq n old)
-    (read_is : read ≡ seq_events seq 0 n) (given_is : given ≡ []) (after : SeqSource) (contents : Option Contents) (taken : Option (List Take)) (name : Option InputName)
+    (read_is : read ≡ seq_events seq 0 n) (given_is : given ≡ []) (after : SeqSource) (contents : Option Contents) (taken : Option (List Take)) (name : Option OpenEntry)
     (following : After before given contents taken name) (out out' : List Event) where
   nothing-took : TookMore (numbers seq) before given given contents taken name
   nothing-took = record {

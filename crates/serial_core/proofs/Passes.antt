@@ -9,7 +9,7 @@ use Rattle.mlr_event.specs.declared.names.Target.TheVariants.{Stdout}
 use Rattle.mlr_event.specs.Verb.{KeepsOrder, Verb, is_list, is_open}
 use Rattle.mlr_world.specs.Inputs.{Contents}
 use Rattle.mlr_world.specs.Outputs.{Held}
-use Rattle.mlr_world.specs.Taken.{Take}
+use Rattle.mlr_world.specs.Taken.{Take, OpenEntry}
 use Rattle.mlr_world.proofs.Changes.{ChangesAt-none, with_bytes-none}
 use Rattle.writers.specs.declared.options.WriteOpts.{WriteOpts}
 use Rattle.outlet.specs.Out.{out_of}
@@ -34,7 +34,7 @@ module _ {S : Type 0} (verb : S → Verb) (represents : S → List Event → Typ
     (grows : (verbs : List Verb) (events following : List Event) → (more : List Event) × (chain verbs (events ++ following) ≡ chain verbs events ++ more))
     (writes : (opts : WriteOpts) (events following : List Event) → is_open events ≡ true → (more : List ℕ) × (out_of opts (events ++ following) ≡ out_of opts events ++ more))
     (command : Command) (before : Option (List Take)) (given : List Take) (read : List Event) (serial : Serial S) (settled : Settled verb represents command given read serial)
-    (took : ReadTurn) (after : Reader) (contents : Option Contents) (taken' : Option (List Take)) (name' : Option InputName) (out' : List Event)
+    (took : ReadTurn) (after : Reader) (contents : Option Contents) (taken' : Option (List Take)) (name' : Option OpenEntry) (out' : List Event)
     (r : Read took command.origin before given read after contents taken' name' serial.events out') where
   -- what the verbs make of all that is given is a list
   made-list : is_list (chain command.verbs (given_by command.origin r.given')) ≡ true

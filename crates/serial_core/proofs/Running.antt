@@ -8,7 +8,7 @@ use Rattle.mlr_event.specs.Verb.{Verb, is_open}
 use Rattle.mlr_world.specs.Counts.{Counted}
 use Rattle.mlr_world.specs.Inputs.{Contents}
 use Rattle.mlr_world.specs.Outputs.{Held, ChangesAt, with_bytes}
-use Rattle.mlr_world.specs.Taken.{Take}
+use Rattle.mlr_world.specs.Taken.{Take, OpenEntry}
 use Rattle.mlr_world.proofs.Changes.{ChangesAt-map, ChangesAt-none, ChangesAt-then, with_bytes-none}
 use Rattle.outlet.specs.Out.{out_of}
 use Rattle.outlet.specs.Represents.{AppendsPrefix}
@@ -28,7 +28,7 @@ use Rattle.serial_core.proofs.Stopping.{EndsEarly}
 use Rattle.serial_core.proofs.Turns.{leaves-following, reader-few, reader-order, reader-rest, whole-following}
 
 -- how far a run has come
-pub record Going {S : Type 0} (verb : S → Verb) (represents : S → List Event → Type 0) (command : Command) (before : Option (List Take)) (contents : Option Contents) (taken : Option (List Take)) (name : Option InputName) (first held : Option Held) (serial : Serial S) : Type 0 where
+pub record Going {S : Type 0} (verb : S → Verb) (represents : S → List Event → Type 0) (command : Command) (before : Option (List Take)) (contents : Option Contents) (taken : Option (List Take)) (name : Option OpenEntry) (first held : Option Held) (serial : Serial S) : Type 0 where
   pub given : List Take
   pub read : List Event
   pub shown : List Event
@@ -38,7 +38,7 @@ pub record Going {S : Type 0} (verb : S → Verb) (represents : S → List Event
   pub leaves : ChangesAt Stdout (λ b n. n ≡ with_bytes (out_of command.write shown) b) first held
 
 -- nothing was taken after what was taken before
-pub following-none : (contents : Option Contents) (taken : Option (List Take)) (name : Option InputName) → After taken [] contents taken name
+pub following-none : (contents : Option Contents) (taken : Option (List Take)) (name : Option OpenEntry) → After taken [] contents taken name
 following-none contents taken name = record { entries = same taken; prefixes = none contents taken; open_is = tt }
   where
     same : (taken : Option (List Take)) → taken ≡ option_map (λ takes. takes ++ []) taken
@@ -51,7 +51,7 @@ following-none contents taken name = record { entries = same taken; prefixes = n
     none (Some told) (Some takes) = tt
 
 module _ {S : Type 0} (verb : S → Verb) (represents : S → List Event → Type 0) (command : Command) (before : Option (List Take)) (contents : Option Contents) where
-  pub going-first : (taken : Option (List Take)) (name : Option InputName) (held : Option Held) (serial : Serial S) → Begins verb represents command serial → After before [] contents taken name
+  pub going-first : (taken : Option (List Take)) (name : Option OpenEntry) (held : Option Held) (serial : Serial S) → Begins verb represents command serial → After before [] contents taken name
       → Going verb represents command before contents taken name held held serial
   going-first taken name held serial begins following = record {
     given = [];
@@ -63,8 +63,8 @@ module _ {S : Type 0} (verb : S → Verb) (represents : S → List Event → Typ
     leaves = ChangesAt-none Stdout (λ b n. n ≡ with_bytes (out_of command.write []) b) with_bytes-none held;
   }
 
-  module _ (taken : Option (List Take)) (name : Option InputName) (first held : Option Held) (serial : Serial S) (now : Going verb represents command before contents taken name first held serial)
-      (after : Serial S) (taken' : Option (List Take)) (name' : Option InputName) (held' : Option Held) where
+  module _ (taken : Option (List Take)) (name : Option OpenEntry) (first held : Option Held) (serial : Serial S) (now : Going verb represents command before contents taken name first held serial)
+      (after : Serial S) (taken' : Option (List Take)) (name' : Option OpenEntry) (held' : Option Held) where
     pub going-on : Ran Went verb represents command before now.given now.read now.shown after contents taken' name' held held' → Going verb represents command before contents taken' name' first held' after
     going-on ran = record {
       given = ran.given';

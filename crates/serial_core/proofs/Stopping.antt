@@ -14,7 +14,7 @@ use Rattle.mlr_event.specs.Verb.{is_end, is_list, is_open}
 use Rattle.mlr_world.specs.Counts.{Counted, Rose}
 use Rattle.mlr_world.specs.Inputs.{Contents}
 use Rattle.mlr_world.specs.Outputs.{Held, ChangesAt}
-use Rattle.mlr_world.specs.Taken.{Take}
+use Rattle.mlr_world.specs.Taken.{Take, OpenEntry}
 use Rattle.outlet.specs.Out.{fault_in, out_of}
 use Rattle.chain_core.specs.Chain.{chain}
 use Rattle.read_files.specs.Takes.{ArePrefixesTaken, AreWhole, After, GoesOn, InOrder, taken_by, total}
@@ -47,7 +47,7 @@ SourceEarly = (told : Contents) (names : List InputName) (given : List Take) (n 
 
 -- a run that continued while its result might ends early with the next read
 abbrev pub EndsEarly : Command → Option (List Take) → Option Contents → Type 0
-EndsEarly command before contents = (given given' : List Take) (taken : Option (List Take)) (name : Option InputName) → InOrder (names_of command.origin) given → After before given contents taken name → MayGoOn command given
+EndsEarly command before contents = (given given' : List Take) (taken : Option (List Take)) (name : Option OpenEntry) → InOrder (names_of command.origin) given → After before given contents taken name → MayGoOn command given
     → (given' ≡ given) ⊎ (is_open (result command given) ≡ true) → total given' < total given + 65536 → IfSome contents (λ told. IfSome before (λ _. StopsEarly command told given'))
 
 none-order : (names : List InputName) → InOrder names []
@@ -61,7 +61,7 @@ total-on (t ∷ given) [] on = absurd on
 total-on (t ∷ given) (u ∷ longer) on = omega (arith, total-on given longer on.1, ap length on.0.1.1, length-append t.bytes on.0.1.0)
 
 -- what was taken, where contents and takes are known
-following-prefixes : (before : Option (List Take)) (given : List Take) (contents : Option Contents) (taken : Option (List Take)) (name : Option InputName) → After before given contents taken name
+following-prefixes : (before : Option (List Take)) (given : List Take) (contents : Option Contents) (taken : Option (List Take)) (name : Option OpenEntry) → After before given contents taken name
     → (told : Contents) (takes : List Take) → contents ≡ Some told → before ≡ Some takes → ArePrefixesTaken told given
 following-prefixes before given contents taken name following told takes told_is takes_is =
     subst (λ c. IfSome c (λ told. ArePrefixesTaken told given)) told_is
@@ -123,7 +123,7 @@ module _ (lists : SourceList) (grows : SourceGrows) (fixed : SourceFixed) (comma
       (λ told takes told_is takes_is. stops-early early told given given' order (following-prefixes before given contents taken name following told takes told_is takes_is) may ends one)
 
   -- where no call fails the outcome is that of all that the inputs hold
-  module _ (whole : SourceWhole) (contents : Option Contents) (taken taken' : Option (List Take)) (name' : Option InputName) (held held' : Option Held) (holds : HoldsAll command contents taken) where
+  module _ (whole : SourceWhole) (contents : Option Contents) (taken taken' : Option (List Take)) (name' : Option OpenEntry) (held held' : Option Held) (holds : HoldsAll command contents taken) where
     on-whole : (ended : Ended) (run : Run ended command contents taken taken' name' held held') → GoesOn run.given holds.whole × InOrder (names_of command.origin) holds.whole
     on-whole ended run =
         whole holds.told (names_of command.origin) run.given holds.whole run.order

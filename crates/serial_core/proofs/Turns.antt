@@ -10,7 +10,7 @@ use Rattle.mlr_event.specs.Verb.{KeepsOrder, Verb, is_list, is_open}
 use Rattle.mlr_event.proofs.Ordered.{open-list}
 use Rattle.mlr_world.specs.Inputs.{Contents}
 use Rattle.mlr_world.specs.Outputs.{Held, with_bytes}
-use Rattle.mlr_world.specs.Taken.{Take}
+use Rattle.mlr_world.specs.Taken.{Take, OpenEntry}
 use Rattle.mlr_world.proofs.Changes.{ChangesAt-then, with_bytes-twice}
 use Rattle.outlet.specs.Out.{out_of}
 use Rattle.outlet.specs.Represents.{AppendsPrefix, Represents}
@@ -99,7 +99,7 @@ module _ {S : Type 0} (verb : S → Verb) (represents : S → List Event → Typ
   pub over-written : (grows : (events following : List Event) → (more : List Event) × (chain command.verbs (events ++ following) ≡ chain command.verbs events ++ more))
       (writes : (events following : List Event) → is_open events ≡ true → (more : List ℕ) × (out_of command.write (events ++ following) ≡ out_of command.write events ++ more))
       → is_list (given_by command.origin given) ≡ true
-      → (before : Option (List Take)) (contents : Option Contents) (taken : Option (List Take)) (name : Option InputName) → After before given contents taken name
+      → (before : Option (List Take)) (contents : Option Contents) (taken : Option (List Take)) (name : Option OpenEntry) → After before given contents taken name
       → (ended : Ended) (now : Serial S) (held held' : Option Held) → Wrote (Some ended) command.write shown serial.events held held'
       → Ran (Over ended) verb represents command before given read shown now contents taken name held held'
   over-written grows writes list before contents taken name following ended now held held' wrote =
@@ -143,7 +143,7 @@ module _ {S : Type 0} (verb : S → Verb) (represents : S → List Event → Typ
     early = o.early;
   }
 
-  pub ran-following : (turned : SerialTurn) (before : Option (List Take)) (after : Serial S) (contents : Option Contents) (taken : Option (List Take)) (name : Option InputName) (held held' held'' : Option Held)
+  pub ran-following : (turned : SerialTurn) (before : Option (List Take)) (after : Serial S) (contents : Option Contents) (taken : Option (List Take)) (name : Option OpenEntry) (held held' held'' : Option Held)
       → Wrote None command.write shown serial.events held held' → Ran turned verb represents command before given read (chain command.verbs read) after contents taken name held' held''
       → Ran turned verb represents command before given read shown after contents taken name held held''
   ran-following turned before after contents taken name held held' held'' wrote ran = record {

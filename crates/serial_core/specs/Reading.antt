@@ -4,7 +4,7 @@ use Rattle.mlr_event.specs.declared.event.Event.{Event}
 use Rattle.mlr_event.specs.declared.names.InputName.{InputName}
 use Rattle.mlr_event.specs.Verb.{is_list, is_open}
 use Rattle.mlr_world.specs.Inputs.{Contents}
-use Rattle.mlr_world.specs.Taken.{Take}
+use Rattle.mlr_world.specs.Taken.{Take, OpenEntry}
 use Rattle.read_files.specs.declared.reader.ReadTurn.{ReadTurn}
 use Rattle.read_files.specs.declared.reader.ReadTurn.TheVariants.{Went, Ended, Failed, TooLong, NoMemory}
 use Rattle.read_files.specs.Takes.{After, GoesOn, InOrder, ends, stops_at, total}
@@ -44,10 +44,10 @@ ReadSays TooLong origin given read rest = (is_open read ≡ true) × (rest ≡ [
 ReadSays NoMemory origin given read rest = Unit {0}
 
 -- More was taken of the inputs of an origin, in one read.
-pub record TookMore (origin : Origin) (before : Option (List Take)) (given given' : List Take) (contents : Option Contents) (taken' : Option (List Take)) (name' : Option InputName) : Type 0 where
+pub record TookMore (origin : Origin) (before : Option (List Take)) (given given' : List Take) (contents : Option Contents) (taken' : Option (List Take)) (entry' : Option OpenEntry) : Type 0 where
   pub order : InOrder (names_of origin) given'
   pub goes_on : GoesOn given given'
-  pub following : After before given' contents taken' name'
+  pub following : After before given' contents taken' entry'
   pub one_read : total given' < total given + 65536
   pub few : total given' ≤ 2 ^ 60
 
@@ -57,9 +57,9 @@ CameOn (files opts names) given given' put = total given + ends given < total gi
 CameOn (numbers spec) given given' put = put ≡ [] → ⊥
 
 -- What a turn did: more was taken, and unless memory ran out the next events were pushed.
-pub record Read (turn : ReadTurn) (origin : Origin) (before : Option (List Take)) (given : List Take) (read : List Event) (after : Reader) (contents : Option Contents) (taken' : Option (List Take)) (name' : Option InputName) (out out' : List Event) : Type 0 where
+pub record Read (turn : ReadTurn) (origin : Origin) (before : Option (List Take)) (given : List Take) (read : List Event) (after : Reader) (contents : Option Contents) (taken' : Option (List Take)) (entry' : Option OpenEntry) (out out' : List Event) : Type 0 where
   pub given' : List Take
-  pub took : TookMore origin before given given' contents taken' name'
+  pub took : TookMore origin before given given' contents taken' entry'
   pub put : List Event
   pub rest : List Event
   pub events : given_by origin given' ≡ (read ++ put) ++ rest

@@ -8,7 +8,7 @@ use Rattle.mlr_event.specs.Verb.{Verb, is_end, is_list, is_open}
 use Rattle.mlr_world.specs.Counts.{Rose}
 use Rattle.mlr_world.specs.Inputs.{Contents}
 use Rattle.mlr_world.specs.Outputs.{Held, ChangesAt, with_bytes}
-use Rattle.mlr_world.specs.Taken.{Take}
+use Rattle.mlr_world.specs.Taken.{Take, OpenEntry}
 use Rattle.writers.specs.declared.options.WriteOpts.{WriteOpts}
 use Rattle.outlet.specs.Out.{fault_in, out_of}
 use Rattle.outlet.specs.Represents as outlet
@@ -96,9 +96,9 @@ Outcome Went verb represents command given given' read shown after held held' = 
 Outcome (Over ended) verb represents command given given' read shown after held held' = CameOver ended command given given' shown held held'
 
 -- What a turn did.
-pub record Ran {S : Type 0} (turn : SerialTurn) (verb : S → Verb) (represents : S → List Event → Type 0) (command : Command) (before : Option (List Take)) (given : List Take) (read shown : List Event) (after : Serial S) (contents : Option Contents) (taken' : Option (List Take)) (name' : Option InputName) (held held' : Option Held) : Type 0 where
+pub record Ran {S : Type 0} (turn : SerialTurn) (verb : S → Verb) (represents : S → List Event → Type 0) (command : Command) (before : Option (List Take)) (given : List Take) (read shown : List Event) (after : Serial S) (contents : Option Contents) (taken' : Option (List Take)) (entry' : Option OpenEntry) (held held' : Option Held) : Type 0 where
   pub given' : List Take
-  pub took : TookMore command.origin before given given' contents taken' name'
+  pub took : TookMore command.origin before given given' contents taken' entry'
   pub outcome : Outcome turn verb represents command given given' read shown after held held'
 
 -- what an outcome says of the counts of the inputs

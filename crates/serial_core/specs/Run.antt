@@ -5,7 +5,7 @@ use Rattle.mlr_event.specs.declared.names.Target.TheVariants.{Stdout}
 use Rattle.mlr_event.specs.Verb.{is_open}
 use Rattle.mlr_world.specs.Inputs.{Contents}
 use Rattle.mlr_world.specs.Outputs.{Held, ChangesAt}
-use Rattle.mlr_world.specs.Taken.{Take}
+use Rattle.mlr_world.specs.Taken.{Take, OpenEntry}
 use Rattle.read_files.specs.Takes.{AreWhole, After, InOrder, taken_by, total}
 use Rattle.serial_core.specs.declared.answer.Ended.{Ended}
 use Rattle.serial_core.specs.declared.answer.Ended.TheVariants as answer
@@ -18,10 +18,10 @@ pub record StopsEarly (command : Command) (told : Contents) (given : List Take) 
   pub soon : (n : ℕ) → is_open (result command (taken_by told (names_of command.origin) n)) ≡ false → total given < n + 65536
 
 -- A run: what was taken, what the outcome says of that, and what standard output is left with.
-pub record Run (ended : Ended) (command : Command) (contents : Option Contents) (taken taken' : Option (List Take)) (name' : Option InputName) (held held' : Option Held) : Type 0 where
+pub record Run (ended : Ended) (command : Command) (contents : Option Contents) (taken taken' : Option (List Take)) (entry' : Option OpenEntry) (held held' : Option Held) : Type 0 where
   pub given : List Take
   pub order : InOrder (names_of command.origin) given
-  pub following : After taken given contents taken' name'
+  pub following : After taken given contents taken' entry'
   pub few : total given ≤ 2 ^ 60
   pub says : Says ended command given
   pub leaves : ChangesAt Stdout (Leaves ended (text command given)) held held'

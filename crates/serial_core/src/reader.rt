@@ -34,14 +34,14 @@ impl Reader {
         requires { (origin : Origin) × (before : Option (List Take)) × (given : List Take)
             × (read : List SpecEvent) × ReaderRepresents origin given read self.old
             × After before given (I.contents inputs.old) (I.taken inputs.old)
-            (I.open_name inputs.old) }
+            (I.open_entry inputs.old) }
         ensures read { (origin : Origin) (before : Option (List Take)) (given : List Take)
             (read : List SpecEvent)
             → ReaderRepresents origin given read self.old
             → After before given (I.contents inputs.old) (I.taken inputs.old)
-            (I.open_name inputs.old)
+            (I.open_entry inputs.old)
             → Read result origin before given read self.new (I.contents inputs.old)
-            (I.taken inputs.new) (I.open_name inputs.new) out.old out.new }
+            (I.taken inputs.new) (I.open_entry inputs.new) out.old out.new }
         ensures contents { I.contents inputs.new ≡ I.contents inputs.old }
         ensures cause { TurnCause result (I.faults inputs.old) (I.faults inputs.new) }
     {

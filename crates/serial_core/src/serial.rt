@@ -82,14 +82,14 @@ impl<S: Step + Drop> Serial<S> {
             × (read : List SpecEvent) × (shown : List SpecEvent)
             × SerialRepresents S.verb S.represents command given read shown self.old
             × After before given (I.contents inputs.old) (I.taken inputs.old)
-            (I.open_name inputs.old) }
+            (I.open_entry inputs.old) }
         ensures ran { (command : Command) (before : Option (List Take)) (given : List Take)
             (read shown : List SpecEvent)
             → SerialRepresents S.verb S.represents command given read shown self.old
             → After before given (I.contents inputs.old) (I.taken inputs.old)
-            (I.open_name inputs.old)
+            (I.open_entry inputs.old)
             → Ran result S.verb S.represents command before given read shown self.new
-            (I.contents inputs.old) (I.taken inputs.new) (I.open_name inputs.new)
+            (I.contents inputs.old) (I.taken inputs.new) (I.open_entry inputs.new)
             (O.held outputs.old) (O.held outputs.new) }
         ensures contents { I.contents inputs.new ≡ I.contents inputs.old }
         ensures cause { TurnCounts result (I.faults inputs.old) (I.faults inputs.new) }
@@ -111,7 +111,7 @@ impl<S: Step + Drop> Serial<S> {
         requires { (command : Command) × Begins S.verb S.represents command self.old }
         ensures run { (command : Command) → Begins S.verb S.represents command self.old
             → Run result command (I.contents inputs.old) (I.taken inputs.old) (I.taken inputs.new)
-            (I.open_name inputs.new) (O.held outputs.old) (O.held outputs.new) }
+            (I.open_entry inputs.new) (O.held outputs.old) (O.held outputs.new) }
         ensures contents { I.contents inputs.new ≡ I.contents inputs.old }
         ensures cause { InputCause result (I.faults inputs.old) (I.faults inputs.new) }
         ensures counts { Counted (has_failed result) (O.faults outputs.old) (O.faults outputs.new)
@@ -140,14 +140,14 @@ impl<S: Step + Drop> Serial<S> {
         requires { (command : Command) × (before : Option (List Take)) × (given : List Take)
             × (read : List SpecEvent) × Settled S.verb S.represents command given read self.old
             × After before given (I.contents inputs.old) (I.taken inputs.old)
-            (I.open_name inputs.old) }
+            (I.open_entry inputs.old) }
         ensures ran { (command : Command) (before : Option (List Take)) (given : List Take)
             (read : List SpecEvent)
             → Settled S.verb S.represents command given read self.old
             → After before given (I.contents inputs.old) (I.taken inputs.old)
-            (I.open_name inputs.old)
+            (I.open_entry inputs.old)
             → Ran result S.verb S.represents command before given read (chain command.verbs read)
-            self.new (I.contents inputs.old) (I.taken inputs.new) (I.open_name inputs.new)
+            self.new (I.contents inputs.old) (I.taken inputs.new) (I.open_entry inputs.new)
             (O.held outputs.old) (O.held outputs.new) }
         ensures contents { I.contents inputs.new ≡ I.contents inputs.old }
         ensures cause { TurnCounts result (I.faults inputs.old) (I.faults inputs.new) }

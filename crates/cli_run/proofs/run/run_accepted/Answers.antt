@@ -16,4 +16,4 @@ returns-in-Ok-clause-completes g c = λ verbs line.
 pub returns-in-Err-clause-run : goal.returns-in-Err-clause-run
 returns-in-Err-clause-run g c = λ verbs line.
     let words = c.args.words.now in
-    unread (command_of c.args.command.formats verbs (names_of c.args.command words) words) (g.I.Inputs.contents c.args.inputs.now) (g.I.Inputs.taken c.args.inputs.now) (g.I.Inputs.open_name c.args.inputs.now) (g.O.Outputs.held c.args.outputs.now)
+    unread (command_of c.args.command.formats verbs (names_of c.args.command words) words) (g.I.Inputs.contents c.args.inputs.now) (g.I.Inputs.taken c.args.inputs.now) (g.I.Inputs.open_entry c.args.inputs.now) (g.O.Outputs.held c.args.outputs.now)

@@ -22,7 +22,7 @@ returns-in-Refused-clause-run g c =
     let taken = g.I.Inputs.taken c.args.inputs.now in
     let held = g.O.Outputs.held c.args.outputs.now in
     subst (λ l. Ran words (names_in words l) (formats_in l) (answer.Refused (record { word = c.in-Refused.word; why = why.NotBuilt })) contents taken taken held held) (sym c.in-Refused.is)
-    (ran-refused words c.in-Refused.word (subst (Reads words) c.in-Refused.is c.requires) contents taken (g.I.Inputs.open_name c.args.inputs.now) held)
+    (ran-refused words c.in-Refused.word (subst (Reads words) c.in-Refused.is c.requires) contents taken (g.I.Inputs.open_entry c.args.inputs.now) held)
 
 pub returns-in-Refused-clause-completes : goal.returns-in-Refused-clause-completes
 returns-in-Refused-clause-completes g c = λ names command is holds quiet_in quiet_out.
@@ -54,7 +54,7 @@ returns-in-Accepted-clause-run g c =
     let held' = g.O.Outputs.held c.run_accepted.new.outputs in
     subst (λ l. Ran words (names_in words l) (formats_in l) c.run_accepted.result contents taken taken' held held') (sym c.in-Accepted.is)
     (ran-line words names (command_of formats line.0 names words) (record { formats = formats; verbs = line.0; line = line.1; command_is = refl })
-    c.run_accepted.result contents taken taken' (g.I.Inputs.open_name c.run_accepted.new.inputs) held held' (c.run_accepted.ensures.run line.0 line.1))
+    c.run_accepted.result contents taken taken' (g.I.Inputs.open_entry c.run_accepted.new.inputs) held held' (c.run_accepted.ensures.run line.0 line.1))
 
 pub returns-in-Accepted-clause-completes : goal.returns-in-Accepted-clause-completes
 returns-in-Accepted-clause-completes g c = λ names' command is holds quiet_in quiet_out.

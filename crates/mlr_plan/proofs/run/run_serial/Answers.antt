@@ -6,4 +6,4 @@ run-requires g c = let own = command-of c.args.plan.now c.requires in (own.0, c.
 
 pub returns-in-Err-clause-run : goal.returns-in-Err-clause-run
 returns-in-Err-clause-run g c command is =
-    unread command (g.I.Inputs.contents c.args.inputs.now) (g.I.Inputs.taken c.args.inputs.now) (g.I.Inputs.open_name c.args.inputs.now) (g.O.Outputs.held c.args.outputs.now)
+    unread command (g.I.Inputs.contents c.args.inputs.now) (g.I.Inputs.taken c.args.inputs.now) (g.I.Inputs.open_entry c.args.inputs.now) (g.O.Outputs.held c.args.outputs.now)

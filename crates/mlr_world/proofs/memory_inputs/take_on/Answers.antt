@@ -1,7 +1,7 @@
 use Rattle.std.proofs.Common.{◌≡◌, ◌+◌, ◌-◌, length, subst, arith}
 use Rattle.mlr_world.specs.declared.inputs.Got.TheVariants as got
 use Rattle.mlr_world.specs.MemoryInputs.{TakesFrom, TakesUpTo}
-use Rattle.mlr_world.proofs.MemoryInputs.{text-read, took, left-read, ended_at, name-grew, name-ended}
+use Rattle.mlr_world.proofs.MemoryInputs.{text-read, took, left-read, ended_at, entry-grew, entry-ended}
 use Rattle.mlr_world.proofs.memory_inputs.take_on.Goals as goal
 
 pub returns-in-Some-clause-taken : goal.returns-in-Some-clause-taken
@@ -25,12 +25,12 @@ returns-in-Some-clause-most c =
     left-read contents readings i reading last c.index-reading.ensures c.requires.fine c.index-contents-reading.result c.as_slice-text.result.now c.as_slice-text.ensures
     (TakesUpTo c.args.limit (got.Some c.in-Some.count)) c.in-Some.ensures.most
 
-pub returns-in-Some-clause-name : goal.returns-in-Some-clause-name
-returns-in-Some-clause-name c =
+pub returns-in-Some-clause-entry : goal.returns-in-Some-clause-entry
+returns-in-Some-clause-entry c =
     let readings = c.args.readings.now.items in
     let i = c.len-last.result - 1 in
     let last : i + 1 ≡ length readings = omega arith in
-    name-grew c.args.contents.now readings i c.index-reading.result.now last c.index-reading.ensures c.requires.fine c.in-Some.count
+    entry-grew c.args.contents.now readings i c.index-reading.result.now last c.index-reading.ensures c.requires.fine c.in-Some.count
 
 pub returns-in-End-clause-taken : goal.returns-in-End-clause-taken
 returns-in-End-clause-taken c =
@@ -54,12 +54,12 @@ returns-in-End-clause-most c =
     left-read contents readings i reading last c.index-reading.ensures c.requires.fine c.index-contents-reading.result c.as_slice-text.result.now c.as_slice-text.ensures
     (TakesUpTo c.args.limit c.take_from-got.result) c.take_from-got.ensures.most
 
-pub returns-in-End-clause-name : goal.returns-in-End-clause-name
-returns-in-End-clause-name c =
+pub returns-in-End-clause-entry : goal.returns-in-End-clause-entry
+returns-in-End-clause-entry c =
     let readings = c.args.readings.now.items in
     let i = c.len-last.result - 1 in
     let last : i + 1 ≡ length readings = omega arith in
-    name-ended c.args.contents.now readings i c.index-reading.result.now last c.index-reading.ensures c.requires.fine
+    entry-ended c.args.contents.now readings i c.index-reading.result.now last c.index-reading.ensures c.requires.fine
 
 pub returns-in-Failed-clause-most : goal.returns-in-Failed-clause-most
 returns-in-Failed-clause-most c =

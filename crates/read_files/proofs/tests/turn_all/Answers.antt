@@ -11,5 +11,5 @@ loop-preserved g c =
       k.2,
       turned.given',
       turned.represents refl,
-      subst (λ held. After k.2 turned.given' held (g.I.Inputs.taken c.turn.new.inputs) (g.I.Inputs.open_name c.turn.new.inputs)) (sym c.in-Went.ensures.contents) turned.following,
+      subst (λ held. After k.2 turned.given' held (g.I.Inputs.taken c.turn.new.inputs) (g.I.Inputs.open_entry c.turn.new.inputs)) (sym c.in-Went.ensures.contents) turned.following,
     )

@@ -9,4 +9,4 @@ use Rattle.read_files.proofs.tests.turn_all.Given as goal
 -- the reader continues after what was taken
 abbrev pub invariant-loop : goal.invariant-loop
 invariant-loop g l = (opts : Options) × (names : List SpecName) × (before : Option (List Take)) × (given : List Take) × Represents opts names given l.reader
-    × After before given (g.I.Inputs.contents l.inputs) (g.I.Inputs.taken l.inputs) (g.I.Inputs.open_name l.inputs)
+    × After before given (g.I.Inputs.contents l.inputs) (g.I.Inputs.taken l.inputs) (g.I.Inputs.open_entry l.inputs)

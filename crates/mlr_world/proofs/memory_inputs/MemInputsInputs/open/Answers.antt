@@ -1,10 +1,10 @@
-use Rattle.std.proofs.Common.{◌≡◌, ◌||◌, true, false, ◌++◌, [], ◌∷◌, Some, None, IsSome, ap, ◌∙◌, subst, sym}
+use Rattle.std.proofs.Common.{◌≡◌, ◌||◌, true, false, ◌++◌, [], ◌∷◌, Some, None, IsSome, length, ap, ◌∙◌, subst, sym}
 use Rattle.std.specs.Option.{is_none}
 use Rattle.mlr_world.specs.Calls.{next_fails}
 use Rattle.mlr_world.specs.MemoryTexts.{same_input, IsFirstPlace}
 use Rattle.mlr_world.specs.MemorySource.{contents_at}
-use Rattle.mlr_world.specs.Taken.{begun}
-use Rattle.mlr_world.proofs.MemoryInputs.{finds, fails-absent, no-fault, all_fine-begun, takes-begun, name-begun}
+use Rattle.mlr_world.specs.Taken.{entry_of, begun}
+use Rattle.mlr_world.proofs.MemoryInputs.{finds, fails-absent, no-fault, all_fine-begun, takes-begun, entry-begun}
 use Rattle.mlr_world.proofs.memory_inputs.MemInputsInputs.open.Goals as goal
 
 pub invariant_of-self-in-Ok : goal.invariant_of-self-in-Ok
@@ -19,7 +19,8 @@ returns-in-Ok-clause-open c =
     let name = c.args.name.now in
     let s = c.self.inside in
     let found = subst (λ contents. IsFirstPlace (λ entry. same_input entry.0 name) contents (Some c.in-Some.place)) c.deref.ensures.value c.in-Some.ensures in
-    name-begun s.contents.items s.readings.items c.push.new.self.items name c.in-Some.place found c.in-Ok.ensures.items
+    entry-begun s.contents.items s.readings.items c.push.new.self.items name c.in-Some.place found c.in-Ok.ensures.items
+    ∙ ap (λ source. Some (entry_of name (length source.taken))) c.self.view_is
 
 pub returns-in-Ok-clause-taken : goal.returns-in-Ok-clause-taken
 returns-in-Ok-clause-taken c =

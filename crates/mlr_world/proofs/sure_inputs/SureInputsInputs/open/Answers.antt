@@ -1,8 +1,8 @@
-use Rattle.std.proofs.Common.{◌++◌, [], ◌∷◌, Some, ap, subst, sym, ◌∙◌}
+use Rattle.std.proofs.Common.{◌++◌, [], ◌∷◌, length, Some, ap, subst, sym, ◌∙◌}
 use Rattle.mlr_world.specs.MemoryInputs.{takes_of}
 use Rattle.mlr_world.specs.SureContents.{SureState}
-use Rattle.mlr_world.specs.Taken.{begun}
-use Rattle.mlr_world.proofs.MemoryInputs.{takes-begun, name-begun}
+use Rattle.mlr_world.specs.Taken.{entry_of, begun}
+use Rattle.mlr_world.proofs.MemoryInputs.{takes-begun, entry-begun}
 use Rattle.mlr_world.proofs.SureContents.{state-kept, taken-kept, state-begun}
 use Rattle.mlr_world.proofs.sure_inputs.SureInputsInputs.open.Goals as goal
 
@@ -34,7 +34,11 @@ invariant_of-self-in-Err-push c =
 
 pub returns-in-Ok-push-clause-open : goal.returns-in-Ok-push-clause-open
 returns-in-Ok-push-clause-open c =
-    name-begun c.place_or_add.new.entries.items c.self.inside.readings.items c.push.new.self.items c.args.name.now c.in-Ok.place c.in-Ok.ensures.found c.in-Ok-push.ensures.items
+    let s = c.self.inside in
+    let entries = c.place_or_add.new.entries.items in
+    let name = c.args.name.now in
+    entry-begun entries s.readings.items c.push.new.self.items name c.in-Ok.place c.in-Ok.ensures.found c.in-Ok-push.ensures.items
+    ∙ ap (λ takes. Some (entry_of name (length takes))) (taken-kept s.given s.entries.items entries s.readings.items c.self.invariant c.in-Ok.ensures.added ∙ ap (λ source. source.taken) c.self.view_is)
 
 pub returns-in-Ok-push-clause-taken : goal.returns-in-Ok-push-clause-taken
 returns-in-Ok-push-clause-taken c =

@@ -15,7 +15,7 @@ returns-in-NoMemory-clause-ran g c command before given read settled at =
       took = r.took;
       outcome =
           unread g.S.Step.verb g.S.Step.represents g.met.S.Step.orderly c.chain_laws.ensures.growth c.outlet_laws.ensures command before given read c.args.self.now settled
-          c.turn.result c.turn.new.self (g.I.Inputs.contents c.args.inputs.now) (g.I.Inputs.taken c.turn.new.inputs) (g.I.Inputs.open_name c.turn.new.inputs) c.turn.new.out r
+          c.turn.result c.turn.new.self (g.I.Inputs.contents c.args.inputs.now) (g.I.Inputs.taken c.turn.new.inputs) (g.I.Inputs.open_entry c.turn.new.inputs) c.turn.new.out r
           (g.O.Outputs.held c.args.outputs.now);
     }
 
@@ -27,7 +27,7 @@ returns-in-Failed-clause-ran g c command before given read settled at =
       took = r.took;
       outcome =
           failed g.S.Step.verb g.S.Step.represents g.met.S.Step.orderly c.chain_laws.ensures.growth c.outlet_laws.ensures command before given read c.args.self.now settled
-          c.turn.result c.turn.new.self (g.I.Inputs.contents c.args.inputs.now) (g.I.Inputs.taken c.turn.new.inputs) (g.I.Inputs.open_name c.turn.new.inputs) c.turn.new.out r
+          c.turn.result c.turn.new.self (g.I.Inputs.contents c.args.inputs.now) (g.I.Inputs.taken c.turn.new.inputs) (g.I.Inputs.open_entry c.turn.new.inputs) c.turn.new.out r
           c.in-Failed.name c.in-Failed.is (g.O.Outputs.held c.args.outputs.now);
     }
 
@@ -39,7 +39,7 @@ pass-requires g c =
       command.write,
       c.requires.3,
       can-pass g.S.Step.verb g.S.Step.represents g.met.S.Step.orderly c.chain_laws.ensures.growth c.outlet_laws.ensures command c.requires.1 c.requires.2 c.requires.3 c.args.self.now settled
-          c.turn.result c.turn.new.self (g.I.Inputs.contents c.args.inputs.now) (g.I.Inputs.taken c.turn.new.inputs) (g.I.Inputs.open_name c.turn.new.inputs) c.turn.new.out r
+          c.turn.result c.turn.new.self (g.I.Inputs.contents c.args.inputs.now) (g.I.Inputs.taken c.turn.new.inputs) (g.I.Inputs.open_entry c.turn.new.inputs) c.turn.new.out r
           c.in_default.not-NoMemory,
     )
 
@@ -48,14 +48,14 @@ returns-in-Some g c = record {
   ran = λ command before given read settled at.
       let r = c.turn.ensures.read command.origin before given read settled.all.reader at in
       let can = can-pass g.S.Step.verb g.S.Step.represents g.met.S.Step.orderly c.chain_laws.ensures.growth c.outlet_laws.ensures command before given read c.args.self.now settled
-      c.turn.result c.turn.new.self (g.I.Inputs.contents c.args.inputs.now) (g.I.Inputs.taken c.turn.new.inputs) (g.I.Inputs.open_name c.turn.new.inputs) c.turn.new.out r
+      c.turn.result c.turn.new.self (g.I.Inputs.contents c.args.inputs.now) (g.I.Inputs.taken c.turn.new.inputs) (g.I.Inputs.open_entry c.turn.new.inputs) c.turn.new.out r
       c.in_default.not-NoMemory in
       record {
         given' = r.given';
         took = r.took;
         outcome =
             over-passed g.S.Step.verb g.S.Step.represents g.met.S.Step.orderly c.chain_laws.ensures.growth c.outlet_laws.ensures command before given read c.args.self.now settled
-            c.turn.result c.turn.new.self (g.I.Inputs.contents c.args.inputs.now) (g.I.Inputs.taken c.turn.new.inputs) (g.I.Inputs.open_name c.turn.new.inputs) c.turn.new.out r
+            c.turn.result c.turn.new.self (g.I.Inputs.contents c.args.inputs.now) (g.I.Inputs.taken c.turn.new.inputs) (g.I.Inputs.open_entry c.turn.new.inputs) c.turn.new.out r
             c.in_default.not-NoMemory c.in-Some.ended c.pass.new.self (g.O.Outputs.held c.args.outputs.now) (g.O.Outputs.held c.pass.new.outputs) (c.in-Some.ensures.passed command.write read can);
       };
   contents = c.turn.ensures.contents;
@@ -64,7 +64,7 @@ returns-in-Some g c = record {
       let settled = c.requires.4 in
       let r = c.turn.ensures.read command.origin c.requires.1 c.requires.2 c.requires.3 settled.all.reader c.requires.5 in
       let can = can-pass g.S.Step.verb g.S.Step.represents g.met.S.Step.orderly c.chain_laws.ensures.growth c.outlet_laws.ensures command c.requires.1 c.requires.2 c.requires.3 c.args.self.now settled
-      c.turn.result c.turn.new.self (g.I.Inputs.contents c.args.inputs.now) (g.I.Inputs.taken c.turn.new.inputs) (g.I.Inputs.open_name c.turn.new.inputs) c.turn.new.out r
+      c.turn.result c.turn.new.self (g.I.Inputs.contents c.args.inputs.now) (g.I.Inputs.taken c.turn.new.inputs) (g.I.Inputs.open_entry c.turn.new.inputs) c.turn.new.out r
       c.in_default.not-NoMemory in
       let p = c.in-Some.ensures.passed command.write c.requires.3 can in
       written-cause c.in-Some.ended _ (g.I.Inputs.faults c.args.inputs.now) (g.I.Inputs.faults c.turn.new.inputs) p.says
@@ -78,7 +78,7 @@ returns-in-None g c = record {
   ran = λ command before given read settled at.
       let r = c.turn.ensures.read command.origin before given read settled.all.reader at in
       let can = can-pass g.S.Step.verb g.S.Step.represents g.met.S.Step.orderly c.chain_laws.ensures.growth c.outlet_laws.ensures command before given read c.args.self.now settled
-      c.turn.result c.turn.new.self (g.I.Inputs.contents c.args.inputs.now) (g.I.Inputs.taken c.turn.new.inputs) (g.I.Inputs.open_name c.turn.new.inputs) c.turn.new.out r
+      c.turn.result c.turn.new.self (g.I.Inputs.contents c.args.inputs.now) (g.I.Inputs.taken c.turn.new.inputs) (g.I.Inputs.open_entry c.turn.new.inputs) c.turn.new.out r
       c.in_default.not-NoMemory in
       record {
         given' = r.given';
@@ -86,7 +86,7 @@ returns-in-None g c = record {
         outcome =
             subst (λ t. Outcome t g.S.Step.verb g.S.Step.represents command given r.given' read (chain command.verbs read) c.pass.new.self (g.O.Outputs.held c.args.outputs.now) (g.O.Outputs.held c.pass.new.outputs)) (sym c.following.ensures)
             (none-passed g.S.Step.verb g.S.Step.represents g.met.S.Step.orderly c.chain_laws.ensures.growth c.outlet_laws.ensures command before given read c.args.self.now settled
-            c.turn.result c.turn.new.self (g.I.Inputs.contents c.args.inputs.now) (g.I.Inputs.taken c.turn.new.inputs) (g.I.Inputs.open_name c.turn.new.inputs) c.turn.new.out r
+            c.turn.result c.turn.new.self (g.I.Inputs.contents c.args.inputs.now) (g.I.Inputs.taken c.turn.new.inputs) (g.I.Inputs.open_entry c.turn.new.inputs) c.turn.new.out r
             c.in_default.not-NoMemory c.pass.new.self (g.O.Outputs.held c.args.outputs.now) (g.O.Outputs.held c.pass.new.outputs) c.pass.ensures.reader (c.in-None.ensures.passed command.write read can));
       };
   contents = c.turn.ensures.contents;

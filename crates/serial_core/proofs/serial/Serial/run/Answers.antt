@@ -16,25 +16,25 @@ loop-ended-init g c = (
   λ target. refl,
   omega arith,
   λ command begins.
-      going-first g.S.Step.verb g.S.Step.represents command (g.I.Inputs.taken c.args.inputs.now) (g.I.Inputs.contents c.args.inputs.now) (g.I.Inputs.taken c.args.inputs.now) (g.I.Inputs.open_name c.args.inputs.now) (g.O.Outputs.held c.args.outputs.now) c.args.self.now begins
-      (following-none (g.I.Inputs.contents c.args.inputs.now) (g.I.Inputs.taken c.args.inputs.now) (g.I.Inputs.open_name c.args.inputs.now)),
+      going-first g.S.Step.verb g.S.Step.represents command (g.I.Inputs.taken c.args.inputs.now) (g.I.Inputs.contents c.args.inputs.now) (g.I.Inputs.taken c.args.inputs.now) (g.I.Inputs.open_entry c.args.inputs.now) (g.O.Outputs.held c.args.outputs.now) c.args.self.now begins
+      (following-none (g.I.Inputs.contents c.args.inputs.now) (g.I.Inputs.taken c.args.inputs.now) (g.I.Inputs.open_entry c.args.inputs.now)),
 )
 
 pub turn-requires : goal.turn-requires
 turn-requires g c =
     let now = c.loop-ended.invariant.4 c.requires.0 c.requires.1 in
-    (c.requires.0, g.I.Inputs.taken c.args.inputs.now, now.given, now.read, now.shown, now.at, subst (λ t. After (g.I.Inputs.taken c.args.inputs.now) now.given t (g.I.Inputs.taken c.loop-ended.inputs) (g.I.Inputs.open_name c.loop-ended.inputs)) (sym c.loop-ended.invariant.0) now.following)
+    (c.requires.0, g.I.Inputs.taken c.args.inputs.now, now.given, now.read, now.shown, now.at, subst (λ t. After (g.I.Inputs.taken c.args.inputs.now) now.given t (g.I.Inputs.taken c.loop-ended.inputs) (g.I.Inputs.open_entry c.loop-ended.inputs)) (sym c.loop-ended.invariant.0) now.following)
 
 pub returns-in-Over-clause-run : goal.returns-in-Over-clause-run
 returns-in-Over-clause-run g c command begins =
     let now = c.loop-ended.invariant.4 command begins in
-    came-over g.S.Step.verb g.S.Step.represents command (g.I.Inputs.taken c.args.inputs.now) (g.I.Inputs.contents c.args.inputs.now) (g.I.Inputs.taken c.loop-ended.inputs) (g.I.Inputs.open_name c.loop-ended.inputs)
-    (g.O.Outputs.held c.args.outputs.now) (g.O.Outputs.held c.loop-ended.outputs) c.loop-ended.self now c.turn.new.self (g.I.Inputs.taken c.turn.new.inputs) (g.I.Inputs.open_name c.turn.new.inputs) (g.O.Outputs.held c.turn.new.outputs)
+    came-over g.S.Step.verb g.S.Step.represents command (g.I.Inputs.taken c.args.inputs.now) (g.I.Inputs.contents c.args.inputs.now) (g.I.Inputs.taken c.loop-ended.inputs) (g.I.Inputs.open_entry c.loop-ended.inputs)
+    (g.O.Outputs.held c.args.outputs.now) (g.O.Outputs.held c.loop-ended.outputs) c.loop-ended.self now c.turn.new.self (g.I.Inputs.taken c.turn.new.inputs) (g.I.Inputs.open_entry c.turn.new.inputs) (g.O.Outputs.held c.turn.new.outputs)
     (stopped-early c.source_laws.ensures.list c.source_laws.ensures.grows c.source_laws.ensures.fixed command (c.chain_laws.ensures.growth command.verbs)
     (chained g.S.Step.verb g.S.Step.represents g.met.S.Step.orderly command [] [] [] c.args.self.now begins) c.source_laws.ensures.early (g.I.Inputs.taken c.args.inputs.now) (g.I.Inputs.contents c.args.inputs.now)) c.in-Over.ended
-    (subst (λ t. Ran (Over c.in-Over.ended) g.S.Step.verb g.S.Step.represents command (g.I.Inputs.taken c.args.inputs.now) now.given now.read now.shown c.turn.new.self t (g.I.Inputs.taken c.turn.new.inputs) (g.I.Inputs.open_name c.turn.new.inputs) (g.O.Outputs.held c.loop-ended.outputs) (g.O.Outputs.held c.turn.new.outputs))
+    (subst (λ t. Ran (Over c.in-Over.ended) g.S.Step.verb g.S.Step.represents command (g.I.Inputs.taken c.args.inputs.now) now.given now.read now.shown c.turn.new.self t (g.I.Inputs.taken c.turn.new.inputs) (g.I.Inputs.open_entry c.turn.new.inputs) (g.O.Outputs.held c.loop-ended.outputs) (g.O.Outputs.held c.turn.new.outputs))
     c.loop-ended.invariant.0
-    (c.in-Over.ensures.ran command (g.I.Inputs.taken c.args.inputs.now) now.given now.read now.shown now.at (subst (λ t. After (g.I.Inputs.taken c.args.inputs.now) now.given t (g.I.Inputs.taken c.loop-ended.inputs) (g.I.Inputs.open_name c.loop-ended.inputs)) (sym c.loop-ended.invariant.0) now.following)))
+    (c.in-Over.ensures.ran command (g.I.Inputs.taken c.args.inputs.now) now.given now.read now.shown now.at (subst (λ t. After (g.I.Inputs.taken c.args.inputs.now) now.given t (g.I.Inputs.taken c.loop-ended.inputs) (g.I.Inputs.open_entry c.loop-ended.inputs)) (sym c.loop-ended.invariant.0) now.following)))
 
 pub returns-in-Over-clause-contents : goal.returns-in-Over-clause-contents
 returns-in-Over-clause-contents g c = c.turn.ensures.contents ∙ c.loop-ended.invariant.0
@@ -49,16 +49,16 @@ returns-in-Over-clause-counts g c =
 pub returns-in-Over-clause-completes : goal.returns-in-Over-clause-completes
 returns-in-Over-clause-completes g c command begins holds reads writes =
     let now = c.loop-ended.invariant.4 command begins in
-    let run = came-over g.S.Step.verb g.S.Step.represents command (g.I.Inputs.taken c.args.inputs.now) (g.I.Inputs.contents c.args.inputs.now) (g.I.Inputs.taken c.loop-ended.inputs) (g.I.Inputs.open_name c.loop-ended.inputs)
-    (g.O.Outputs.held c.args.outputs.now) (g.O.Outputs.held c.loop-ended.outputs) c.loop-ended.self now c.turn.new.self (g.I.Inputs.taken c.turn.new.inputs) (g.I.Inputs.open_name c.turn.new.inputs) (g.O.Outputs.held c.turn.new.outputs)
+    let run = came-over g.S.Step.verb g.S.Step.represents command (g.I.Inputs.taken c.args.inputs.now) (g.I.Inputs.contents c.args.inputs.now) (g.I.Inputs.taken c.loop-ended.inputs) (g.I.Inputs.open_entry c.loop-ended.inputs)
+    (g.O.Outputs.held c.args.outputs.now) (g.O.Outputs.held c.loop-ended.outputs) c.loop-ended.self now c.turn.new.self (g.I.Inputs.taken c.turn.new.inputs) (g.I.Inputs.open_entry c.turn.new.inputs) (g.O.Outputs.held c.turn.new.outputs)
     (stopped-early c.source_laws.ensures.list c.source_laws.ensures.grows c.source_laws.ensures.fixed command (c.chain_laws.ensures.growth command.verbs)
     (chained g.S.Step.verb g.S.Step.represents g.met.S.Step.orderly command [] [] [] c.args.self.now begins) c.source_laws.ensures.early (g.I.Inputs.taken c.args.inputs.now) (g.I.Inputs.contents c.args.inputs.now)) c.in-Over.ended
-    (subst (λ t. Ran (Over c.in-Over.ended) g.S.Step.verb g.S.Step.represents command (g.I.Inputs.taken c.args.inputs.now) now.given now.read now.shown c.turn.new.self t (g.I.Inputs.taken c.turn.new.inputs) (g.I.Inputs.open_name c.turn.new.inputs) (g.O.Outputs.held c.loop-ended.outputs) (g.O.Outputs.held c.turn.new.outputs))
+    (subst (λ t. Ran (Over c.in-Over.ended) g.S.Step.verb g.S.Step.represents command (g.I.Inputs.taken c.args.inputs.now) now.given now.read now.shown c.turn.new.self t (g.I.Inputs.taken c.turn.new.inputs) (g.I.Inputs.open_entry c.turn.new.inputs) (g.O.Outputs.held c.loop-ended.outputs) (g.O.Outputs.held c.turn.new.outputs))
     c.loop-ended.invariant.0
-    (c.in-Over.ensures.ran command (g.I.Inputs.taken c.args.inputs.now) now.given now.read now.shown now.at (subst (λ t. After (g.I.Inputs.taken c.args.inputs.now) now.given t (g.I.Inputs.taken c.loop-ended.inputs) (g.I.Inputs.open_name c.loop-ended.inputs)) (sym c.loop-ended.invariant.0) now.following))) in
+    (c.in-Over.ensures.ran command (g.I.Inputs.taken c.args.inputs.now) now.given now.read now.shown now.at (subst (λ t. After (g.I.Inputs.taken c.args.inputs.now) now.given t (g.I.Inputs.taken c.loop-ended.inputs) (g.I.Inputs.open_entry c.loop-ended.inputs)) (sym c.loop-ended.invariant.0) now.following))) in
     completes c.source_laws.ensures.list c.source_laws.ensures.grows c.source_laws.ensures.fixed command (c.chain_laws.ensures.growth command.verbs)
     (chained g.S.Step.verb g.S.Step.represents g.met.S.Step.orderly command [] [] [] c.args.self.now begins) c.source_laws.ensures.whole
-    (g.I.Inputs.contents c.args.inputs.now) (g.I.Inputs.taken c.args.inputs.now) (g.I.Inputs.taken c.turn.new.inputs) (g.I.Inputs.open_name c.turn.new.inputs) (g.O.Outputs.held c.args.outputs.now) (g.O.Outputs.held c.turn.new.outputs) holds c.in-Over.ended run
+    (g.I.Inputs.contents c.args.inputs.now) (g.I.Inputs.taken c.args.inputs.now) (g.I.Inputs.taken c.turn.new.inputs) (g.I.Inputs.open_entry c.turn.new.inputs) (g.O.Outputs.held c.args.outputs.now) (g.O.Outputs.held c.turn.new.outputs) holds c.in-Over.ended run
     (g.I.Inputs.faults c.args.inputs.now) (g.I.Inputs.faults c.turn.new.inputs)
     (cause-from c.in-Over.ended (g.I.Inputs.faults c.args.inputs.now) (g.I.Inputs.faults c.loop-ended.inputs) (g.I.Inputs.faults c.turn.new.inputs) c.loop-ended.invariant.1 c.in-Over.ensures.cause) reads
     (g.O.Outputs.faults c.args.outputs.now) (g.O.Outputs.faults c.turn.new.outputs)
@@ -75,11 +75,11 @@ loop-ended-preserved g c = (
   omega (arith, c.loop-ended.invariant.3, c.turn.ensures.shortages),
   λ command begins.
       let now = c.loop-ended.invariant.4 command begins in
-      going-on g.S.Step.verb g.S.Step.represents command (g.I.Inputs.taken c.args.inputs.now) (g.I.Inputs.contents c.args.inputs.now) (g.I.Inputs.taken c.loop-ended.inputs) (g.I.Inputs.open_name c.loop-ended.inputs)
-      (g.O.Outputs.held c.args.outputs.now) (g.O.Outputs.held c.loop-ended.outputs) c.loop-ended.self now c.turn.new.self (g.I.Inputs.taken c.turn.new.inputs) (g.I.Inputs.open_name c.turn.new.inputs) (g.O.Outputs.held c.turn.new.outputs)
-      (subst (λ t. Ran Went g.S.Step.verb g.S.Step.represents command (g.I.Inputs.taken c.args.inputs.now) now.given now.read now.shown c.turn.new.self t (g.I.Inputs.taken c.turn.new.inputs) (g.I.Inputs.open_name c.turn.new.inputs) (g.O.Outputs.held c.loop-ended.outputs) (g.O.Outputs.held c.turn.new.outputs))
+      going-on g.S.Step.verb g.S.Step.represents command (g.I.Inputs.taken c.args.inputs.now) (g.I.Inputs.contents c.args.inputs.now) (g.I.Inputs.taken c.loop-ended.inputs) (g.I.Inputs.open_entry c.loop-ended.inputs)
+      (g.O.Outputs.held c.args.outputs.now) (g.O.Outputs.held c.loop-ended.outputs) c.loop-ended.self now c.turn.new.self (g.I.Inputs.taken c.turn.new.inputs) (g.I.Inputs.open_entry c.turn.new.inputs) (g.O.Outputs.held c.turn.new.outputs)
+      (subst (λ t. Ran Went g.S.Step.verb g.S.Step.represents command (g.I.Inputs.taken c.args.inputs.now) now.given now.read now.shown c.turn.new.self t (g.I.Inputs.taken c.turn.new.inputs) (g.I.Inputs.open_entry c.turn.new.inputs) (g.O.Outputs.held c.loop-ended.outputs) (g.O.Outputs.held c.turn.new.outputs))
       c.loop-ended.invariant.0
-      (c.in-Went.ensures.ran command (g.I.Inputs.taken c.args.inputs.now) now.given now.read now.shown now.at (subst (λ t. After (g.I.Inputs.taken c.args.inputs.now) now.given t (g.I.Inputs.taken c.loop-ended.inputs) (g.I.Inputs.open_name c.loop-ended.inputs)) (sym c.loop-ended.invariant.0) now.following))),
+      (c.in-Went.ensures.ran command (g.I.Inputs.taken c.args.inputs.now) now.given now.read now.shown now.at (subst (λ t. After (g.I.Inputs.taken c.args.inputs.now) now.given t (g.I.Inputs.taken c.loop-ended.inputs) (g.I.Inputs.open_entry c.loop-ended.inputs)) (sym c.loop-ended.invariant.0) now.following))),
 )
 
 -- the reader has less left
@@ -87,5 +87,5 @@ pub loop-ended-smaller : goal.loop-ended-smaller
 loop-ended-smaller g c =
     let command = c.requires.0 in
     let now = c.loop-ended.invariant.4 command c.requires.1 in
-    let ran = c.in-Went.ensures.ran command (g.I.Inputs.taken c.args.inputs.now) now.given now.read now.shown now.at (subst (λ t. After (g.I.Inputs.taken c.args.inputs.now) now.given t (g.I.Inputs.taken c.loop-ended.inputs) (g.I.Inputs.open_name c.loop-ended.inputs)) (sym c.loop-ended.invariant.0) now.following) in
+    let ran = c.in-Went.ensures.ran command (g.I.Inputs.taken c.args.inputs.now) now.given now.read now.shown now.at (subst (λ t. After (g.I.Inputs.taken c.args.inputs.now) now.given t (g.I.Inputs.taken c.loop-ended.inputs) (g.I.Inputs.open_entry c.loop-ended.inputs)) (sym c.loop-ended.invariant.0) now.following) in
     less-left command.origin now.given ran.given' now.read ran.outcome.put c.loop-ended.self.reader c.turn.new.self.reader now.at.reader ran.outcome.represent.reader ran.outcome.came_on

@@ -15,7 +15,7 @@ invariant-loop-ended g l =
     ((target : Target) → g.O.Outputs.faults l.outputs target ≡ g.O.Outputs.faults l.fn.outputs target) ×
     (g.O.Outputs.shortages l.fn.outputs ≤ g.O.Outputs.shortages l.outputs) ×
     ((command : Command) → Begins g.S.Step.verb g.S.Step.represents command l.fn.self
-    → Going g.S.Step.verb g.S.Step.represents command (g.I.Inputs.taken l.fn.inputs) (g.I.Inputs.contents l.fn.inputs) (g.I.Inputs.taken l.inputs) (g.I.Inputs.open_name l.inputs) (g.O.Outputs.held l.fn.outputs) (g.O.Outputs.held l.outputs) l.self)
+    → Going g.S.Step.verb g.S.Step.represents command (g.I.Inputs.taken l.fn.inputs) (g.I.Inputs.contents l.fn.inputs) (g.I.Inputs.taken l.inputs) (g.I.Inputs.open_entry l.inputs) (g.O.Outputs.held l.fn.outputs) (g.O.Outputs.held l.outputs) l.self)
 
 -- what the reader has left
 abbrev pub decreases-loop-ended : goal.decreases-loop-ended

@@ -25,7 +25,7 @@ pub returns-in-Some-clause-ran : goal.returns-in-Some-clause-ran
 returns-in-Some-clause-ran g c command before given read shown at following =
     let list = list-at-hand g.S.Step.verb g.S.Step.represents g.met.S.Step.orderly command given read shown c.args.self.now at in
     over-written g.S.Step.verb g.S.Step.represents g.met.S.Step.orderly command given read shown c.args.self.now at (c.chain_laws.ensures.growth command.verbs) (c.outlet_laws.ensures command.write)
-    (origin-list c.source_laws.ensures.list command.origin given) before (g.I.Inputs.contents c.args.inputs.now) (g.I.Inputs.taken c.args.inputs.now) (g.I.Inputs.open_name c.args.inputs.now) following
+    (origin-list c.source_laws.ensures.list command.origin given) before (g.I.Inputs.contents c.args.inputs.now) (g.I.Inputs.taken c.args.inputs.now) (g.I.Inputs.open_entry c.args.inputs.now) following
     c.in-Some.ended c.write.new.self (g.O.Outputs.held c.args.outputs.now) (g.O.Outputs.held c.write.new.outputs) (c.in-Some.ensures.wrote command.write shown at.outlet list)
 
 pub returns-in-Some-clause-cause : goal.returns-in-Some-clause-cause
@@ -41,6 +41,6 @@ returns-in-None-clause-ran g c command before given read shown at following =
     let settled = settled-following g.S.Step.verb g.S.Step.represents g.met.S.Step.orderly command given read shown c.args.self.now at c.write.new.self c.write.ensures.reader c.write.ensures.stages
     (c.in-None.ensures.emptied refl) (c.in-None.ensures.represents command.write shown at.outlet list refl) in
     ran-following g.S.Step.verb g.S.Step.represents g.met.S.Step.orderly command given read shown c.args.self.now at c.read.result before c.read.new.self
-    (g.I.Inputs.contents c.args.inputs.now) (g.I.Inputs.taken c.read.new.inputs) (g.I.Inputs.open_name c.read.new.inputs)
+    (g.I.Inputs.contents c.args.inputs.now) (g.I.Inputs.taken c.read.new.inputs) (g.I.Inputs.open_entry c.read.new.inputs)
     (g.O.Outputs.held c.args.outputs.now) (g.O.Outputs.held c.write.new.outputs) (g.O.Outputs.held c.read.new.outputs)
     (c.in-None.ensures.wrote command.write shown at.outlet list) (c.read.ensures.ran command before given read settled following)
