@@ -1,7 +1,9 @@
 -- A string that is one piece.
-use Rattle.std.proofs.Common.{◌≡◌, ℕ, ◌-◌, ◌==◌, ◌<◌, ◌≤◌, true, false, cond, List, [], ◌∷◌, length, drop, refl, ap, sym, ◌∙◌, arith, length-drop, inl, inr}
+use Rattle.std.proofs.Common.{◌≡◌, ℕ, ◌-◌, ◌==◌, ◌<◌, ◌≤◌, true, false, cond, List, [], ◌∷◌, length, drop, refl, ap, sym, ◌∙◌, arith, length-drop, inl, inr, get_or, not, Some, None}
 use Rattle.std.specs.List.{prefix_len, take_while}
 use Rattle.std.proofs.lemmas.Bool.{cases_Bool, ne_eqb, true≢false}
+use Rattle.std.proofs.lemmas.List.Sums.{prefix_len_is}
+use Rattle.memchr.specs.Find.{IsFirstByte, Passes, is_byte2}
 use Rattle.mlr_spec.specs.JsonTokens.{raw, quote, piece, found, is_raw, lexeme_inside, lexeme_of_escape, and_lexeme, pieces_in, tokens_inside}
 use Rattle.mlr_json.specs.Readable.{plain}
 use Rattle.mlr_json.specs.Reading.{lexemes_left, tokens_left, inside_left, pieces_left}
@@ -44,3 +46,20 @@ one-piece end text following fits some rest =
     ∙ ap (λ t. and_lexeme (end - length text) (piece (raw bytes)) (lexemes_left true end t)) rest
     ∙ ap (and_lexeme (end - length text) (piece (raw bytes))) (left-found true end (34 ∷ following) quote 1 rest_fits (first-quote following)) in
     (ap (λ x. pieces_in x.lexemes) all, ap (λ x. tokens_inside plain x.lexemes x.stop) all)
+
+-- the bytes before the first quote or backslash
+module _ (text : List ℕ) where
+  plain-at : (k : ℕ) → (Passes (is_byte2 34 92) text k → ⊥) → is_raw (get_or text k 0) ≡ true
+  plain-at k apart =
+      elim (cases_Bool (is_byte2 34 92 (get_or text k 0))) as (λ _. is_raw (get_or text k 0) ≡ true) [
+        | inl y ↦ absurd (apart y)
+        | inr n ↦ ap not n
+      ]
+
+  pub raw-before : (k : ℕ) → IsFirstByte (is_byte2 34 92) text (Some k) → k ≡ prefix_len is_raw text
+  raw-before k h =
+      let high = h.0.high in
+      sym (prefix_len_is is_raw text k 0 (omega arith) (λ j below. plain-at j (h.0.before j (omega arith) below)) (λ _. ap not h.1))
+
+  pub raw-all : IsFirstByte (is_byte2 34 92) text None → length text ≡ prefix_len is_raw text
+  raw-all h = sym (prefix_len_is is_raw text (length text) 0 (omega arith) (λ j below. plain-at j (h j (omega arith) below)) (λ below. absurd (omega arith)))

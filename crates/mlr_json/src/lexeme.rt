@@ -5,6 +5,7 @@ ghost use Rattle.mlr_spec.specs.Infer.{digit, number};
 ghost use Rattle.mlr_spec.specs.JsonTokens.{is_blank, is_word_byte, is_raw, is_hex, mark_of, escape_of, lexeme_unmarked, lexeme_outside, lexeme_inside, lexeme_of_escape, lexeme_of_unit, first_lexeme};
 ghost use Rattle.mlr_json.specs.Seen.{scan_seen, IsWithin, EscapeIs};
 
+use memchr::memchr2;
 use mlr_spec::JsonMark;
 
 /// What a JSON text is read as, byte by byte. It borrows from the text.
@@ -114,13 +115,6 @@ fn is_word_byte(byte: u8) -> bool
     matches!(byte, b'a'..=b'z' | b'A'..=b'Z' | b'0'..=b'9' | b'+' | b'-' | b'.' | b'_')
 }
 
-#[inline(always)]
-fn is_raw(byte: u8) -> bool
-    ensures { result ≡ is_raw byte }
-{
-    byte != b'"' && byte != b'\\'
-}
-
 /// How many blanks a text begins with.
 #[inline(always)]
 pub(crate) fn blank_len(text: &[u8]) -> usize
@@ -152,12 +146,10 @@ pub fn word_len(text: &[u8]) -> usize
 pub(crate) fn raw_len(text: &[u8]) -> usize
     ensures { result ≡ prefix_len is_raw text.now }
 {
-    for (place, byte) in text.iter().enumerate() {
-        if !is_raw(*byte) {
-            return place;
-        }
+    match memchr2(b'"', b'\\', text) {
+        Some(place) => place,
+        None => text.len(),
     }
-    text.len()
 }
 
 #[inline(always)]

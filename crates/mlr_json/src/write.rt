@@ -86,6 +86,7 @@ fn append_field(
 }
 
 #[cycle(write)]
+#[inline(never)]
 fn append_map(
     pairs: &MapValue,
     style: JsonStyle,
@@ -127,6 +128,7 @@ fn append_pairs(
 
 /// An array takes several lines only if it contains a map or an array.
 #[cycle(write)]
+#[inline(never)]
 fn append_array(
     items: &ArrayValue,
     style: JsonStyle,

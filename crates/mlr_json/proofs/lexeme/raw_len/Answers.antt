@@ -1,12 +1,8 @@
-use Rattle.std.proofs.Common.{arith, sym, ◌∙◌}
-use Rattle.std.proofs.lemmas.List.Sums.{prefix_len_is}
-use Rattle.mlr_spec.specs.JsonTokens.{is_raw}
+use Rattle.mlr_json.proofs.Pieces.{raw-before, raw-all}
 use Rattle.mlr_json.proofs.lexeme.raw_len.Goals as goal
 
-pub returns-then-not-is_raw : goal.returns-then-not-is_raw
-returns-then-not-is_raw c =
-    sym (prefix_len_is is_raw c.args.text.now c.loop-place.place 0 (omega arith) c.loop-place.invariant (λ _. sym c.is_raw.ensures ∙ c.if-not-is_raw.true))
+pub returns-in-Some : goal.returns-in-Some
+returns-in-Some c = raw-before c.args.text.now c.in-Some.place c.in-Some.ensures
 
-pub returns : goal.returns
-returns c =
-    sym (prefix_len_is is_raw c.args.text.now _ 0 (omega arith) (λ k h. c.loop-place.invariant k (omega arith)) (λ h. absurd (omega arith)))
+pub returns-in-None : goal.returns-in-None
+returns-in-None c = raw-all c.args.text.now c.in-None.ensures
