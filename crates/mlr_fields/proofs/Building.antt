@@ -1,14 +1,14 @@
 -- Records built field by field, and the index of their names.
-use Rattle.std.proofs.Common.{◌≡◌, ℕ, zero, suc, ◌+◌, Bool, true, false, not, ◌||◌, List, [], ◌∷◌, ◌++◌, length, take, get_or, set, Some, None, slice_get, Option, Result, Ok, Err, OnOk, IfSome, is_ok, if◌then◌else◌, refl, ap, sym, ◌∙◌, inl, inr, add-one, append_assoc}
+use Rattle.std.proofs.Common.{◌≡◌, ℕ, zero, suc, ◌+◌, ◌<◌, ◌≤◌, Bool, true, false, not, ◌||◌, List, [], ◌∷◌, ◌++◌, length, take, get_or, set, Some, None, slice_get, Option, Result, Ok, Err, OnOk, IfSome, is_ok, if◌then◌else◌, refl, ap, sym, ◌∙◌, inl, inr, add-one, append_assoc, arith}
 use Rattle.std.specs.List.{list_any}
 use Rattle.std.specs.Str.{bytes_eq}
 use Rattle.std.proofs.lemmas.Bool.{and_parts, cases_Bool, not-true, or_from, true≢false}
-use Rattle.std.proofs.lemmas.List.{append-nil, map-append}
+use Rattle.std.proofs.lemmas.List.{append-nil, length-append, map-append}
 use Rattle.std.proofs.lemmas.Slice.Eq.{bytes_eq-Decides}
 use Rattle.mlr_spec.specs.Tree.{Tree}
 use Rattle.mlr_spec.specs.Pairs.{are_distinct, keys_of, put_at}
 use Rattle.mlr_spec.proofs.Pairs.{put_at-none}
-use Rattle.mlr_event.proofs.Putting.{value_at-free}
+use Rattle.mlr_event.proofs.Putting.{length-keys, value_at-free}
 use Rattle.mlr_event.specs.Reading.{free_name, is_among}
 use Rattle.mlr_event.specs.Rows.{with_field}
 use Rattle.mlr_fields.specs.Prefixes.{IsPrefix}
@@ -98,13 +98,20 @@ prefix-taken prefix xs is = sym (ap (take (length prefix)) is.1 ∙ take-append 
     take-append [] ys = refl
     take-append (x ∷ xs) ys = ap (λ rest. x ∷ rest) (take-append xs ys)
 
--- a prefix of the names stays one when a field is appended
-pub prefix-pushed : (index : Option (List (List ℕ))) (old new : Pairs) (ok : Bool) (name : List ℕ) (value : Tree) → new ≡ (if ok then old ++ (name, value) ∷ [] else old)
-    → IfSome index (λ i. IsPrefix i (keys_of old)) → IfSome index (λ i. IsPrefix i (keys_of new))
-prefix-pushed None old new ok name value is prefix = prefix
-prefix-pushed (Some index) old new true name value is prefix =
-    (prefix.0 ++ name ∷ [], ap keys_of is ∙ keys-pushed old name value ∙ ap (λ keys. keys ++ name ∷ []) prefix.1 ∙ append_assoc index prefix.0 (name ∷ []))
-prefix-pushed (Some index) old new false name value is prefix = (prefix.0, ap keys_of is ∙ prefix.1)
+-- an index that has enough of the first names keeps them when a field is appended, and a record of few fields has none
+abbrev HasMany : ℕ → Pairs → List (List ℕ) → Type 0
+HasMany few pairs index = IsPrefix index (keys_of pairs) × (few ≤ length index)
+
+pub many-pushed : (few : ℕ) (index : Option (List (List ℕ))) (old new : Pairs) (ok : Bool) (name : List ℕ) (value : Tree) → new ≡ (if ok then old ++ (name, value) ∷ [] else old)
+    → IfSome index (HasMany few old) → IfSome index (HasMany few new)
+many-pushed few None old new ok name value is many = many
+many-pushed few (Some index) old new true name value is many =
+    ((many.0.0 ++ name ∷ [], ap keys_of is ∙ keys-pushed old name value ∙ ap (λ keys. keys ++ name ∷ []) many.0.1 ∙ append_assoc index many.0.0 (name ∷ [])), many.1)
+many-pushed few (Some index) old new false name value is many = ((many.0.0, ap keys_of is ∙ many.0.1), many.1)
+
+pub few-unindexed : (few : ℕ) (index : Option (List (List ℕ))) (old new : Pairs) → length old < few → IfSome index (HasMany few old) → IfSome index (HasMany few new)
+few-unindexed few None old new low many = many
+few-unindexed few (Some index) old new low many = absurd (omega (arith, length-keys old, ap length many.0.1, length-append index many.0.0, many.1))
 
 -- a record after a field that may have been set
 pub set-on-ok : {T E : Type 0} (result : Result T E) (old new with other : Pairs) → new ≡ (if is_ok result then with else old) → with ≡ other → OnOk result (new ≡ other)

@@ -2,6 +2,7 @@
 ghost use Rattle.std.specs.Prelude.{◌≡◌, ◌^◌, ◌<◌, [], length, IfOk, IsOk};
 ghost use Rattle.mlr_event.specs.Reading.{distinct_names, free_name};
 
+use crate::fields::FEW;
 use crate::name_index::NameIndex;
 use crate::suffixes::{FIRST, first_free};
 use mlr_event::rows::TakenNames;
@@ -9,15 +10,12 @@ use mlr_spec::NoMemory;
 use mlr_value::Bytes;
 use std::alloc::Global;
 
-/// Up to so many names a search goes over the names themselves.
-pub(crate) const FEW: usize = 32;
-
 /// The names, each made distinct from those before it.
 pub(crate) fn distinct_names(alloc: Global, names: &[Bytes]) -> Result<Vec<Bytes>, NoMemory>
     ensures names { IfOk result (λ made. made.items ≡ distinct_names names.now) }
     ensures none { names.now ≡ [] → IsOk result }
 {
-    if names.len() <= FEW {
+    if names.len() < FEW {
         few_distinct_names(alloc, names)
     } else {
         many_distinct_names(alloc, names)
@@ -50,7 +48,7 @@ fn free_name(alloc: Global, names: &Vec<Bytes>, name: &[u8]) -> Result<Bytes, No
 fn many_distinct_names(alloc: Global, names: &[Bytes]) -> Result<Vec<Bytes>, NoMemory>
     ensures { IfOk result (λ made. made.items ≡ distinct_names names.now) }
 {
-    let mut index = NameIndex::new(alloc);
+    let mut index = NameIndex::new(alloc, names.len())?;
     let mut made = Vec::with_capacity(alloc, names.len())?;
     for name in names {
         let free = index.free_name(name.as_slice())?;

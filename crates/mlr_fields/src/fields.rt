@@ -1,11 +1,10 @@
 //! Records built field by field.
-ghost use Rattle.std.specs.Prelude.{◌≡◌, ◌^◌, ◌<◌, ◌++◌, ◌∷◌, [], None, true, length, IfOk, OnOk};
+ghost use Rattle.std.specs.Prelude.{◌≡◌, ◌^◌, ◌<◌, ◌≤◌, ◌++◌, ◌∷◌, [], None, true, length, OnOk};
 ghost use Rattle.mlr_spec.specs.Infer.{tree_of_data};
 ghost use Rattle.mlr_spec.specs.Pairs.{are_distinct, keys_of, value_at};
 ghost use Rattle.mlr_value.specs.Value.{tree_of};
 ghost use Rattle.mlr_event.specs.Rows.{with_field};
 
-use crate::distinct::FEW;
 use crate::name_index::NameIndex;
 use crate::suffixes::{FIRST, first_free};
 use mlr_event::ReadOpts;
@@ -16,6 +15,9 @@ use mlr_value::{Value, from_data};
 use std::alloc::Global;
 use std::marker::Model;
 use std::mem;
+
+/// Under so many names a search goes over the names themselves.
+pub(crate) const FEW: usize = 64;
 
 /// A record that is built field by field. Its names have an index once they are many, so that it takes time
 /// proportional to the count of fields.
@@ -36,11 +38,12 @@ impl Drop for Fields {
 }
 
 impl Model for Fields {
-    ghost use Rattle.std.specs.Prelude.{List, ℕ, IfSome};
+    ghost use Rattle.std.specs.Prelude.{List, ℕ, ◌≤◌, IfSome, length};
     ghost use Rattle.mlr_spec.specs.Tree.{Tree};
     ghost use Rattle.mlr_spec.specs.TreeCode.{coded_pairs};
     ghost use Rattle.mlr_spec.specs.Pairs.{keys_of};
     ghost use Rattle.mlr_fields.specs.Prefixes.{IsPrefix};
+    ghost use Rattle.mlr_fields.specs.declared.fields.TheConstants.{FEW};
 
     ghost Value = { List (List ℕ × Tree) };
 
@@ -48,19 +51,20 @@ impl Model for Fields {
 
     ghost view = { λ fields. fields.record };
 
-    ghost invariant = { λ fields. IfSome fields.index (λ index. IsPrefix index (keys_of fields.record)) };
+    ghost invariant = { λ fields. IfSome fields.index (λ index. IsPrefix index (keys_of fields.record)
+        × (FEW ≤ length index)) };
 }
 
 impl Fields {
-    /// A record without fields.
+    /// The fields of a record, to which more are added. It takes no memory.
     #[inline]
-    pub fn new(alloc: Global) -> Result<Self, NoMemory>
-        ensures { IfOk result (λ made. made ≡ []) }
+    pub fn new(from: Record) -> Self
+        ensures { result ≡ from }
     {
-        Ok(Fields {
-            record: Record::new(alloc)?,
+        Fields {
+            record: from,
             index: None,
-        })
+        }
     }
 
     /// How many fields it has.
@@ -102,7 +106,7 @@ impl Fields {
         requires { length self.old < 2 ^ 63 }
         ensures { OnOk result (self.new ≡ with_field dedupe name.now (tree_of value) self.old) }
     {
-        if self.index.is_none() && self.record.len() < FEW {
+        if self.record.len() < FEW {
             put_few(alloc, &mut self.record, name, value, dedupe)
         } else {
             self.put_many(alloc, name, value, dedupe)
@@ -135,12 +139,13 @@ impl Fields {
         value: Value,
         dedupe: bool,
     ) -> Result<(), NoMemory>
-        requires { length self.old < 2 ^ 63 }
+        requires many { FEW ≤ length self.old }
+        requires few { length self.old < 2 ^ 63 }
         ensures { OnOk result (self.new ≡ with_field dedupe name.now (tree_of value) self.old) }
     {
         let mut index = match mem::replace(&mut self.index, None) {
             Some(index) => index,
-            None => NameIndex::new(alloc),
+            None => NameIndex::new(alloc, 2 * FEW)?,
         };
         index.add_names(&self.record)?;
         put_indexed(&mut self.record, &mut index, name, value, dedupe)?;

@@ -49,15 +49,15 @@ impl TakenNames for NameIndex {
 }
 
 impl NameIndex {
-    /// An index without names. It doesn't allocate.
-    pub(crate) fn new(alloc: Global) -> Self
-        ensures { result ≡ [] }
+    /// An index without names, with room for so many.
+    pub(crate) fn new(alloc: Global, room: usize) -> Result<Self, NoMemory>
+        ensures { IfOk result (λ index. index ≡ []) }
     {
-        NameIndex {
+        Ok(NameIndex {
             alloc,
-            names: IndexSet::new(alloc),
-            numbers: Vec::new(alloc),
-        }
+            names: IndexSet::with_capacity(alloc, room)?,
+            numbers: Vec::with_capacity(alloc, room)?,
+        })
     }
 
     /// Adds the remaining names of a record, whose first names are those of the index.

@@ -19,15 +19,15 @@ const NAMES: [(&[(&str, usize)], &str, usize); 9] = [
         ";_2;more than 16 bytes;more than 16 bytes_2;",
         2,
     ),
-    (&[("a", 32), ("b", 2)], ";a_31;a_32;b;b_2;", 2),
+    (&[("a", 64), ("b", 2)], ";a_63;a_64;b;b_2;", 2),
     (
-        &[("a", 33), ("a_2", 2), ("a_35", 1), ("a", 2)],
-        ";a_33;a_2_2;a_2_3;a_35;a_34;a_36;",
+        &[("a", 65), ("a_2", 2), ("a_67", 1), ("a", 2)],
+        ";a_65;a_2_2;a_2_3;a_67;a_66;a_68;",
         3,
     ),
     (
-        &[("a_3", 1), ("b", 31), ("a", 4)],
-        ";b_31;a;a_2;a_4;a_5;",
+        &[("a_3", 1), ("b", 63), ("a", 4)],
+        ";b_63;a;a_2;a_4;a_5;",
         3,
     ),
 ];
@@ -65,7 +65,7 @@ fn names_of(alloc: Global, record: &Record) -> Result<Bytes, NoMemory> {
 
 /// A record of these names, of which the last one has the value true.
 fn record_from(alloc: Global, names: &[Bytes], dedupe: bool) -> Result<Record, NoMemory> {
-    let mut fields = Fields::new(alloc)?;
+    let mut fields = Fields::new(Record::new(alloc)?);
     for (place, name) in names.iter().enumerate() {
         if fields.len() < 1000 {
             let value = Value::Bool(place + 1 == names.len());
@@ -131,7 +131,7 @@ fn two_texts(alloc: Global) -> Result<Record, NoMemory> {
         comments: Comments::Keep,
         infer: InferOpts::plain(),
     };
-    let mut fields = Fields::new(alloc)?;
+    let mut fields = Fields::new(Record::new(alloc)?);
     fields.push(b"a", Value::Empty)?;
     fields.put_text(alloc, &opts, b"a", b"0x10")?;
     Ok(fields.into_record())

@@ -33,7 +33,7 @@ pub(crate) fn record_of_row(
     if distinct && values.len() == names.len() {
         return full_record(alloc, names, values);
     }
-    let mut record = Fields::new(alloc)?;
+    let mut record = Fields::new(Record::new(alloc)?);
     let named = values.len().min(names.len());
     put_named(alloc, distinct, names, values, named, &mut record)?;
     put_surplus(alloc, dedupe, values, named, &mut record)?;

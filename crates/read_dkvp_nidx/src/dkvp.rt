@@ -10,6 +10,7 @@ use crate::row::Row;
 use itoa::Buffer;
 use mlr_event::ReadOpts;
 use mlr_fields::Fields;
+use mlr_record::Record;
 use mlr_record::split::{next_part, separator_place};
 use mlr_spec::NoMemory;
 use std::alloc::Global;
@@ -24,7 +25,7 @@ pub(crate) fn dkvp_row(alloc: Global, opts: &ReadOpts, line: &[u8]) -> Result<Ro
     if line.is_empty() {
         return Ok(Row::Nothing);
     }
-    let mut record = Fields::new(alloc)?;
+    let mut record = Fields::new(Record::new(alloc)?);
     put_pieces(alloc, opts, line, &mut record)?;
     Ok(Row::Fields(record.into_record()))
 }

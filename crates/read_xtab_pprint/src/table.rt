@@ -127,7 +127,7 @@ fn cells_record(
         push_cells(alloc, opts, header.keys(), line, &mut record)?;
         Ok(record)
     } else {
-        let mut record = Fields::new(alloc)?;
+        let mut record = Fields::new(Record::new(alloc)?);
         put_cells(alloc, opts, header.names(), line, &mut record)?;
         Ok(record.into_record())
     }

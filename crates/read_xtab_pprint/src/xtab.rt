@@ -9,6 +9,7 @@ use crate::words::{cut_word, without_spaces};
 use mlr_event::rows::{is_comment, next_ctx, push_comment};
 use mlr_event::{Event, Events, ReadOpts};
 use mlr_fields::Fields;
+use mlr_record::Record;
 use mlr_spec::NoMemory;
 use std::alloc::Global;
 use std::mem;
@@ -83,7 +84,7 @@ fn put_line(
     match record {
         Some(begun) => begun.put_text(alloc, opts, key, value),
         None => {
-            let mut begun = Fields::new(alloc)?;
+            let mut begun = Fields::new(Record::new(alloc)?);
             begun.put_text(alloc, opts, key, value)?;
             *record = Some(begun);
             Ok(())
