@@ -80,8 +80,7 @@ impl Fields {
     pub fn into_record(self) -> Record
         ensures { result ≡ self }
     {
-        let Fields { record, index } = self;
-        drop(index);
+        let Fields { record, index: _ } = self;
         record
     }
 
@@ -131,6 +130,7 @@ impl Fields {
     }
 
     /// Sets a field of a record of many fields.
+    #[cold]
     #[inline(never)]
     fn put_many(
         &mut self,
