@@ -80,8 +80,7 @@ impl Fields {
     pub fn into_record(self) -> Record
         ensures { result ≡ self }
     {
-        let Fields { record, index } = self;
-        drop(index);
+        let Fields { record, index: _ } = self;
         record
     }
 
@@ -126,11 +125,35 @@ impl Fields {
         ensures { OnOk result (self.new ≡ with_field opts.now.dedupe name.now
             (tree_of_data opts.now.infer text.now) self.old) }
     {
+        if self.record.len() < FEW {
+            let value = from_data(alloc, text, opts.infer)?;
+            put_few(alloc, &mut self.record, name, value, opts.dedupe)
+        } else {
+            self.put_text_to_many(alloc, opts, name, text)
+        }
+    }
+
+    /// Sets a field of this text in a record of many fields.
+    #[cold]
+    #[inline(never)]
+    fn put_text_to_many(
+        &mut self,
+        alloc: Global,
+        opts: &ReadOpts,
+        name: &[u8],
+        text: &[u8],
+    ) -> Result<(), NoMemory>
+        requires many { FEW ≤ length self.old }
+        requires few { length self.old < 2 ^ 63 }
+        ensures { OnOk result (self.new ≡ with_field opts.now.dedupe name.now
+            (tree_of_data opts.now.infer text.now) self.old) }
+    {
         let value = from_data(alloc, text, opts.infer)?;
-        self.put(alloc, name, value, opts.dedupe)
+        self.put_many(alloc, name, value, opts.dedupe)
     }
 
     /// Sets a field of a record of many fields.
+    #[cold]
     #[inline(never)]
     fn put_many(
         &mut self,
