@@ -116,8 +116,9 @@ fn run_line<I: Inputs, O: Outputs>(
     requires { Reads words.now line }
     ensures refused { RefusesWhere words.now result }
     ensures untouched { is_refused result ≡ true → inputs.new ≡ inputs.old }
-    ensures run { Ran words.now (names_in words.now line) (formats_in line) result (I.contents inputs.old)
-        (I.taken inputs.old) (I.taken inputs.new) (O.held outputs.old) (O.held outputs.new) }
+    ensures run { Ran words.now (names_in words.now line) (formats_in line) result
+        (I.contents inputs.old) (I.taken inputs.old) (I.taken inputs.new) (O.held outputs.old)
+        (O.held outputs.new) }
     ensures contents { I.contents inputs.new ≡ I.contents inputs.old }
     ensures input_cause { InputCause result (I.faults inputs.old) (I.faults inputs.new) }
     ensures output_counts { Counted (has_failed result) (O.faults outputs.old)

@@ -51,8 +51,8 @@ impl Model for Fields {
 
     ghost view = { λ fields. fields.record };
 
-    ghost invariant = { λ fields. IfSome fields.index (λ index. IsPrefix index (keys_of fields.record)
-        × (FEW ≤ length index)) };
+    ghost invariant = { λ fields. IfSome fields.index (λ index.
+        IsPrefix index (keys_of fields.record) × (FEW ≤ length index)) };
 }
 
 impl Fields {

@@ -97,8 +97,8 @@ fn token_turn<'a>(
     requires { length following.now < left }
     ensures outcome { IfOk result (λ turn. (end : ℕ)
         → IsTurn end (outcome_at end (frames_of machine.old) machine.old.phase
-        (and_token (end - left) (token_seen token.entry) (tokens_left end following.now))) machine.new
-        turn) }
+        (and_token (end - left) (token_seen token.entry) (tokens_left end following.now)))
+        machine.new turn) }
     ensures shorter { IfOk result (IsTurnShorter left) }
 {
     match take(machine, token)? {

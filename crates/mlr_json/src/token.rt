@@ -19,7 +19,7 @@ pub(crate) enum Token<'a> {
     Word(Value),
     /// A string with its text.
     Text(Bytes),
-    /// A string with its text, which stands in the text that is read.
+    /// A string whose text is a part of the text that is read.
     Piece(&'a [u8]),
 }
 
