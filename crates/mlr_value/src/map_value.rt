@@ -273,7 +273,8 @@ fn remove_pair(columns: &mut Columns, key: &[u8]) -> bool
 
 /// Takes the key at this place out of the index, if there is one.
 fn unindex(index: &mut Option<Box<KeyIndex>>, place: usize)
-    ensures { (keys : List (List ℕ)) → IsIndexOf index.old keys → IsIndexOf index.new (remove keys place) }
+    ensures { (keys : List (List ℕ)) → IsIndexOf index.old keys
+        → IsIndexOf index.new (remove keys place) }
 {
     if let Some(index) = index {
         index.remove(place);

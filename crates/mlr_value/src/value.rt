@@ -46,6 +46,7 @@ pub enum Value {
 const _: () = prove!(size_of::<Value>() <= 48);
 
 impl Value {
+    /// Whether there is no value.
     #[inline]
     pub fn is_absent(&self) -> bool
         ensures { result ≡ is_absent (tree_of self.now) }
@@ -53,6 +54,7 @@ impl Value {
         matches!(self, Value::Absent)
     }
 
+    /// Whether it is the text of no bytes.
     #[inline]
     pub fn is_empty(&self) -> bool
         ensures { result ≡ is_empty (tree_of self.now) }
