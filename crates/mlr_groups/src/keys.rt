@@ -1,5 +1,5 @@
 //! Keys: one text for each list of texts, and a table of keys.
-ghost use Rattle.std.specs.Prelude.{◌≡◌, ◌++◌, ◌∷◌, [], false, true, length, if◌then◌else◌, is_ok, IfOk, OnOk, Some, None, slice_get};
+ghost use Rattle.std.specs.Prelude.{◌≡◌, ◌++◌, ◌∷◌, [], false, true, length, if◌then◌else◌, is_ok, IfOk, IsOk, OnOk, Some, None, slice_get};
 ghost use Rattle.std.specs.Option.{option_map};
 ghost use Rattle.mlr_spec.specs.Pairs.{are_distinct};
 ghost use Rattle.mlr_value.specs.Value.{tree_of};
