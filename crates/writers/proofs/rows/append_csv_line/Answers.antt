@@ -20,7 +20,7 @@ returns c =
     ∙ ap (λ fields. into ++ joined opts.ofs fields) (row-fields row.Csv c.args.part opts r) in
     let whole : c.if-len-before.out ≡ into ++ never_empty line =
     elim c.if-len-before.branch [
-      | then-len-before+in_ok-append w ↦ line-empty into line c.append_fields.new.out c.if-len-before.out prefix (sym c.len.ensures ∙ w.if-len-before.true ∙ c.len-before.ensures) (w.out-is ∙ w.in_ok-append.ensures)
+      | then-len-before+in_ok-append w ↦ line-empty into line c.append_fields.new.out c.if-len-before.out prefix (sym c.len.ensures ∙ w.if-len-before.true ∙ c.len-before.ensures) (w.out-is ∙ w.in_ok-append.ensures.appended)
       | else-len-before w ↦ w.out-is ∙ line-some into line c.append_fields.new.out prefix (λ e. w.if-len-before.false (c.len.ensures ∙ e ∙ sym c.len-before.ensures))
     ] in
     last-part c.push.result c.push.new.self c.if-len-before.out (10 ∷ []) (into ++ csv_line opts (texts c.args.part r)) c.push.ensures
