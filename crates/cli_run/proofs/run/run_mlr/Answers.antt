@@ -29,8 +29,8 @@ returns-clause-run g c =
           f0 f1 f2 (g.O.Outputs.shortages c.args.outputs.now) (g.O.Outputs.shortages c.run_line-ended.new.outputs) (g.O.Outputs.shortages c.write_message.new.outputs)
           (never_falls (has_failed ended) f0 f1 Stdout c.run_line-ended.ensures.output_counts Stderr) c.run_line-ended.ensures.shortages
           c.write_message.ensures.counts c.write_message.ensures.memory ran.leaves
-          (subst (λ f. ChangesAt Stderr (Appends (message_of words names f ended) c.write_message.result) h1 h2) (c.formats_in.ensures ∙ ran.formats_are)
-          (subst (λ n. ChangesAt Stderr (Appends (message_of words n c.formats_in.result.now ended) c.write_message.result) h1 h2) c.names_in.ensures c.write_message.ensures.bytes));
+          (subst (λ f. ChangesAt Stderr (Appends (message_of words names f ended) c.write_message.result) h1 h2) (c.formats_in-formats.ensures ∙ ran.formats_are)
+          (subst (λ n. ChangesAt Stderr (Appends (message_of words n c.formats_in-formats.result.now ended) c.write_message.result) h1 h2) c.names_in-names.ensures c.write_message.ensures.bytes));
     }
 
 pub returns-clause-output_cause : goal.returns-clause-output_cause
@@ -48,7 +48,7 @@ returns-clause-completes g c = λ names command is holds quiet_in quiet_out.
     let f1 = g.O.Outputs.faults c.run_line-ended.new.outputs in
     let f2 = g.O.Outputs.faults c.write_message.new.outputs in
     let ended = c.run_line-ended.result in
-    completes-following ended command holds.whole (message_of words c.names_in.result.now c.formats_in.result.now ended) c.write_message.result
+    completes-following ended command holds.whole (message_of words c.names_in-names.result.now c.formats_in-formats.result.now ended) c.write_message.result
     (g.O.Outputs.held c.args.outputs.now) (g.O.Outputs.held c.run_line-ended.new.outputs) (g.O.Outputs.held c.write_message.new.outputs)
     (c.run_line-ended.ensures.completes names command is holds quiet_in
     (λ rose. quiet_out (Rose-later (f0 Stdout) (f1 Stdout) (f2 Stdout) rose (never_falls (call_failed c.write_message.result) f1 f2 Stderr c.write_message.ensures.counts Stdout))))
