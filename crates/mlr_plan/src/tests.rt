@@ -6,14 +6,13 @@ ghost use Rattle.verbs_stream.specs.Each.{IsSound as IsSoundSpec};
 ghost use Rattle.mlr_plan.specs.Plans.{AreSound, IsSound};
 
 use crate::{Plan, VerbSpec, chain_of, run_serial};
-use mlr_event::{Comments, Ctx, Event, Events, Format, InputName, Mode, Names, ReadOpts, Target};
+use mlr_event::{Comments, Ctx, Event, Events, Format, InputName, Names, ReadOpts, Target};
 use mlr_record::Record;
 use mlr_spec::{InferOpts, NoMemory};
 use mlr_value::Bytes;
-use mlr_world::{Done, Got, Inputs, MemInputs, MemOutputs, Opened, Outputs};
+use mlr_world::{Inputs, MemInputs, MemOutputs, Opened};
 use serial_core::Ended;
 use std::alloc::Global;
-use std::cell::Cell;
 use verbs_seq::SeqSpec;
 use verbs_stream::{Cat, FillDown, Head, Spec};
 use verbs_values::Sec2Gmt;
@@ -397,97 +396,5 @@ fn first_wrong_plan(alloc: Global) -> Result<Option<&'static str>, NoMemory> {
 #[test]
 fn plans_and_their_copies_make_the_wanted_text(rt: HostRuntime) -> Result<(), NoMemory> {
     assert_eq!(rt; first_wrong_plan(rt.alloc())?, None);
-    Ok(())
-}
-
-/// Outputs that count the bytes that they are given.
-#[derive(Drop)]
-struct Counting<'a> {
-    outputs: MemOutputs,
-    written: &'a Cell<usize>,
-}
-
-impl<'a> Counting<'a> {
-    fn new(outputs: MemOutputs, written: &'a Cell<usize>) -> Self {
-        Counting { outputs, written }
-    }
-}
-
-impl Outputs for Counting<'_> {
-    ghost held = { λ s. ⟦<MemOutputs as Outputs>⟧.held s.outputs };
-
-    ghost faults = { λ s. ⟦<MemOutputs as Outputs>⟧.faults s.outputs };
-
-    ghost shortages = { λ s. ⟦<MemOutputs as Outputs>⟧.shortages s.outputs };
-
-    fn open(&mut self, target: &Target, mode: Mode) -> Done {
-        self.outputs.open(target, mode)
-    }
-
-    fn write(&mut self, target: &Target, bytes: &[u8]) -> Done {
-        self.written
-            .set(self.written.get().saturating_add(bytes.len()));
-        self.outputs.write(target, bytes)
-    }
-
-    fn close(&mut self, target: &Target) -> Done {
-        self.outputs.close(target)
-    }
-}
-
-/// Inputs that note how many bytes had been written at each of the first two reads.
-#[derive(Drop)]
-struct Noting<'a> {
-    inputs: MemInputs,
-    written: &'a Cell<usize>,
-    reads: usize,
-    seen: [usize; 2],
-}
-
-impl<'a> Noting<'a> {
-    fn new(inputs: MemInputs, written: &'a Cell<usize>) -> Self {
-        Noting {
-            inputs,
-            written,
-            reads: 0,
-            seen: [usize::MAX; 2],
-        }
-    }
-}
-
-impl Inputs for Noting<'_> {
-    ghost contents = { λ s. ⟦<MemInputs as Inputs>⟧.contents s.inputs };
-
-    ghost taken = { λ s. ⟦<MemInputs as Inputs>⟧.taken s.inputs };
-
-    ghost open_entry = { λ s. ⟦<MemInputs as Inputs>⟧.open_entry s.inputs };
-
-    ghost faults = { λ s. ⟦<MemInputs as Inputs>⟧.faults s.inputs };
-
-    fn open(&mut self, name: &InputName) -> Opened {
-        self.inputs.open(name)
-    }
-
-    fn read(&mut self, max: usize, into: &mut Bytes) -> Got {
-        if let Some(seen) = self.seen.get_mut(self.reads) {
-            *seen = self.written.get();
-        }
-        self.reads = self.reads.saturating_add(1);
-        self.inputs.read(max, into)
-    }
-}
-
-#[test]
-fn text_is_written_before_the_next_read(rt: HostRuntime) -> Result<(), NoMemory> {
-    let alloc = rt.alloc();
-    let plan = plan_of(alloc, Vec::new(alloc))?;
-    let written = Cell::new(0);
-    // The first read gives six bytes, and the second fails.
-    let mut inputs = Noting::new(inputs_of(alloc, "a=1\nb=2\n", &[6], &[3])?, &written);
-    let mut outputs = Counting::new(outputs_of(alloc)?, &written);
-    let ended = run_serial(alloc, &plan, &mut inputs, &mut outputs);
-    assert_eq!(rt; ended, Ended::Read(InputName::Stdin));
-    assert_eq!(rt; inputs.seen, [0, 4]);
-    assert_eq!(rt; written.get(), 4);
     Ok(())
 }
