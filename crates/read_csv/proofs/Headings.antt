@@ -7,12 +7,13 @@ use Rattle.mlr_spec.specs.declared.infer.InferOpts.{InferOpts}
 use Rattle.mlr_spec.specs.declared.infer.Kind.{Kind}
 use Rattle.mlr_spec.specs.declared.infer.Kind.TheVariants.{Empty, Str, Int, Frac, Wide}
 use Rattle.mlr_spec.specs.Infer.{kind_of, kind_after_sign, tree_of_kind, whole, word, is_octal, are_digits, is_based, is_fraction, number, base_of, is_negative, unsigned}
+use Rattle.mlr_spec.specs.Tree.{text_of}
 use Rattle.mlr_event.specs.declared.names.FileRef.{FileRef}
 use Rattle.mlr_event.specs.declared.options.ReadOpts.{ReadOpts}
 use Rattle.mlr_event.specs.declared.fault.Fault.TheVariants.{Length}
 use Rattle.mlr_event.specs.Reading.{fields, fault, record_of}
 use Rattle.read_csv.specs.Fields.{Field, quoted_value, value_of}
-use Rattle.read_csv.specs.Headers.{source_of, header_of, values_items, closed_values, values_header}
+use Rattle.read_csv.specs.Headers.{header_of, values_items, closed_values, values_header}
 use Rattle.read_csv.specs.Rows.{positions_from, row_keys, row_items, first_header, closed_items, header_after}
 
 abbrev is_empty_kind : Kind → Bool
@@ -41,36 +42,36 @@ sign-kind octal negative text =
     either-kind (is_based text) (word negative (number (base_of text) (drop 2 text))) last (word-kind negative (number (base_of text) (drop 2 text))) (
     either-kind (is_fraction text) Frac Str refl refl)))
 
-source-kind : (kind : Kind) (text : List ℕ) → is_empty_kind kind ≡ false → source_of (tree_of_kind kind text) ≡ text
-source-kind Empty text is = absurd (true≢false is)
-source-kind Str text is = refl
-source-kind (Int n) text is = refl
-source-kind Frac text is = refl
-source-kind Wide text is = refl
+text-kind : (kind : Kind) (b : ℕ) (text : List ℕ) → is_empty_kind kind ≡ false → text_of (tree_of_kind kind (b ∷ text)) ≡ b ∷ text
+text-kind Empty b text is = absurd (true≢false is)
+text-kind Str b text is = refl
+text-kind (Int n) b text is = refl
+text-kind Frac b text is = refl
+text-kind Wide b text is = refl
 
-source-data : (opts : InferOpts) (text : List ℕ) → source_of (tree_of_kind (kind_of opts text) text) ≡ text
-source-data opts [] = refl
-source-data opts (b ∷ text) = source-kind (kind_of opts (b ∷ text)) (b ∷ text) (either-kind opts.none Str (kind_after_sign opts.octal (is_negative (b ∷ text)) (unsigned (b ∷ text))) refl (sign-kind opts.octal (is_negative (b ∷ text)) (unsigned (b ∷ text))))
+text-data : (opts : InferOpts) (text : List ℕ) → text_of (tree_of_kind (kind_of opts text) text) ≡ text
+text-data opts [] = refl
+text-data opts (b ∷ text) = text-kind (kind_of opts (b ∷ text)) b text (either-kind opts.none Str (kind_after_sign opts.octal (is_negative (b ∷ text)) (unsigned (b ∷ text))) refl (sign-kind opts.octal (is_negative (b ∷ text)) (unsigned (b ∷ text))))
 
-source-quoted : (text : List ℕ) → source_of (quoted_value text) ≡ text
-source-quoted [] = refl
-source-quoted (b ∷ text) = refl
+text-quoted : (text : List ℕ) → text_of (quoted_value text) ≡ text
+text-quoted [] = refl
+text-quoted (b ∷ text) = refl
 
--- a value keeps the text from which it was read
-source-value : (opts : InferOpts) (field : Field) → source_of (value_of opts field) ≡ field.text
-source-value opts field =
-    elim (cases_Bool field.quoted) as (λ _. source_of (value_of opts field) ≡ field.text) [
-      | inl quoted ↦ ap (λ q. source_of (cond q (quoted_value field.text) (tree_of_kind (kind_of opts field.text) field.text))) quoted ∙ source-quoted field.text
-      | inr plain ↦ ap (λ q. source_of (cond q (quoted_value field.text) (tree_of_kind (kind_of opts field.text) field.text))) plain ∙ source-data opts field.text
+-- a value prints the text from which it was read
+text-value : (opts : InferOpts) (field : Field) → text_of (value_of opts field) ≡ field.text
+text-value opts field =
+    elim (cases_Bool field.quoted) as (λ _. text_of (value_of opts field) ≡ field.text) [
+      | inl quoted ↦ ap (λ q. text_of (cond q (quoted_value field.text) (tree_of_kind (kind_of opts field.text) field.text))) quoted ∙ text-quoted field.text
+      | inr plain ↦ ap (λ q. text_of (cond q (quoted_value field.text) (tree_of_kind (kind_of opts field.text) field.text))) plain ∙ text-data opts field.text
     ]
 
-sources : (opts : InferOpts) (row : List Field) → map source_of (map (value_of opts) row) ≡ map (λ f. f.text) row
-sources opts [] = refl
-sources opts (field ∷ row) = ap₂ (λ text texts. text ∷ texts) (source-value opts field) (sources opts row)
+texts-are : (opts : InferOpts) (row : List Field) → map text_of (map (value_of opts) row) ≡ map (λ f. f.text) row
+texts-are opts [] = refl
+texts-are opts (field ∷ row) = ap₂ (λ text texts. text ∷ texts) (text-value opts field) (texts-are opts row)
 
 module _ (opts : ReadOpts) (row : List Field) where
   header-is : header_of opts.implicit (map (value_of opts.infer) row) ≡ first_header opts row
-  header-is = ap₂ (λ n texts. cond opts.implicit (positions_from 1 n) texts) (length-map row (value_of opts.infer)) (sources opts.infer row)
+  header-is = ap₂ (λ n texts. cond opts.implicit (positions_from 1 n) texts) (length-map row (value_of opts.infer)) (texts-are opts.infer row)
 
   items-are : (file : FileRef) (line : ℕ) (header : List (List ℕ)) → values_items opts file line header (map (value_of opts.infer) row) ≡ row_items opts file line header row
   items-are file line header = ap (λ n. cond (opts.ragged || eqb n (length header)) (fields (record_of opts.dedupe (row_keys header n) (map (value_of opts.infer) row)) ∷ []) (fault (Length file line (length header) n) ∷ [])) (length-map row (value_of opts.infer))

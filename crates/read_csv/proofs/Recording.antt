@@ -1,6 +1,7 @@
 -- Records made of a header and values.
-use Rattle.std.proofs.Common.{◌≡◌, ℕ, zero, suc, ◌+◌, ◌-◌, ◌^◌, ◌<◌, ◌≤◌, Bool, true, false, ◌||◌, List, [], ◌∷◌, ◌++◌, map, length, get_or, take, drop, None, refl, ap, ap₂, sym, ◌∙◌, append_assoc, arith, inl, inr, add-one, length-take, length-append, take_all}
-use Rattle.std.proofs.lemmas.List.{append-nil, take_more, drop_all}
+use Rattle.std.proofs.Common.{◌≡◌, ℕ, zero, suc, ◌+◌, ◌-◌, ◌^◌, ◌<◌, ◌≤◌, Bool, true, false, ◌||◌, List, [], ◌∷◌, ◌++◌, map, length, get_or, set, take, drop, None, refl, ap, ap₂, sym, ◌∙◌, append_assoc, arith, inl, inr, add-one, length-take, length-append, take_all}
+use Rattle.std.proofs.lemmas.List.{append-nil, take_more, take_more_set, drop_all, length-map, map-set}
+use Rattle.std.proofs.Math.Seq.{map-set_same}
 use Rattle.std.specs.Fmt.{decimal}
 use Rattle.std.specs.List.{zip}
 use Rattle.std.proofs.lemmas.List.{take-append-drop}
@@ -9,10 +10,14 @@ use Rattle.std.specs.Str.{bytes_eq}
 use Rattle.mlr_spec.specs.Pairs.{are_distinct, value_at, put_at, keys_of}
 use Rattle.mlr_spec.specs.Tree.{Tree}
 use Rattle.mlr_spec.proofs.Flattening.{put_each-distinct}
+use Rattle.mlr_value.specs.Value.{tree_of}
+use Rattle.mlr_record.specs.declared.record.Field.{Field as NamedField}
+use Rattle.mlr_record.specs.Fields.{pairs_of}
 use Rattle.mlr_event.specs.Reading.{is_among, free_name, distinct_after, distinct_names, record_of}
 use Rattle.mlr_event.specs.Rows.{with_field, with_fields}
 use Rattle.mlr_event.proofs.Distinct.{are_distinct-names, free_name-free, length-distinct}
 use Rattle.mlr_event.proofs.Putting.{with_fields-more, with_fields-none, value_at-free, record_of-is}
+use Rattle.read_csv.specs.OpenRow.{value_in, values_in}
 use Rattle.read_csv.specs.Rows.{positions_from, row_keys}
 
 pub take-distinct : (before names : List (List ℕ)) (n : ℕ) → distinct_after before (take n names) ≡ take n (distinct_after before names)
@@ -104,14 +109,13 @@ positions-first n zero some = absurd (omega arith)
 positions-first n (suc count) some = ap (λ k. decimal n ∷ positions_from (n + 1) k) (omega arith)
 
 -- an item that was moved out
-pub drop-at : {A B : Type 0} (f : A → B) (xs : List A) (place : ℕ) (x : A) (rest : List A) → drop place xs ≡ x ∷ rest
-    → (drop (place + 1) xs ≡ rest) × ((d : B) → get_or (map f xs) place d ≡ f x) × (place < length xs)
-drop-at f [] zero x rest is = absurd (cc)
-drop-at f [] (suc place) x rest is = absurd (cc)
-drop-at f (y ∷ xs) zero x rest is = let same : y ≡ x = cc in let more : xs ≡ rest = cc in (more, λ d. ap f same, omega arith)
-drop-at f (y ∷ xs) (suc place) x rest is =
-    let more = drop-at f xs place x rest is in
-    (ap (λ k. drop k (y ∷ xs)) (add-one (suc place)) ∙ ap (λ k. drop k xs) (sym (add-one place)) ∙ more.0, more.1, omega (arith, more.2))
+pub drop-at : {A : Type 0} (xs : List A) (place : ℕ) (x : A) (rest : List A) → drop place xs ≡ x ∷ rest → (drop (place + 1) xs ≡ rest) × ((d : A) → get_or xs place d ≡ x)
+drop-at [] zero x rest is = absurd (cc)
+drop-at [] (suc place) x rest is = absurd (cc)
+drop-at (y ∷ xs) zero x rest is = let same : y ≡ x = cc in let more : xs ≡ rest = cc in (more, λ d. same)
+drop-at (y ∷ xs) (suc place) x rest is =
+    let more = drop-at xs place x rest is in
+    (ap (λ k. drop k (y ∷ xs)) (add-one (suc place)) ∙ ap (λ k. drop k xs) (sym (add-one place)) ∙ more.0, more.1)
 
 pub map-drop : {A B : Type 0} (f : A → B) (xs : List A) (n : ℕ) → map f (drop n xs) ≡ drop n (map f xs)
 map-drop f xs zero = refl
@@ -199,3 +203,22 @@ full-made dedupe distinct header values full few pushed is =
     ∙ fields-distinct dedupe distinct header values n (omega arith) (omega arith) few is
     ∙ sym (surplus-none dedupe (with_fields dedupe [] (take n header) (take n values)) (n + 1) (length values - n) (drop n values) (omega arith) (drop_all n values (omega arith)))
     ∙ row-made dedupe header values n (omega arith) (omega arith) (λ less. refl)
+
+-- the names and the values of fields
+abbrev pub names_in : List NamedField → List (List ℕ)
+names_in fields = map (λ field. field.name) fields
+
+pub pairs-zip : (fields : List NamedField) → pairs_of fields ≡ zip (names_in fields) (values_in fields)
+pairs-zip [] = refl
+pairs-zip (field ∷ fields) = ap (λ more. (field.name, tree_of field.value) ∷ more) (pairs-zip fields)
+
+-- a field that got its name
+module _ (fields : List NamedField) (place : ℕ) (d : NamedField) (name : List ℕ) where
+  pub names-more : place < length fields
+      → take (place + 1) (names_in (set fields place (record { name = name; value = (get_or fields place d).value }))) ≡ take place (names_in fields) ++ name ∷ []
+  names-more below =
+      ap (take (place + 1)) (map-set (λ (field : NamedField). field.name) fields place (record { name = name; value = (get_or fields place d).value }))
+      ∙ take_more_set (names_in fields) place name (omega (arith, below, length-map fields (λ (field : NamedField). field.name)))
+
+  pub values-same : values_in (set fields place (record { name = name; value = (get_or fields place d).value })) ≡ values_in fields
+  values-same = map-set_same value_in fields place (record { name = name; value = (get_or fields place d).value }) d refl

@@ -1,23 +1,15 @@
 -- The values of a row as header, and the values of a row under a header.
 use Rattle.std.specs.Prelude.{ℕ, if◌then◌else◌, Bool, ◌||◌, ◌==◌, List, [], ◌∷◌, map, length, Option, Some, None}
-use Rattle.mlr_spec.specs.Tree.{Tree, string, int, fraction, wide}
+use Rattle.mlr_spec.specs.Tree.{Tree, text_of}
 use Rattle.mlr_event.specs.declared.fault.Fault.TheVariants.{Length}
 use Rattle.mlr_event.specs.declared.names.FileRef.{FileRef}
 use Rattle.mlr_event.specs.declared.options.ReadOpts.{ReadOpts}
 use Rattle.mlr_event.specs.Reading.{Item, fields, fault, record_of}
 use Rattle.read_csv.specs.Rows.{positions_from, row_keys}
 
--- the text from which a value was read
-abbrev pub source_of : Tree → List ℕ
-source_of (string text) = text
-source_of (int n spelling) = spelling
-source_of (fraction text) = text
-source_of (wide text) = text
-source_of _ = []
-
--- the keys that a first row gives: its texts, or its positions if the header is implicit
+-- the keys that a first row gives: what its values print, or its positions if the header is implicit
 abbrev pub header_of : Bool → List Tree → List (List ℕ)
-header_of implicit values = if implicit then positions_from 1 (length values) else map source_of values
+header_of implicit values = if implicit then positions_from 1 (length values) else map text_of values
 
 -- the record of a row of values under a header, or a fault if the lengths differ
 abbrev pub values_items : ReadOpts → FileRef → ℕ → List (List ℕ) → List Tree → List Item

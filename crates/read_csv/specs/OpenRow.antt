@@ -4,6 +4,8 @@ use Rattle.std.specs.Option.{option_map}
 use Rattle.mlr_spec.specs.Ascii.{quote_mark}
 use Rattle.mlr_spec.specs.declared.infer.InferOpts.{InferOpts}
 use Rattle.mlr_spec.specs.Tree.{Tree}
+use Rattle.mlr_value.specs.Value.{tree_of}
+use Rattle.mlr_record.specs.declared.record.Field.{Field as NamedField}
 use Rattle.mlr_event.specs.declared.options.Format.TheVariants as format
 use Rattle.mlr_event.specs.declared.options.ReadOpts.{ReadOpts}
 use Rattle.read_csv.specs.Fields.{Field, quoted_at, before_next, after_next, first_field, tsv_fields, quoted_value, value_of}
@@ -56,6 +58,13 @@ row_reading opts text = elim opts.format [
   | format.Tsv ↦ tsv_reading opts.ifs text
   | _ ↦ csv_reading opts.ifs text
 ]
+
+-- the value of a field of a record, and the values of such fields
+abbrev pub value_in : NamedField → Tree
+value_in field = tree_of field.value
+
+abbrev pub values_in : List NamedField → List Tree
+values_in fields = map value_in fields
 
 -- a row that is being read: the values of the ended fields, and the text within an open quote
 pub record RowState : Type 0 where

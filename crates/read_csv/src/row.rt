@@ -1,26 +1,27 @@
 //! Holds the fields of a row while it is read.
 ghost use Rattle.std.specs.Prelude.{◌≡◌, OnOk, IfOk, is_some, None, length, map};
 ghost use Rattle.mlr_spec.specs.Infer.{tree_of_data};
+ghost use Rattle.mlr_spec.specs.Tree.{text_of};
 ghost use Rattle.mlr_event.specs.Reading.{record_of};
-ghost use Rattle.read_csv.specs.Headers.{source_of};
+ghost use Rattle.mlr_value.specs.Value.{tree_of};
 ghost use Rattle.read_csv.specs.Rows.{row_keys};
 ghost use Rattle.read_csv.specs.Fields.{quoted_value};
 ghost use Rattle.read_csv.specs.OpenRow.{in_quotes, no_row, with_text, with_value};
 
 use crate::heading::Heading;
 use crate::records::{record_of_row, texts};
-use mlr_record::Record;
+use mlr_record::{Field, Record};
 use mlr_spec::{InferOpts, NoMemory};
 use mlr_value::{Bytes, Value, from_data};
 use std::alloc::Global;
 use std::marker::Model;
 
-/// A row that is being read. It is reused for the next row, with its capacity.
+/// A row that is being read, which is reused for the next row.
 #[derive(Drop)]
 pub(crate) struct Row {
     alloc: Global,
-    /// The fields that have ended.
-    values: Vec<Value>,
+    /// The fields that have ended, without names.
+    fields: Vec<Field>,
     /// Whether the quote of the next field is open.
     quoted: bool,
     /// The text within that quote so far.
@@ -28,18 +29,17 @@ pub(crate) struct Row {
 }
 
 impl Model for Row {
-    ghost use Rattle.std.specs.Prelude.{◌≡◌, false, [], if◌then◌else◌, map, Some, None};
+    ghost use Rattle.std.specs.Prelude.{◌≡◌, false, [], if◌then◌else◌, Some, None};
     ghost use Rattle.std.specs.Coded.{codes};
     ghost use Rattle.mlr_spec.specs.TreeCode.{coded_tree};
-    ghost use Rattle.mlr_value.specs.Value.{tree_of};
-    ghost use Rattle.read_csv.specs.OpenRow.{RowState};
+    ghost use Rattle.read_csv.specs.OpenRow.{RowState, values_in};
 
     ghost Value = { RowState };
 
     ghost coded = { Prim.hlevel (codes, coded_tree) };
 
     ghost view = { λ row. record {
-      values = map tree_of row.values.items;
+      values = values_in row.fields.items;
       quotes =
           (if row.quoted then Some row.text.items else None);
     } };
@@ -54,7 +54,7 @@ impl Row {
     {
         Row {
             alloc,
-            values: Vec::new(alloc),
+            fields: Vec::new(alloc),
             quoted: false,
             text: Vec::new(alloc),
         }
@@ -80,7 +80,8 @@ impl Row {
         requires { self.old.quotes ≡ None }
         ensures { OnOk result (self.new ≡ with_value self.old (tree_of_data infer text.now)) }
     {
-        self.values.push(from_data(self.alloc, text, infer)?)?;
+        let value = from_data(self.alloc, text, infer)?;
+        self.fields.push(unnamed(self.alloc, value))?;
         Ok(())
     }
 
@@ -103,7 +104,7 @@ impl Row {
         } else {
             Value::Str(Bytes::copy_of(self.alloc, self.text.as_slice())?)
         };
-        self.values.push(value)?;
+        self.fields.push(unnamed(self.alloc, value))?;
         self.quoted = false;
         self.text.clear();
         Ok(())
@@ -114,23 +115,23 @@ impl Row {
     pub(crate) fn len(&self) -> usize
         ensures { result ≡ length self.now.values }
     {
-        self.values.len()
+        self.fields.len()
     }
 
     /// Drops all fields.
     pub(crate) fn clear(&mut self)
         ensures { self.new ≡ no_row }
     {
-        self.values.clear();
+        self.fields.clear();
         self.quoted = false;
         self.text.clear();
     }
 
     /// The texts of the ended fields.
     pub(crate) fn texts(&self, alloc: Global) -> Result<Vec<Bytes>, NoMemory>
-        ensures { IfOk result (λ made. made.items ≡ map source_of self.now.values) }
+        ensures { IfOk result (λ made. made.items ≡ map text_of self.now.values) }
     {
-        texts(alloc, self.values.as_slice())
+        texts(alloc, self.fields.as_slice())
     }
 
     /// Moves the fields out of the row, as a record.
@@ -145,6 +146,17 @@ impl Row {
             (row_keys header.now (length self.old.values)) self.old.values) }
         ensures empty { OnOk result (self.new ≡ no_row) }
     {
-        record_of_row(alloc, dedupe, header, &mut self.values)
+        record_of_row(alloc, dedupe, header, &mut self.fields)
+    }
+}
+
+/// A field of this value, whose name is still empty. It doesn't allocate.
+#[inline]
+fn unnamed(alloc: Global, value: Value) -> Field
+    ensures { tree_of result.value ≡ tree_of value }
+{
+    Field {
+        name: Bytes::new(alloc),
+        value,
     }
 }

@@ -1,11 +1,11 @@
-use Rattle.std.proofs.Common.{rules, ◌≡◌, ◌+◌, ◌-◌, ◌≤◌, ◌<◌, ◌^◌, ◌||◌, [], length, map, take, ap, ap₂, sym, ◌∙◌, arith, length-take}
+use Rattle.std.proofs.Common.{rules, ◌≡◌, ◌+◌, ◌-◌, ◌≤◌, ◌<◌, ◌^◌, ◌||◌, [], length, take, ap, ap₂, sym, ◌∙◌, arith, length-take}
 use Rattle.std.proofs.lemmas.List.{length-map}
 use Rattle.std.proofs.lemmas.Result.{IfOk-weaker}
 use Rattle.std.specs.Vec.{vec_len}
 use Rattle.std.specs.List.{zip}
 use Rattle.mlr_event.specs.Rows.{with_fields}
 use Rattle.mlr_event.specs.Reading.{distinct_names, record_of}
-use Rattle.mlr_value.specs.Value.{tree_of}
+use Rattle.read_csv.specs.OpenRow.{value_in, values_in}
 use Rattle.read_csv.specs.Rows.{positions_from, row_keys}
 use Rattle.read_csv.proofs.Recording.{fields-distinct, full-made, row-made, map-drop, length-with_fields}
 use Rattle.read_csv.proofs.records.record_of_row.Goals as goal
@@ -13,10 +13,10 @@ use Rattle.read_csv.proofs.records.record_of_row.Goals as goal
 pub put_surplus-requires-clause-into : goal.put_surplus-requires-clause-into
 put_surplus-requires-clause-into c =
     let header = c.args.header.now in
-    let values = map tree_of c.args.values.now.items in
+    let values = values_in c.args.fields.now.items in
     let named = c.min-named.result in
     let low : named ≤ length header = omega (arith, c.min-named.ensures, c.len-3.ensures.count, ap length c.header-names.ensures) in
-    let low_2 : named ≤ length values = omega (arith, c.min-named.ensures, length-map c.args.values.now.items tree_of) in
+    let low_2 : named ≤ length values = omega (arith, c.min-named.ensures, length-map c.args.fields.now.items value_in) in
     let names = take named c.header-names.result.now in
     omega (
       arith,
@@ -31,22 +31,22 @@ pub returns-clause-made : goal.returns-clause-made
 returns-clause-made c =
     let dedupe = c.args.dedupe in
     let header = c.args.header.now in
-    let items = c.args.values.now.items in
-    let values = map tree_of items in
+    let items = c.args.fields.now.items in
+    let values = values_in items in
     let named = c.min-named.result in
-    let size : vec_len c.args.values.now ≡ length items = search rules in
-    let count : vec_len c.put_named.new.values ≡ length values = c.in_ok-put_named.ensures.len ∙ size ∙ sym (length-map items tree_of) in
+    let size : vec_len c.args.fields.now ≡ length items = search rules in
+    let count : vec_len c.put_named.new.fields ≡ length values = c.in_ok-put_named.ensures.len ∙ size ∙ sym (length-map items value_in) in
     let low : named ≤ length header = omega (arith, c.min-named.ensures, c.len-3.ensures.count, ap length c.header-names.ensures) in
-    let low_2 : named ≤ length values = omega (arith, c.min-named.ensures, length-map items tree_of) in
+    let low_2 : named ≤ length values = omega (arith, c.min-named.ensures, length-map items value_in) in
     let fields : c.put_named.new.into ≡ with_fields dedupe [] (take named header) (take named values) =
     c.in_ok-put_named.ensures.fields
     ∙ ap (λ h. with_fields (dedupe || c.is_distinct.result) [] (take named h) (take named values)) c.header-names.ensures
     ∙ fields-distinct dedupe c.is_distinct.result header values named low low_2 (omega (arith, c.len-3.ensures.few, ap length c.header-names.ensures)) c.is_distinct.ensures in
     c.into_record.ensures ∙ c.in_ok-put_surplus.ensures
-    ∙ ap₂ (λ n rest. with_fields dedupe c.put_named.new.into (positions_from (named + 1) (n - named)) (map tree_of rest)) count c.in_ok-put_named.ensures.rest
-    ∙ ap₂ (λ p vs. with_fields dedupe p (positions_from (named + 1) (length values - named)) vs) fields (map-drop tree_of items named)
-    ∙ row-made dedupe header values named low_2 low (λ less. omega (arith, c.min-named.ensures, c.len-3.ensures.count, ap length c.header-names.ensures, length-map items tree_of))
-    ∙ ap (λ n. record_of dedupe (row_keys header n) values) (length-map items tree_of ∙ sym size)
+    ∙ ap₂ (λ n rest. with_fields dedupe c.put_named.new.into (positions_from (named + 1) (n - named)) rest) count c.in_ok-put_named.ensures.rest
+    ∙ ap₂ (λ p vs. with_fields dedupe p (positions_from (named + 1) (length values - named)) vs) fields (map-drop value_in items named)
+    ∙ row-made dedupe header values named low_2 low (λ less. omega (arith, c.min-named.ensures, c.len-3.ensures.count, ap length c.header-names.ensures, length-map items value_in))
+    ∙ ap (λ n. record_of dedupe (row_keys header n) values) (length-map items value_in ∙ sym size)
 
 pub full_record-requires-clause-few : goal.full_record-requires-clause-few
 full_record-requires-clause-few c = c.len-then-distinct-2.ensures.few
@@ -56,14 +56,14 @@ returns-then-len-clause-made c =
     let dedupe = c.args.dedupe in
     let header = c.args.header.now in
     let names = c.header-names.result.now in
-    let items = c.args.values.now.items in
-    let values = map tree_of items in
-    let size : vec_len c.args.values.now ≡ length items = search rules in
+    let items = c.args.fields.now.items in
+    let values = values_in items in
+    let size : vec_len c.args.fields.now ≡ length items = search rules in
     let full : length values ≡ length header =
-    omega (arith, length-map items tree_of, size, c.if-len.true, c.len-then-distinct.ensures, c.len-then-distinct-2.ensures.count, ap length c.header-names.ensures) in
+    omega (arith, length-map items value_in, size, c.if-len.true, c.len-then-distinct.ensures, c.len-then-distinct-2.ensures.count, ap length c.header-names.ensures) in
     let few : length header < 2 ^ 62 = omega (arith, c.len-then-distinct-2.ensures.few, ap length c.header-names.ensures) in
-    let made : zip (distinct_names names) values ≡ record_of dedupe (row_keys header (vec_len c.args.values.now)) values =
+    let made : zip (distinct_names names) values ≡ record_of dedupe (row_keys header (vec_len c.args.fields.now)) values =
     ap (λ n. zip (distinct_names n) values) c.header-names.ensures
     ∙ full-made dedupe c.is_distinct.result header values full few c.if-distinct.true c.is_distinct.ensures
-    ∙ ap (λ n. record_of dedupe (row_keys header n) values) (length-map items tree_of ∙ sym size) in
-    IfOk-weaker c.full_record.result (λ r. r ≡ zip (distinct_names names) values) (λ r. r ≡ record_of dedupe (row_keys header (vec_len c.args.values.now)) values) (λ r is. is ∙ made) c.full_record.ensures.made
+    ∙ ap (λ n. record_of dedupe (row_keys header n) values) (length-map items value_in ∙ sym size) in
+    IfOk-weaker c.full_record.result (λ r. r ≡ zip (distinct_names names) values) (λ r. r ≡ record_of dedupe (row_keys header (vec_len c.args.fields.now)) values) (λ r is. is ∙ made) c.full_record.ensures.made

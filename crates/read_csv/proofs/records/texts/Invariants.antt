@@ -1,7 +1,7 @@
 use Rattle.std.proofs.Common.{◌≡◌, map, take}
-use Rattle.mlr_value.specs.Value.{tree_of}
-use Rattle.read_csv.specs.Headers.{source_of}
+use Rattle.mlr_spec.specs.Tree.{text_of}
+use Rattle.read_csv.specs.OpenRow.{values_in}
 use Rattle.read_csv.proofs.records.texts.Given as goal
 
-abbrev pub invariant-loop-value : goal.invariant-loop-value
-invariant-loop-value l = l.made.items ≡ map source_of (map tree_of (take l.value-index l.values))
+abbrev pub invariant-loop-field : goal.invariant-loop-field
+invariant-loop-field l = l.made.items ≡ map text_of (values_in (take l.field-index l.fields))
