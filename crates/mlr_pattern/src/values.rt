@@ -2,17 +2,16 @@
 ghost use Rattle.std.specs.Prelude.{◌≡◌, ◌++◌, unwrap_or, IfOk, OnOk};
 ghost use Rattle.mlr_spec.specs.JsonGrammar.{text_value};
 ghost use Rattle.mlr_spec.specs.Tree.{text_of};
-ghost use Rattle.mlr_value.specs.Value.{tree_of, int_text};
+ghost use Rattle.mlr_value.specs.Value.{tree_of};
 ghost use Rattle.regex.specs.Bytes.{matcher_pattern};
 ghost use Rattle.mlr_pattern.specs.Values.{sub_of, ssub_of, plainly_replaced};
 
 use crate::Matcher;
 use crate::replace::replaced_if_found;
 use crate::which::Which;
-use itoa::Buffer;
 use mlr_record::split::separator_place;
 use mlr_spec::NoMemory;
-use mlr_value::{Bytes, IntValue, Value};
+use mlr_value::{Bytes, Value, append_text};
 use std::alloc::Global;
 
 /// A value after the function or the verb `sub` (the first match) or `gsub` (all matches). One matcher serves
@@ -87,28 +86,17 @@ fn append_around(prefix: &[u8], by: &[u8], back: &[u8], out: &mut Bytes) -> Resu
     out.append(back)
 }
 
-/// The text of a value, without a copy where it has one.
+/// The text of a value, without a copy where it is a string.
 fn into_text(alloc: Global, value: Value) -> Result<Bytes, NoMemory>
     ensures { IfOk result (λ text. text ≡ text_of (tree_of value)) }
 {
     match value {
-        Value::Absent | Value::Empty | Value::Map(_) | Value::Array(_) => Ok(Bytes::new(alloc)),
-        Value::Str(text) | Value::Frac(text) | Value::Wide(text) => Ok(text),
-        Value::Int(int) => int_into_text(alloc, int),
-        Value::Bool(true) => Bytes::copy_of(alloc, b"true"),
-        Value::Bool(false) => Bytes::copy_of(alloc, b"false"),
-        Value::Error => Bytes::copy_of(alloc, b"(error)"),
-    }
-}
-
-/// The spelling of an int, or the int in decimal where arithmetic made it.
-fn int_into_text(alloc: Global, int: IntValue) -> Result<Bytes, NoMemory>
-    ensures { IfOk result (λ text. text ≡ int_text int) }
-{
-    if int.spelling.is_empty() {
-        Bytes::copy_of(alloc, Buffer::new().format(int.n).as_bytes())
-    } else {
-        Ok(int.spelling)
+        Value::Str(text) => Ok(text),
+        other => {
+            let mut text = Bytes::new(alloc);
+            append_text(&other, &mut text)?;
+            Ok(text)
+        }
     }
 }
 

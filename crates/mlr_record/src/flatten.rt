@@ -1,5 +1,5 @@
 //! Nested values flattened: one field for each leaf.
-ghost use Rattle.std.specs.Prelude.{◌≡◌, true, ◌++◌, [], IfOk, if◌then◌else◌, is_ok, OnOk, codes};
+ghost use Rattle.std.specs.Prelude.{◌≡◌, true, false, ◌++◌, [], IfOk, IsOk, if◌then◌else◌, is_ok, OnOk, codes};
 ghost use Rattle.std.specs.List.{list_any};
 ghost use Rattle.std.specs.Fmt.{decimal};
 ghost use Rattle.mlr_spec.specs.Tree.{is_collection, fields_of, trees_of, string};
@@ -18,7 +18,8 @@ impl Record {
     /// joins the names on its path by the separator. A record without maps and arrays is left as it is,
     /// without an allocation.
     pub fn flatten(&mut self, separator: &[u8]) -> Result<(), NoMemory>
-        ensures { self.new ≡ (if is_ok result then flat separator.now self.old else self.old) }
+        ensures flat { self.new ≡ (if is_ok result then flat separator.now self.old else self.old) }
+        ensures same { list_any (λ pair. is_collection pair.1) self.old ≡ false → IsOk result }
     {
         if has_collection(self) {
             *self = flattened(self, separator)?;

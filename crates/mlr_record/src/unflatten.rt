@@ -1,5 +1,5 @@
 //! Fields are put back into the maps and arrays that their names spell.
-ghost use Rattle.std.specs.Prelude.{◌≡◌, ◌<◌, [], true, length, map, if◌then◌else◌, is_ok, IfOk, OnOk};
+ghost use Rattle.std.specs.Prelude.{◌≡◌, ◌<◌, [], true, false, length, map, if◌then◌else◌, is_ok, IfOk, IsOk, OnOk};
 ghost use Rattle.std.specs.List.{list_any};
 ghost use Rattle.std.specs.Option.{option_map};
 ghost use Rattle.std.specs.Str.{bytes_eq};
@@ -31,7 +31,9 @@ impl Record {
     /// and without the texts `{}` and `[]` is left as it is, without an allocation.
     pub fn unflatten(&mut self, separator: &[u8]) -> Result<(), NoMemory>
         requires { 0 < length separator.now }
-        ensures { self.new ≡ (if is_ok result then unflat separator.now self.old else self.old) }
+        ensures unflat { self.new ≡ (if is_ok result then unflat separator.now self.old
+            else self.old) }
+        ensures same { list_any (is_unflattened separator.now) self.old ≡ false → IsOk result }
     {
         if has_path(self, separator) {
             *self = unflattened(self, separator)?;
@@ -44,8 +46,10 @@ impl Record {
     /// text `{}` or `[]` too. A record in which no field changes is left as it is, without an allocation.
     pub fn unflatten_named(&mut self, separator: &[u8], names: &[Bytes]) -> Result<(), NoMemory>
         requires { 0 < length separator.now }
-        ensures { self.new ≡ (if is_ok result then unflat_named separator.now names.now self.old
+        ensures unflat { self.new ≡ (if is_ok result then unflat_named separator.now names.now self.old
             else self.old) }
+        ensures same { list_any (is_unflattened_named separator.now names.now) self.old ≡ false
+            → IsOk result }
     {
         if has_named_path(self, separator, names) {
             *self = unflattened_named(self, separator, names)?;

@@ -1,5 +1,5 @@
 //! `unspace`: a text in place of each space in keys and values.
-ghost use Rattle.std.specs.Prelude.{◌≡◌, ◌++◌, [], true, IfOk, OnOk};
+ghost use Rattle.std.specs.Prelude.{◌≡◌, ◌≤◌, ◌++◌, [], true, length, IfOk, IsOk, OnOk};
 ghost use Rattle.std.specs.List.{list_any};
 ghost use Rattle.mlr_spec.specs.Pairs.{keys_of, are_distinct};
 ghost use Rattle.mlr_value.specs.Value.{tree_of};
@@ -45,7 +45,8 @@ impl Unspace {
 
     /// A copy. It allocates only for a text of more than 16 bytes.
     pub fn copy(&self, alloc: Global) -> Result<Self, NoMemory>
-        ensures { IfOk result (λ copy. copy ≡ self.now) }
+        ensures same { IfOk result (λ copy. copy ≡ self.now) }
+        ensures short { length self.now.text ≤ 16 → IsOk result }
     {
         Ok(Unspace {
             text: Bytes::copy_of(alloc, self.text.as_slice())?,

@@ -1,5 +1,5 @@
 //! The fields that `sub`, `gsub` and `ssub` change, by their names.
-ghost use Rattle.std.specs.Prelude.{◌≡◌, IfOk};
+ghost use Rattle.std.specs.Prelude.{◌≡◌, IfOk, IsOk};
 ghost use Rattle.std.specs.Option.{option_map};
 ghost use Rattle.verbs_pattern.specs.Changing.{names_of};
 
@@ -11,7 +11,8 @@ use std::alloc::Global;
 impl SubFields {
     /// A copy. It allocates for the names.
     pub fn copy(&self, _: Global) -> Result<Self, NoMemory>
-        ensures { IfOk result (λ copy. copy ≡ self.now) }
+        ensures same { IfOk result (λ copy. copy ≡ self.now) }
+        ensures all { self.now ≡ SubFields.All → IsOk result }
     {
         Ok(match self {
             SubFields::All => SubFields::All,

@@ -1,5 +1,5 @@
 //! `fill-empty`: a text in place of each empty value.
-ghost use Rattle.std.specs.Prelude.{◌≡◌, true, IfOk};
+ghost use Rattle.std.specs.Prelude.{◌≡◌, ◌≤◌, true, length, IfOk, IsOk};
 ghost use Rattle.verbs_values.specs.Filling.{filled, fill_empty};
 ghost use Rattle.mlr_value.specs.Value.{tree_of};
 
@@ -29,7 +29,8 @@ impl FillEmpty {
 
     /// A copy. It allocates only for a text of more than 16 bytes.
     pub fn copy(&self, alloc: Global) -> Result<Self, NoMemory>
-        ensures { IfOk result (λ copy. copy ≡ self.now) }
+        ensures same { IfOk result (λ copy. copy ≡ self.now) }
+        ensures short { length self.now.text ≤ 16 → IsOk result }
     {
         Ok(FillEmpty {
             text: Bytes::copy_of(alloc, self.text.as_slice())?,

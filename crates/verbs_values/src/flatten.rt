@@ -1,5 +1,5 @@
 //! `flatten`: fields for the leaves of maps and arrays.
-ghost use Rattle.std.specs.Prelude.{◌≡◌, [], true, IfOk, OnOk};
+ghost use Rattle.std.specs.Prelude.{◌≡◌, ◌≤◌, [], true, length, None, IfOk, IsOk, OnOk};
 ghost use Rattle.std.specs.List.{flat_map, list_any};
 ghost use Rattle.mlr_event.specs.Reading.{is_among};
 ghost use Rattle.mlr_record.specs.Fields.{pair_of, pairs_of};
@@ -37,7 +37,8 @@ impl Flatten {
 
     /// A copy. It allocates for the names, and for a separator of more than 16 bytes.
     pub fn copy(&self, alloc: Global) -> Result<Self, NoMemory>
-        ensures { IfOk result (λ copy. copy ≡ self.now) }
+        ensures same { IfOk result (λ copy. copy ≡ self.now) }
+        ensures short { self.now.names ≡ None → length self.now.separator ≤ 16 → IsOk result }
     {
         Ok(Flatten {
             names: self.names.as_ref().map(Names::copy).transpose()?,

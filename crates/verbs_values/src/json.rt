@@ -1,5 +1,5 @@
 //! `json-parse` and `json-stringify`: values from JSON texts, and JSON texts of values.
-ghost use Rattle.std.specs.Prelude.{◌≡◌, IfOk};
+ghost use Rattle.std.specs.Prelude.{◌≡◌, None, IfOk, IsOk};
 ghost use Rattle.mlr_value.specs.Value.{tree_of};
 ghost use Rattle.verbs_values.specs.Json.{encoded, decoded, is_parsed, parsed, json_parse, json_stringify};
 
@@ -68,7 +68,8 @@ impl JsonParse {
 
     /// A copy. It allocates for the names.
     pub fn copy(&self, _: Global) -> Result<Self, NoMemory>
-        ensures { IfOk result (λ copy. copy ≡ self.now) }
+        ensures same { IfOk result (λ copy. copy ≡ self.now) }
+        ensures all { self.now.names ≡ None → IsOk result }
     {
         Ok(JsonParse {
             names: self.names.as_ref().map(Names::copy).transpose()?,
@@ -110,7 +111,8 @@ impl JsonStringify {
 
     /// A copy. It allocates for the names.
     pub fn copy(&self, _: Global) -> Result<Self, NoMemory>
-        ensures { IfOk result (λ copy. copy ≡ self.now) }
+        ensures same { IfOk result (λ copy. copy ≡ self.now) }
+        ensures all { self.now.names ≡ None → IsOk result }
     {
         Ok(JsonStringify {
             names: self.names.as_ref().map(Names::copy).transpose()?,

@@ -1,5 +1,5 @@
 //! `unflatten`: maps and arrays from fields with paths as names.
-ghost use Rattle.std.specs.Prelude.{◌≡◌, ◌<◌, length, IfOk};
+ghost use Rattle.std.specs.Prelude.{◌≡◌, ◌<◌, ◌≤◌, length, None, IfOk, IsOk};
 ghost use Rattle.verbs_values.specs.Unflattening.{unflatten};
 
 use mlr_event::Names;
@@ -34,7 +34,8 @@ impl Unflatten {
 
     /// A copy. It allocates for the names, and for a separator of more than 16 bytes.
     pub fn copy(&self, alloc: Global) -> Result<Self, NoMemory>
-        ensures { IfOk result (λ copy. copy ≡ self.now) }
+        ensures same { IfOk result (λ copy. copy ≡ self.now) }
+        ensures short { self.now.names ≡ None → length self.now.separator ≤ 16 → IsOk result }
     {
         Ok(Unflatten {
             names: self.names.as_ref().map(Names::copy).transpose()?,

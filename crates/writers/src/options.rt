@@ -1,5 +1,5 @@
 //! How records are written: the format, its separators and its flags.
-ghost use Rattle.std.specs.Prelude.{◌≡◌, IfOk};
+ghost use Rattle.std.specs.Prelude.{◌≡◌, ◌≤◌, length, IfOk, IsOk};
 
 use mlr_event::Format;
 use mlr_spec::NoMemory;
@@ -57,7 +57,9 @@ impl Drop for WriteOpts {
 impl WriteOpts {
     /// A copy. It takes memory for texts of more than 16 bytes.
     pub fn copy(&self, alloc: Global) -> Result<WriteOpts, NoMemory>
-        ensures { IfOk result (λ copy. copy ≡ self.now) }
+        ensures same { IfOk result (λ copy. copy ≡ self.now) }
+        ensures short { length self.now.ofs ≤ 16 → length self.now.ops ≤ 16
+            → length self.now.flatsep ≤ 16 → IsOk result }
     {
         Ok(WriteOpts {
             format: self.format,

@@ -11,7 +11,7 @@ returns c =
     let separator = c.args.separator.now in
     let value = tree_of c.args.field.value in
     let pushed : c.push.new.self ≡ (c.args.field.name, value) ∷ [] = c.in_ok-push.ensures ∙ ap₂ (λ l n. l ++ (n, value) ∷ []) c.in_ok-leaves.ensures c.as_slice.ensures in
-    let alone : c.flatten.new.self ≡ flat separator ((c.args.field.name, value) ∷ []) = c.in_ok-flatten.ensures ∙ ap (flat separator) pushed in
+    let alone : c.flatten.new.self ≡ flat separator ((c.args.field.name, value) ∷ []) = c.in_ok-flatten.ensures.flat ∙ ap (flat separator) pushed in
     on_ok_weaker c.put_all.result
     (λ put. put ∙ ap (put_each c.args.into.now) c.into_fields.ensures.fields ∙ put-leaves separator c.args.field.name value c.args.into.now c.flatten.new.self alone)
     c.put_all.ensures
