@@ -5,3 +5,4 @@ pub mod Passing
 pub mod InOrder
 pub mod Chains
 pub mod Closing
+pub mod Unclosed

@@ -1,9 +1,11 @@
 //! A verb at its place in a chain, which gets its end early if it is closed.
-ghost use Rattle.std.specs.Prelude.{◌≡◌, ◌++◌, ◌∷◌, ◌&&◌, [], List, true, not, IfOk, OnOk};
+ghost use Rattle.std.specs.Prelude.{◌≡◌, ◌++◌, ◌∷◌, ◌&&◌, [], List, true, not, IfOk, IsTrue, OnOk};
+ghost use Rattle.std.specs.Option.{unwrap_or};
 ghost use Rattle.mlr_event.specs.Adding.{Adds};
+ghost use Rattle.mlr_event.specs.declared.event.Ctx.{Ctx as SpecCtx};
 ghost use Rattle.mlr_event.specs.declared.event.Event.{Event as SpecEvent};
-ghost use Rattle.mlr_event.specs.Verb.{is_last, is_list, is_open};
-ghost use Rattle.chain_core.specs.Chain.{context_or};
+ghost use Rattle.mlr_event.specs.Verb.{PassesAll, is_last, is_list, is_open};
+ghost use Rattle.chain_core.specs.Chain.{context_or, last_context};
 ghost use Rattle.chain_core.specs.Represents.{GateRepresents, IsSameGate, made_at};
 
 use mlr_event::{Ctx, Event, Events, Step};
@@ -56,6 +58,30 @@ impl<S: Step + Drop> Gate<S> {
         ensures { result ≡ self.now.shut }
     {
         self.shut
+    }
+
+    /// Whether the verb gives each event as it is, and is never closed. It doesn't allocate.
+    pub fn passes_all(&self) -> bool
+        ensures { IsTrue result → PassesAll (S.verb self.now.verb) (S.represents self.now.verb) }
+    {
+        self.verb.passes_all()
+    }
+
+    /// Takes all events of a list, which are the output for them too. It doesn't allocate.
+    pub fn pass(&mut self, events: &Events)
+        requires { PassesAll (S.verb self.old.verb) (S.represents self.old.verb) }
+        ensures same { IsSameGate S.verb self.new self.old }
+        ensures represents { (given : List SpecEvent)
+            → GateRepresents S.verb S.represents given self.old
+            → is_list (given ++ events.now) ≡ true
+            → GateRepresents S.verb S.represents (given ++ events.now) self.new }
+        ensures made { (given : List SpecEvent)
+            → GateRepresents S.verb S.represents given self.old
+            → is_list (given ++ events.now) ≡ true
+            → made_at self.old.quiet (S.verb self.old.verb) (given ++ events.now)
+            ≡ made_at self.old.quiet (S.verb self.old.verb) given ++ events.now }
+    {
+        self.at = last_context(self.at, events);
     }
 
     /// Takes an event, and appends the verb's output to `out`.
@@ -122,12 +148,35 @@ fn is_last(event: &Event) -> bool
     matches!(event, Event::End(_) | Event::Fault(_))
 }
 
+/// The context of the last event that has one, or `other`.
+fn last_context(other: Ctx, events: &Events) -> Ctx
+    ensures { result ≡ last_context other events.now }
+{
+    let mut place = events.len();
+    while place > 0 {
+        place -= 1;
+        if let Some(event) = events.at(place) {
+            if let Some(ctx) = context_in(event) {
+                return ctx;
+            }
+        }
+    }
+    other
+}
+
+/// The context of an event, if it has one.
+fn context_in(event: &Event) -> Option<Ctx>
+    ensures { (other : SpecCtx) → context_or other event.now ≡ unwrap_or result other }
+{
+    match event {
+        Event::Rec(_, ctx) | Event::End(ctx) => Some(*ctx),
+        _ => None,
+    }
+}
+
 /// The context of an event, or `other` for an event without one.
 fn context_or(other: Ctx, event: &Event) -> Ctx
     ensures { result ≡ context_or other event.now }
 {
-    match event {
-        Event::Rec(_, ctx) | Event::End(ctx) => *ctx,
-        _ => other,
-    }
+    context_in(event).unwrap_or(other)
 }

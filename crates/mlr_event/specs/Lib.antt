@@ -5,3 +5,4 @@ pub mod Adding
 pub mod Verb
 pub mod Parts
 pub mod Models
+pub mod Passing

@@ -39,6 +39,12 @@ ctx_after at (fields pairs ∷ items) = ctx_after (next at) items
 ctx_after at (fault f ∷ items) = at
 
 -- whether a line is a comment, and what it gives then
+-- the prefix of comments, or nothing where there are none
+abbrev pub prefix_of : Comments → List ℕ
+prefix_of Keep = []
+prefix_of (Skip prefix) = prefix
+prefix_of (Pass prefix) = prefix
+
 abbrev pub is_comment : Comments → List ℕ → Bool
 is_comment Keep line = false
 is_comment (Skip prefix) line = begins_with prefix line

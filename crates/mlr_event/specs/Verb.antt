@@ -98,6 +98,12 @@ abbrev pub StaysClosed : Verb → Type 0
 StaysClosed verb = (before following : List Event) → verb.closed before ≡ true →
     ((fields : List (List ℕ × Tree)) (ctx : Ctx) → verb.now (before ++ following) fields ctx ≡ []) × ((ctx : Ctx) → verb.late (before ++ following) ctx ≡ [])
 
+-- A verb gives each event as it is and is never closed, so it needn't be given the events that follow.
+pub record PassesAll (verb : Verb) (represents : List Event → Type 0) : Type 0 where
+  pub same : (events : List Event) → is_list events ≡ true → made verb events ≡ events
+  pub unclosed : (events : List Event) → verb.closed events ≡ false
+  pub keeps : (given following : List Event) → represents given → represents (given ++ following)
+
 -- the texts, pieces and faults, and the end
 abbrev pub others : List Event → List Event
 others events = filter (λ e. not (is_record e)) events

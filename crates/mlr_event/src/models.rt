@@ -59,6 +59,10 @@ impl Step for Cat {
         false
     }
 
+    fn passes_all(&self) -> bool {
+        true
+    }
+
     fn is_broken(&self) -> bool {
         self.broken
     }
@@ -114,6 +118,10 @@ impl Step for Tac {
     }
 
     fn has_effects(&self) -> bool {
+        false
+    }
+
+    fn passes_all(&self) -> bool {
         false
     }
 

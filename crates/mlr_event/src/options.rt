@@ -1,5 +1,6 @@
 //! How a file is read: its format, its separators and its flags.
-ghost use Rattle.std.specs.Prelude.{◌≡◌, IfOk};
+ghost use Rattle.std.specs.Prelude.{◌≡◌, ◌≤◌, length, IfOk, IsOk};
+ghost use Rattle.mlr_event.specs.Reading.{prefix_of};
 
 use mlr_spec::{InferOpts, NoMemory};
 use mlr_value::Bytes;
@@ -42,7 +43,8 @@ pub enum Comments {
 impl Comments {
     /// A copy. It takes memory for a prefix of more than 16 bytes.
     pub fn copy(&self, alloc: Global) -> Result<Comments, NoMemory>
-        ensures { IfOk result (λ copy. copy ≡ self.now) }
+        ensures same { IfOk result (λ copy. copy ≡ self.now) }
+        ensures short { length (prefix_of self.now) ≤ 16 → IsOk result }
     {
         Ok(match self {
             Comments::Keep => Comments::Keep,
@@ -92,7 +94,9 @@ impl Drop for ReadOpts {
 impl ReadOpts {
     /// A copy. It takes memory for texts of more than 16 bytes.
     pub fn copy(&self, alloc: Global) -> Result<ReadOpts, NoMemory>
-        ensures { IfOk result (λ copy. copy ≡ self.now) }
+        ensures same { IfOk result (λ copy. copy ≡ self.now) }
+        ensures short { length self.now.ifs ≤ 16 → length self.now.ips ≤ 16
+            → length (prefix_of self.now.comments) ≤ 16 → IsOk result }
     {
         Ok(ReadOpts {
             format: self.format,

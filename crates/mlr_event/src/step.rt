@@ -2,7 +2,7 @@
 ghost use Rattle.std.specs.Prelude.{◌≡◌, ◌↔◌, ◌++◌, ◌∷◌, [], List, true, IsTrue, OnOk, OnErr};
 ghost use Rattle.mlr_event.specs.declared.event.Event.{Event as SpecEvent};
 ghost use Rattle.mlr_event.specs.Adding.{Adds};
-ghost use Rattle.mlr_event.specs.Verb.{IsQuiet, KeepsOrder, StaysClosed, Verb, is_open, made};
+ghost use Rattle.mlr_event.specs.Verb.{IsQuiet, KeepsOrder, PassesAll, StaysClosed, Verb, is_open, made};
 
 use crate::{Event, Events};
 use mlr_spec::NoMemory;
@@ -39,6 +39,11 @@ pub trait Step {
     /// Whether it may give anything but records. It takes no memory.
     fn has_effects(&self) -> bool
         ensures { result ≡ (verb self.now).effects };
+
+    /// Whether it gives each event as it is, and is never closed. Then a caller may hand on a list without giving
+    /// it. It takes no memory.
+    fn passes_all(&self) -> bool
+        ensures { IsTrue result → PassesAll (verb self.now) (represents self.now) };
 
     /// Whether a call found no memory. Then nothing more may be asked of it.
     fn is_broken(&self) -> bool

@@ -93,6 +93,12 @@ impl Step for Verb {
         }
     }
 
+    fn passes_all(&self) -> bool {
+        match self {
+            Verb::Stream(verb) => verb.passes_all(),
+        }
+    }
+
     fn is_broken(&self) -> bool {
         match self {
             Verb::Stream(verb) => verb.is_broken(),

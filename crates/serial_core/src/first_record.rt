@@ -64,6 +64,10 @@ impl Step for FirstRecord {
         false
     }
 
+    fn passes_all(&self) -> bool {
+        false
+    }
+
     fn is_broken(&self) -> bool {
         self.broken
     }

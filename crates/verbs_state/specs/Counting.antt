@@ -1,5 +1,5 @@
 -- The verbs that count records: `cat`, `decimate` and `head`.
-use Rattle.std.specs.Prelude.{ℕ, pos, ◌<◌, ◌+◌, ◌%◌, nat_eq, nat_le, nat_lt, Bool, false, ◌&&◌, if◌then◌else◌, List, [], ◌∷◌, length, Option, Some, None, is_none}
+use Rattle.std.specs.Prelude.{ℕ, pos, ◌<◌, ◌+◌, ◌%◌, nat_eq, nat_le, nat_lt, Bool, false, not, ◌&&◌, if◌then◌else◌, List, [], ◌∷◌, length, Option, Some, None, is_none}
 use Rattle.std.specs.Option.{unwrap_or}
 use Rattle.mlr_spec.specs.Tree.{int}
 use Rattle.mlr_spec.specs.Pairs.{remove_at}
@@ -20,6 +20,10 @@ numbered options n fields = if options.number then (options.name, int (pos (capp
 
 abbrev pub cat_gives : Cat → List Fields → Fields → List Fields
 cat_gives options before fields = elim (earlier options.groups before fields) [ Some n ↦ numbered options n fields ∷ [] | None ↦ [] ]
+
+-- `cat` without options, which gives each record as it is
+abbrev pub is_plain : Cat → Bool
+is_plain options = not options.number && is_none options.groups
 
 abbrev pub cat : Cat → Streaming
 cat options = record { gives = cat_gives options; closed = λ before. false }

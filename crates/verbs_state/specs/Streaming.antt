@@ -53,6 +53,12 @@ verb_of streaming = record {
 abbrev pub StaysShut : Streaming → Type 0
 StaysShut streaming = (before following : List Fields) (fields : Fields) → streaming.closed before ≡ true → streaming.gives (before ++ following) fields ≡ []
 
+-- the verb gives each record as it is and is never closed, so it needn't be given the records that follow
+pub record PassesEach (streaming : Streaming) (represents : List Fields → Type 0) : Type 0 where
+  pub same : (before : List Fields) (fields : Fields) → streaming.gives before fields ≡ fields ∷ []
+  pub unclosed : (before : List Fields) → streaming.closed before ≡ false
+  pub keeps : (before following : List Fields) → represents before → represents (before ++ following)
+
 -- a verb that keeps no state and never closes
 abbrev pub each : (Fields → List Fields) → Streaming
 each gives = record { gives = λ before fields. gives fields; closed = λ before. false }

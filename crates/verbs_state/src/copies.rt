@@ -1,5 +1,5 @@
 //! Copies of the options of verbs that keep state.
-ghost use Rattle.std.specs.Prelude.{◌≡◌, IfOk};
+ghost use Rattle.std.specs.Prelude.{◌≡◌, ◌≤◌, ℕ, length, None, IfOk, IsOk};
 
 use crate::options::{Cat, Decimate, FillDown, Gap, Head};
 use mlr_event::Names;
@@ -10,7 +10,8 @@ use std::alloc::Global;
 impl Cat {
     /// A copy. It allocates for a name of more than 16 bytes, and for the names of the grouping fields.
     pub fn copy(&self, alloc: Global) -> Result<Self, NoMemory>
-        ensures { IfOk result (λ copy. copy ≡ self.now) }
+        ensures same { IfOk result (λ copy. copy ≡ self.now) }
+        ensures short { length self.now.name ≤ 16 → self.now.groups ≡ None → IsOk result }
     {
         Ok(Cat {
             number: self.number,
@@ -23,7 +24,8 @@ impl Cat {
 impl Decimate {
     /// A copy. It allocates for the names of the grouping fields.
     pub fn copy(&self, _: Global) -> Result<Self, NoMemory>
-        ensures { IfOk result (λ copy. copy ≡ self.now) }
+        ensures same { IfOk result (λ copy. copy ≡ self.now) }
+        ensures ungrouped { self.now.groups ≡ None → IsOk result }
     {
         Ok(Decimate {
             count: self.count,
@@ -48,7 +50,8 @@ impl FillDown {
 impl Gap {
     /// A copy. It allocates for the names of the grouping fields.
     pub fn copy(&self, _: Global) -> Result<Self, NoMemory>
-        ensures { IfOk result (λ copy. copy ≡ self.now) }
+        ensures same { IfOk result (λ copy. copy ≡ self.now) }
+        ensures count { (n : ℕ) → self.now ≡ Gap.Count n → IsOk result }
     {
         Ok(match self {
             Gap::Count(count) => Gap::Count(*count),
@@ -60,7 +63,8 @@ impl Gap {
 impl Head {
     /// A copy. It allocates for the names of the grouping fields.
     pub fn copy(&self, _: Global) -> Result<Self, NoMemory>
-        ensures { IfOk result (λ copy. copy ≡ self.now) }
+        ensures same { IfOk result (λ copy. copy ≡ self.now) }
+        ensures ungrouped { self.now.groups ≡ None → IsOk result }
     {
         Ok(Head {
             count: self.count,

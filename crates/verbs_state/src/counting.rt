@@ -1,7 +1,8 @@
 //! `cat`, `decimate` and `head`: the verbs that count records.
-ghost use Rattle.std.specs.Prelude.{◌≡◌, [], IfOk};
+ghost use Rattle.std.specs.Prelude.{◌≡◌, [], IfOk, IsTrue};
 ghost use Rattle.std.specs.Option.{unwrap_or};
-ghost use Rattle.verbs_state.specs.Counting.{IsSoundDecimate, cat, decimate, head, is_kept, numbered};
+ghost use Rattle.verbs_state.specs.Counting.{IsSoundDecimate, cat, decimate, head, is_kept, is_plain, numbered};
+ghost use Rattle.verbs_state.specs.Streaming.{PassesEach};
 
 use crate::options::{Cat, Decimate, Head};
 use crate::streaming::Stream;
@@ -49,6 +50,14 @@ impl CatVerb {
             tallies: Tallies::new(alloc, names),
         })
     }
+
+    /// Whether it gives each record as it is, and so needs no record. It doesn't allocate.
+    pub fn passes_all(&self) -> bool
+        ensures { IsTrue result → PassesEach (⟦<CatVerb as Stream>⟧.meaning self.now)
+            (⟦<CatVerb as Stream>⟧.represents self.now) }
+    {
+        is_plain(&self.options)
+    }
 }
 
 impl DecimateVerb {
@@ -94,6 +103,9 @@ impl Stream for CatVerb {
     ghost shuts = { λ s. never-shuts (cat s.options).gives };
 
     fn take(&mut self, fields: Record, ctx: Ctx, out: &mut Events) -> Result<(), NoMemory> {
+        if is_plain(&self.options) {
+            return out.push(Event::Rec(fields, ctx));
+        }
         match self.tallies.count(&fields)? {
             Some(count) => {
                 let made = number(self.alloc, &self.options, count, fields)?;
@@ -152,6 +164,13 @@ impl Stream for HeadVerb {
     fn is_shut(&self) -> bool {
         self.options.groups.is_none() && self.options.count <= self.given
     }
+}
+
+/// Whether `cat` numbers no records and has no grouping fields.
+fn is_plain(options: &Cat) -> bool
+    ensures { result ≡ is_plain options.now }
+{
+    !options.number && options.groups.is_none()
 }
 
 /// The names of the grouping fields, or no names if all records are one group.

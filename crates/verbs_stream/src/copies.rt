@@ -1,5 +1,5 @@
 //! Copies of the options of verbs, which share the patterns.
-ghost use Rattle.std.specs.Prelude.{◌≡◌, IfOk};
+ghost use Rattle.std.specs.Prelude.{◌≡◌, ◌≤◌, ℕ, List, length, None, IfOk, IsOk};
 ghost use Rattle.verbs_stream.specs.Copies.{AreSameFields, AreSameHaving, AreSameRename};
 ghost use Rattle.verbs_stream.specs.Each.{IsSound, streaming_of};
 
@@ -150,7 +150,10 @@ impl Reorder {
 impl Repeat {
     /// A copy. It allocates for a name of more than 16 bytes.
     pub fn copy(&self, alloc: Global) -> Result<Self, NoMemory>
-        ensures { IfOk result (λ copy. copy ≡ self.now) }
+        ensures same { IfOk result (λ copy. copy ≡ self.now) }
+        ensures count { (n : ℕ) → self.now ≡ Repeat.Count n → IsOk result }
+        ensures short { (name : List ℕ) → self.now ≡ Repeat.Field name → length name ≤ 16
+            → IsOk result }
     {
         Ok(match self {
             Repeat::Count(count) => Repeat::Count(*count),
@@ -162,7 +165,8 @@ impl Repeat {
 impl SortWithinRecords {
     /// A copy. It doesn't allocate.
     pub fn copy(&self, _: Global) -> Result<Self, NoMemory>
-        ensures { IfOk result (λ copy. copy ≡ self.now) }
+        ensures same { IfOk result (λ copy. copy ≡ self.now) }
+        ensures sure { IsOk result }
     {
         Ok(SortWithinRecords { deep: self.deep })
     }
@@ -171,7 +175,8 @@ impl SortWithinRecords {
 impl Sparsify {
     /// A copy. It allocates for the names.
     pub fn copy(&self, _: Global) -> Result<Self, NoMemory>
-        ensures { IfOk result (λ copy. copy ≡ self.now) }
+        ensures same { IfOk result (λ copy. copy ≡ self.now) }
+        ensures all { self.now.names ≡ None → IsOk result }
     {
         Ok(Sparsify {
             names: self.names.as_ref().map(Names::copy).transpose()?,

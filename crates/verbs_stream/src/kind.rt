@@ -1,6 +1,8 @@
 //! The streaming verbs, by the state that they keep.
-ghost use Rattle.std.specs.Prelude.{◌≡◌, [], IfOk};
+ghost use Rattle.std.specs.Prelude.{◌≡◌, [], IfOk, IsTrue};
+ghost use Rattle.verbs_state.specs.Streaming.{PassesEach};
 ghost use Rattle.verbs_stream.specs.Each.{IsSound, streaming_of};
+ghost use Rattle.verbs_stream.specs.Kinds.{Represents, meaning_of};
 
 use crate::each::Each;
 use mlr_event::{Ctx, Events};
@@ -18,6 +20,18 @@ pub enum Kind {
     Gap(GapVerb),
     Head(HeadVerb),
     Regularize(RegularizeVerb),
+}
+
+impl Kind {
+    /// Whether it gives each record as it is, and so needs no record. It doesn't allocate.
+    pub(crate) fn passes_all(&self) -> bool
+        ensures { IsTrue result → PassesEach (meaning_of self.now) (Represents self.now) }
+    {
+        match self {
+            Kind::Cat(verb) => verb.passes_all(),
+            _ => false,
+        }
+    }
 }
 
 impl Stream for Kind {

@@ -89,6 +89,10 @@ impl Step for StreamVerb {
         false
     }
 
+    fn passes_all(&self) -> bool {
+        self.verb.passes_all()
+    }
+
     fn is_broken(&self) -> bool {
         self.broken
     }
