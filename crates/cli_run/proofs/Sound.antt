@@ -19,7 +19,7 @@ use Rattle.cli_words.specs.Grammar.{IsLine}
 use Rattle.cli_words.specs.Verbs.{is_zero, may_end}
 use Rattle.cli_words.proofs.Sources.{NoneSeq, NotSeq, first-may-end, later-verbs}
 use Rattle.cli_run.specs.Meaning.{field_of, spec_of, specs_of}
-use Rattle.cli_run.specs.Options.{read_options}
+use Rattle.mlr_event.specs.Defaults.{default_read}
 
 both : (a b : Bool) → (a && b) ≡ true → (a ≡ true) × (b ≡ true)
 both true true e = (refl, refl)
@@ -57,7 +57,7 @@ specs-sound words formats verbs names line =
     (first-sound words line.verb line.more (first-may-end line.first (length line.flags) line.verb line.verb_is) (later-verbs line.others (length line.flags + length line.first) line.more line.more_are))
 
 -- each format is read with options that its reader takes
-pub can-read : (fmt : Format) → can_read (read_options fmt) ≡ true
+pub can-read : (fmt : Format) → can_read (default_read fmt) ≡ true
 can-read Csv = refl
 can-read Tsv = refl
 can-read Json = refl

@@ -16,7 +16,8 @@ use Rattle.mlr_plan.specs.declared.verb_spec.VerbSpec.TheVariants as plan
 use Rattle.mlr_plan.specs.Plans.{origin_or, verbs_of}
 use Rattle.serial_core.specs.Command as serial
 use Rattle.verbs_stream.specs.declared.spec.Spec.TheVariants as verb
-use Rattle.cli_run.specs.Options.{read_options, write_options}
+use Rattle.mlr_event.specs.Defaults.{default_read}
+use Rattle.cli_run.specs.Options.{write_options}
 
 -- the word with this number from 1; none of number 0 or past the last
 abbrev pub word_at : List (List ℕ) → ℕ → List ℕ
@@ -44,7 +45,7 @@ inputs_of (name ∷ names) = File name ∷ map File names
 -- what a command line with these formats, verbs and file names means
 abbrev pub command_of : Formats → List Asked → List (List ℕ) → List (List ℕ) → serial.Command
 command_of formats verbs names words = record {
-  origin = origin_or (serial.files (read_options formats.input) (inputs_of names)) (specs_of words verbs);
+  origin = origin_or (serial.files (default_read formats.input) (inputs_of names)) (specs_of words verbs);
   verbs = verbs_of (specs_of words verbs);
   write = write_options formats;
 }

@@ -1,30 +1,14 @@
 //! The options of formats, as flags give them.
 ghost use Rattle.std.specs.Prelude.{◌≡◌, ◌≤◌, ◌^◌, length, IfOk};
 ghost use Rattle.cli_run.specs.Meaning.{inputs_of};
-ghost use Rattle.cli_run.specs.Options.{default_separator, is_json, read_options, write_options};
+ghost use Rattle.cli_run.specs.Options.{is_json, write_options};
 
 use cli_words::Formats;
-use mlr_event::{Comments, Format, InputName, ReadOpts};
-use mlr_spec::{InferOpts, NoMemory};
+use mlr_event::{Format, InputName};
+use mlr_spec::NoMemory;
 use mlr_value::Bytes;
 use std::alloc::Global;
 use writers::WriteOpts;
-
-/// How a format is read.
-pub(crate) fn read_options(alloc: Global, format: Format) -> Result<ReadOpts, NoMemory>
-    ensures { IfOk result (λ opts. opts ≡ read_options format) }
-{
-    Ok(ReadOpts {
-        format,
-        ifs: Bytes::copy_of(alloc, default_separator(format))?,
-        ips: Bytes::copy_of(alloc, b"=")?,
-        implicit: false,
-        ragged: false,
-        dedupe: true,
-        comments: Comments::Keep,
-        infer: InferOpts::plain(),
-    })
-}
 
 /// How a command writes.
 pub(crate) fn write_options(alloc: Global, formats: Formats) -> Result<WriteOpts, NoMemory>
@@ -32,7 +16,7 @@ pub(crate) fn write_options(alloc: Global, formats: Formats) -> Result<WriteOpts
 {
     Ok(WriteOpts {
         format: formats.output,
-        ofs: Bytes::copy_of(alloc, default_separator(formats.output))?,
+        ofs: Bytes::copy_of(alloc, formats.output.separator())?,
         ops: Bytes::copy_of(alloc, b"=")?,
         headerless: false,
         quote_all: false,
@@ -43,17 +27,6 @@ pub(crate) fn write_options(alloc: Global, formats: Formats) -> Result<WriteOpts
         unflatten: is_json(formats.output) && !is_json(formats.input),
         flatsep: Bytes::copy_of(alloc, b".")?,
     })
-}
-
-/// The separator of fields where none is given.
-fn default_separator(format: Format) -> &'static [u8]
-    ensures { result.now ≡ default_separator format }
-{
-    match format {
-        Format::Tsv => b"\t",
-        Format::Nidx => b" ",
-        _ => b",",
-    }
 }
 
 /// Whether values can be nested in a format.

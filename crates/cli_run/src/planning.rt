@@ -5,8 +5,9 @@ ghost use Rattle.cli_words.specs.Grammar.{IsLine, names_of};
 ghost use Rattle.mlr_plan.specs.Plans.{IsCommandOf, IsSound};
 ghost use Rattle.cli_run.specs.Meaning.{command_of, field_of, spec_of, specs_of};
 
-use crate::options::{inputs_of, read_options, write_options};
+use crate::options::{inputs_of, write_options};
 use cli_words::{Asked, Command, Numbers, names_of, numbers_of, verbs_of};
+use mlr_event::ReadOpts;
 use mlr_plan::{Plan, VerbSpec};
 use mlr_spec::NoMemory;
 use mlr_value::Bytes;
@@ -33,7 +34,7 @@ pub(crate) fn plan_of(alloc: Global, words: &[Bytes], command: Command) -> Resul
     styles.push(write_options(alloc, command.formats)?)?;
     let verbs = verbs_of(alloc, words)?;
     Ok(Plan {
-        read: read_options(alloc, command.formats.input)?,
+        read: ReadOpts::of(alloc, command.formats.input)?,
         inputs: inputs_of(alloc, names_of(words, command))?,
         no_input: false,
         verbs: specs_of(alloc, words, &verbs)?,

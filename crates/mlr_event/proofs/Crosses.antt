@@ -9,13 +9,17 @@ use Rattle.mlr_event.specs.contracts.event.Event
 use Rattle.mlr_event.specs.contracts.event.Piece
 use Rattle.mlr_event.specs.contracts.events.Events
 use Rattle.mlr_event.specs.contracts.fault.Fault
+use Rattle.mlr_event.specs.contracts.names.FileRef
 use Rattle.mlr_event.specs.contracts.names.InputName
 use Rattle.mlr_event.specs.contracts.names.Mode
 use Rattle.mlr_event.specs.contracts.names.StyleId
 use Rattle.mlr_event.specs.contracts.names.Target
+use Rattle.mlr_event.specs.contracts.options.Comments
+use Rattle.mlr_event.specs.contracts.options.Format
+use Rattle.mlr_event.specs.contracts.options.ReadOpts
 
 -- into a thread
-Ctx-send : IsSend Ctx.the_field.row
+pub Ctx-send : IsSend Ctx.the_field.row
 Ctx-send = search (crosses, sendable) depth 60 fits 20000
 
 Mode-send : IsSend Mode.the_field.row
@@ -27,7 +31,7 @@ StyleId-send = search (crosses, sendable) depth 60 fits 20000
 Target-send : IsSend Target.the_field.row
 Target-send = search (bytes.the_send, crosses, sendable) depth 60 fits 20000
 
-InputName-send : IsSend InputName.the_field.row
+pub InputName-send : IsSend InputName.the_field.row
 InputName-send = search (bytes.the_send, crosses, sendable) depth 60 fits 20000
 
 Fault-send : IsSend Fault.the_field.row
@@ -56,6 +60,19 @@ Event-field-send = search (of_events, crosses, sendable) depth 60 fits 20000
 
 pub Events-send : IsSend Events.the_row
 Events-send = search (Event-send, crosses, sendable) depth 60 fits 20000
+
+-- the options of a reader
+Comments-send : IsSend Comments.the_field.row
+Comments-send = search (bytes.the_send, crosses, sendable) depth 60 fits 20000
+
+Format-send : IsSend Format.the_field.row
+Format-send = search (crosses, sendable) depth 60 fits 20000
+
+pub FileRef-send : IsSend FileRef.the_field.row
+FileRef-send = search (crosses, sendable) depth 60 fits 20000
+
+pub ReadOpts-send : IsSend ReadOpts.the_field.row
+ReadOpts-send = search (Comments-send, Format-send, bytes.the_send, crosses, sendable) depth 60 fits 20000
 
 -- shared by threads
 Ctx-sync : IsSync Ctx.the_field.row
@@ -99,6 +116,13 @@ Event-field-sync = search (of_events_shared, crosses, sendable) depth 60 fits 20
 
 pub Events-sync : IsSync Events.the_row
 Events-sync = search (Event-sync, crosses, sendable) depth 60 fits 20000
+
+pub ruleset crosses_reading = (
+  Ctx-send,
+  InputName-send,
+  FileRef-send,
+  ReadOpts-send,
+)
 
 pub ruleset crosses_events = (
   Event-send,

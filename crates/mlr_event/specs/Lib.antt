@@ -6,3 +6,4 @@ pub mod Verb
 pub mod Parts
 pub mod Models
 pub mod Passing
+pub mod Defaults

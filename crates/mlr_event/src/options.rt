@@ -1,5 +1,6 @@
 //! How a file is read: its format, its separators and its flags.
 ghost use Rattle.std.specs.Prelude.{◌≡◌, ◌≤◌, length, IfOk, IsOk};
+ghost use Rattle.mlr_event.specs.Defaults.{default_read, default_separator};
 ghost use Rattle.mlr_event.specs.Reading.{prefix_of};
 
 use mlr_spec::{InferOpts, NoMemory};
@@ -27,6 +28,19 @@ pub enum Format {
     Pprint,
     /// Markdown tables.
     Markdown,
+}
+
+impl Format {
+    /// The separator of fields where no flag gives one.
+    pub fn separator(self) -> &'static [u8]
+        ensures { result.now ≡ default_separator self }
+    {
+        match self {
+            Format::Tsv => b"\t",
+            Format::Nidx => b" ",
+            _ => b",",
+        }
+    }
 }
 
 /// What a reader does with a line that begins with a prefix where a row may begin.
@@ -92,6 +106,23 @@ impl Drop for ReadOpts {
 }
 
 impl ReadOpts {
+    /// How a format is read where no flag says otherwise. It takes no memory.
+    pub fn of(alloc: Global, format: Format) -> Result<ReadOpts, NoMemory>
+        ensures same { IfOk result (λ opts. opts ≡ default_read format) }
+        ensures sure { IsOk result }
+    {
+        Ok(ReadOpts {
+            format,
+            ifs: Bytes::copy_of(alloc, format.separator())?,
+            ips: Bytes::copy_of(alloc, b"=")?,
+            implicit: false,
+            ragged: false,
+            dedupe: true,
+            comments: Comments::Keep,
+            infer: InferOpts::plain(),
+        })
+    }
+
     /// A copy. It takes memory for texts of more than 16 bytes.
     pub fn copy(&self, alloc: Global) -> Result<ReadOpts, NoMemory>
         ensures same { IfOk result (λ copy. copy ≡ self.now) }

@@ -40,8 +40,8 @@ pub trait Step {
     fn has_effects(&self) -> bool
         ensures { result ≡ (verb self.now).effects };
 
-    /// Whether it gives each event as it is, and is never closed. Then a caller may hand on a list without giving
-    /// it. It takes no memory.
+    /// Whether it gives each event as it is, and is never closed. Then a caller may hand a list on without giving
+    /// it to this verb. It takes no memory.
     fn passes_all(&self) -> bool
         ensures { IsTrue result → PassesAll (verb self.now) (represents self.now) };
 

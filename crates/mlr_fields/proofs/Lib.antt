@@ -1,3 +1,4 @@
 pub mod Suffixing
 pub mod Building
 mod Texts
+pub mod Crosses

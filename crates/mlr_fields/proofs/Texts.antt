@@ -6,8 +6,8 @@ use Rattle.std.proofs.lemmas.List.{map-append}
 use Rattle.std.proofs.lemmas.Slice.Eq.{bytes_eq-Decides}
 use Rattle.indexmap.specs.IndexSet.{insert_key}
 use Rattle.mlr_event.specs.Reading.{is_among}
-use Rattle.mlr_value.specs.Collections.{texts_in}
-use Rattle.mlr_value.proofs.Columns.{Keys, IsAt, IsAt-position, is_text}
+use Rattle.mlr_keys.specs.Keys.{texts_in}
+use Rattle.mlr_keys.proofs.Sets.{Keys, IsAt, IsAt-position, is_text}
 
 pub among-texts : (text : List ℕ) (keys : Keys) → list_any (is_text text) keys ≡ is_among (texts_in keys) text
 among-texts text [] = refl

@@ -25,7 +25,7 @@ pub(crate) struct NameIndex {
 
 impl Model for NameIndex {
     ghost use Rattle.std.specs.Prelude.{List, ℕ};
-    ghost use Rattle.mlr_value.specs.Collections.{texts_in};
+    ghost use Rattle.mlr_keys.specs.Keys.{texts_in};
     ghost use Rattle.mlr_fields.specs.Suffixes.{AreKnown};
 
     ghost Value = { List (List ℕ) };

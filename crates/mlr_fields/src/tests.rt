@@ -1,8 +1,8 @@
 //! Names made distinct, in headers and in records built field by field.
 use crate::{Fields, Header, few};
-use mlr_event::{Comments, Format, ReadOpts};
+use mlr_event::{Format, ReadOpts};
 use mlr_record::Record;
-use mlr_spec::{InferOpts, NoMemory};
+use mlr_spec::NoMemory;
 use mlr_value::{Bytes, Value};
 use std::alloc::Global;
 
@@ -121,16 +121,7 @@ fn equal_names_are_made_distinct_or_replaced(rt: HostRuntime) -> Result<(), NoMe
 
 /// The record of a name that is pushed and is put again as a text.
 fn two_texts(alloc: Global) -> Result<Record, NoMemory> {
-    let opts = ReadOpts {
-        format: Format::Dkvp,
-        ifs: Bytes::copy_of(alloc, b",")?,
-        ips: Bytes::copy_of(alloc, b"=")?,
-        implicit: false,
-        ragged: false,
-        dedupe: true,
-        comments: Comments::Keep,
-        infer: InferOpts::plain(),
-    };
+    let opts = ReadOpts::of(alloc, Format::Dkvp)?;
     let mut fields = Fields::new(Record::new(alloc)?);
     fields.push(b"a", Value::Empty)?;
     fields.put_text(alloc, &opts, b"a", b"0x10")?;

@@ -8,8 +8,8 @@ use Rattle.std.proofs.lemmas.Slice.Eq.{bytes_eq-Decides}
 use Rattle.indexmap.specs.IndexSet.{insert_key}
 use Rattle.mlr_spec.specs.Pairs.{are_distinct}
 use Rattle.mlr_event.specs.Reading.{is_among}
-use Rattle.mlr_value.specs.Collections.{texts_in}
-use Rattle.mlr_value.proofs.Columns.{Keys, IsAt, is_text}
+use Rattle.mlr_keys.specs.Keys.{texts_in}
+use Rattle.mlr_keys.proofs.Sets.{Keys, IsAt, is_text}
 use Rattle.mlr_groups.specs.Keys.{entered}
 
 pub among-texts : (text : List ℕ) (keys : Keys) → is_among (texts_in keys) text ≡ list_any (is_text text) keys

@@ -125,7 +125,7 @@ pub struct KeyTable {
 
 impl Model for KeyTable {
     ghost use Rattle.std.specs.Prelude.{List, ℕ};
-    ghost use Rattle.mlr_value.specs.Collections.{texts_in};
+    ghost use Rattle.mlr_keys.specs.Keys.{texts_in};
 
     ghost Value = { List (List ℕ) };
 

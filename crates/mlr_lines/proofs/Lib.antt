@@ -2,3 +2,4 @@ pub mod Cutting
 pub mod Feeding
 pub mod Prefixing
 pub mod Parting
+pub mod Blocks

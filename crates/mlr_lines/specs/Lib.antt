@@ -2,3 +2,4 @@ pub mod Lines
 pub mod Steps
 pub mod Represents
 pub mod Prefixes
+pub mod Blocks

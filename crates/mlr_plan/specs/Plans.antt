@@ -1,11 +1,12 @@
 -- What a plan means.
-use Rattle.std.specs.Prelude.{◌≡◌, true, if◌then◌else◌, List, [], ◌∷◌}
+use Rattle.std.specs.Prelude.{◌≡◌, ◌≤◌, length, true, if◌then◌else◌, List, [], ◌∷◌}
 use Rattle.mlr_event.specs.Verb.{Verb}
 use Rattle.mlr_event.specs.declared.names.InputName.{InputName}
 use Rattle.read_files.specs.Represents.{can_read}
 use Rattle.serial_core.specs.Command.{Command, Origin, files, numbers}
 use Rattle.verbs_seq.specs.Seq.{IsSoundSeq}
 use Rattle.verbs_state.specs.Streaming.{verb_of}
+use Rattle.verbs_stream.specs.Copies as stream_copies
 use Rattle.verbs_stream.specs.Each as stream
 use Rattle.writers.specs.declared.options.WriteOpts.{WriteOpts}
 use Rattle.mlr_plan.specs.declared.plan.Plan.{Plan}
@@ -64,6 +65,11 @@ AreSame (Stream spec) (Stream copy) = (stream.streaming_of copy ≡ stream.strea
 AreSame (Stream spec) (Seq copy) = ⊥
 AreSame (Seq seq) (Stream copy) = ⊥
 AreSame (Seq seq) (Seq copy) = copy ≡ seq
+
+-- a verb whose options have no list, no pattern and no text of more than 16 bytes
+abbrev pub IsShort : VerbSpec → Type 0
+IsShort (Stream spec) = stream_copies.IsShort spec
+IsShort (Seq seq) = length seq.field ≤ 16
 
 abbrev pub AreSameVerbs : List VerbSpec → List VerbSpec → Type 0
 AreSameVerbs [] [] = Unit {0}

@@ -6,9 +6,9 @@ ghost use Rattle.verbs_stream.specs.Each.{IsSound as IsSoundSpec};
 ghost use Rattle.mlr_plan.specs.Plans.{AreSound, IsSound};
 
 use crate::{Plan, VerbSpec, chain_of, run_serial};
-use mlr_event::{Comments, Ctx, Event, Events, Format, InputName, Names, ReadOpts, Target};
+use mlr_event::{Ctx, Event, Events, Format, InputName, Names, ReadOpts, Target};
 use mlr_record::Record;
-use mlr_spec::{InferOpts, NoMemory};
+use mlr_spec::NoMemory;
 use mlr_value::Bytes;
 use mlr_world::{Inputs, MemInputs, MemOutputs, Opened};
 use serial_core::Ended;
@@ -22,16 +22,7 @@ use writers::WriteOpts;
 fn read_opts(alloc: Global) -> Result<ReadOpts, NoMemory>
     ensures { IfOk result (λ opts. can_read opts ≡ true) }
 {
-    Ok(ReadOpts {
-        format: Format::Dkvp,
-        ifs: Bytes::copy_of(alloc, b",")?,
-        ips: Bytes::copy_of(alloc, b"=")?,
-        implicit: false,
-        ragged: false,
-        dedupe: true,
-        comments: Comments::Keep,
-        infer: InferOpts::plain(),
-    })
+    ReadOpts::of(alloc, Format::Dkvp)
 }
 
 /// A format, as it is written.

@@ -1,6 +1,6 @@
 //! Verbs of a plan, of any kind, with their options.
-ghost use Rattle.std.specs.Prelude.{IfOk};
-ghost use Rattle.mlr_plan.specs.Plans.{AreSame};
+ghost use Rattle.std.specs.Prelude.{IfOk, IsOk};
+ghost use Rattle.mlr_plan.specs.Plans.{AreSame, IsShort};
 
 use mlr_spec::NoMemory;
 use std::alloc::Global;
@@ -28,7 +28,8 @@ impl Drop for VerbSpec {
 impl VerbSpec {
     /// A copy, which shares the patterns. It takes memory for lists, and for texts of more than 16 bytes.
     pub fn copy(&self, alloc: Global) -> Result<Self, NoMemory>
-        ensures { IfOk result (λ copy. AreSame self.now copy) }
+        ensures same { IfOk result (λ copy. AreSame self.now copy) }
+        ensures short { IsShort self.now → IsOk result }
     {
         match self {
             VerbSpec::Stream(spec) => Ok(VerbSpec::Stream(spec.copy(alloc)?)),

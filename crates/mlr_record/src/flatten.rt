@@ -48,21 +48,22 @@ fn is_collection(value: &Value) -> bool
     matches!(value, Value::Map(_) | Value::Array(_))
 }
 
-/// The leaves of all fields, copied into a record of their own.
+/// The leaves of all fields, copied into a record of their own. They are put together in a map, which finds a name by its
+/// hash once they are many.
 fn flattened(from: &Record, separator: &[u8]) -> Result<Record, NoMemory>
     ensures { IfOk result (λ flattened. flattened ≡ flat separator.now from.now) }
 {
     let alloc = from.allocator();
-    let mut into = Record::new(alloc)?;
-    put_fields(from, separator, &mut into, alloc)?;
-    Ok(into)
+    let mut leaves = MapValue::new(alloc)?;
+    put_fields(from, separator, &mut leaves, alloc)?;
+    Record::of_map(alloc, leaves)
 }
 
-/// Sets the leaves of all fields in an empty record.
+/// Sets the leaves of all fields in an empty map.
 fn put_fields(
     from: &Record,
     separator: &[u8],
-    into: &mut Record,
+    into: &mut MapValue,
     alloc: Global,
 ) -> Result<(), NoMemory>
     requires { into.old ≡ [] }
@@ -81,7 +82,7 @@ fn put_leaves(
     name: &[u8],
     value: &Value,
     separator: &[u8],
-    into: &mut Record,
+    into: &mut MapValue,
     alloc: Global,
 ) -> Result<(), NoMemory>
     ensures { OnOk result (into.new ≡ put_each into.old
@@ -107,7 +108,7 @@ fn put_leaves(
 }
 
 /// Sets a field of this text.
-fn put_text(name: &[u8], text: &[u8], into: &mut Record, alloc: Global) -> Result<(), NoMemory>
+fn put_text(name: &[u8], text: &[u8], into: &mut MapValue, alloc: Global) -> Result<(), NoMemory>
     ensures { OnOk result (into.new ≡ put_at name.now (string text.now) into.old) }
 {
     into.put(name, Value::Str(Bytes::copy_of(alloc, text)?))
@@ -119,7 +120,7 @@ fn put_pairs(
     name: &[u8],
     map: &MapValue,
     separator: &[u8],
-    into: &mut Record,
+    into: &mut MapValue,
     alloc: Global,
 ) -> Result<(), NoMemory>
     ensures { OnOk result (into.new ≡ put_each into.old
@@ -139,7 +140,7 @@ fn put_items(
     name: &[u8],
     array: &ArrayValue,
     separator: &[u8],
-    into: &mut Record,
+    into: &mut MapValue,
     alloc: Global,
 ) -> Result<(), NoMemory>
     ensures { OnOk result (into.new ≡ put_each into.old

@@ -4,9 +4,11 @@ ghost use Rattle.std.specs.Option.{unwrap_or};
 ghost use Rattle.mlr_spec.specs.Pairs.{value_at, put_at, keys_of, are_distinct};
 ghost use Rattle.mlr_spec.specs.Tree.{absent};
 ghost use Rattle.mlr_spec.specs.Flatten.{leaf, Node as SpecNode};
-ghost use Rattle.mlr_record.specs.NodeView.{node_of};
+ghost use Rattle.mlr_keys.specs.Keys.{Knows};
+ghost use Rattle.mlr_record.specs.NodeView.{children_in, node_of};
 ghost use Rattle.mlr_record.specs.Children.{IsChildOf, IsGiven};
 
+use mlr_keys::{HasKey, KeyPlaces};
 use mlr_spec::NoMemory;
 use mlr_value::Value;
 use std::alloc::Global;
@@ -46,7 +48,17 @@ struct Child<'a> {
 #[cycle(node)]
 #[derive(Drop)]
 pub struct Nodes<'a> {
+    alloc: Global,
     children: Vec<Child<'a>>,
+    places: KeyPlaces,
+}
+
+impl<'a> HasKey for Child<'a> {
+    ghost key = { λ child. child.name.now };
+
+    fn key(&self) -> &[u8] {
+        self.name
+    }
 }
 
 impl<'a> Model for Nodes<'a> {
@@ -59,11 +71,13 @@ impl<'a> Model for Nodes<'a> {
     ghost coded = { coded_nodes };
 
     ghost use Rattle.mlr_spec.specs.Pairs.{keys_of, are_distinct};
+    ghost use Rattle.mlr_keys.specs.Keys.{Knows};
     ghost use Rattle.mlr_record.specs.NodeView.{children_in};
 
     ghost view = { λ n. children_in n.children.items };
 
-    ghost invariant = { λ n. are_distinct (keys_of (children_in n.children.items)) ≡ true };
+    ghost invariant = { λ n. (are_distinct (keys_of (children_in n.children.items)) ≡ true)
+        × Knows n.places (keys_of (children_in n.children.items)) };
 
     ghost size = { list_depth };
 
@@ -78,7 +92,9 @@ impl<'a> Nodes<'a> {
         ensures { result ≡ [] }
     {
         Nodes {
+            alloc,
             children: Vec::new(alloc),
+            places: KeyPlaces::new(),
         }
     }
 
@@ -106,7 +122,7 @@ impl<'a> Nodes<'a> {
         ensures left { (node : SpecNode)
             → put_at name.now node self.new ≡ put_at name.now node self.old }
     {
-        match place_of(&self.children, name) {
+        match place_of(&self.children, &self.places, name) {
             Some(place) => mem::replace(&mut self.children[place].node, Node::End(Leaf::Nothing)),
             None => Node::End(Leaf::Nothing),
         }
@@ -116,15 +132,12 @@ impl<'a> Nodes<'a> {
     pub fn put(&mut self, name: &'a [u8], node: Node<'a>) -> Result<(), NoMemory>
         ensures { OnOk result (self.new ≡ put_at name.now (node_of node.entry) self.old) }
     {
-        match place_of(&self.children, name) {
+        match place_of(&self.children, &self.places, name) {
             Some(place) => {
                 give_node(&mut self.children, place, node);
                 Ok(())
             }
-            None => {
-                self.children.push(Child { name, node })?;
-                Ok(())
-            }
+            None => self.push(name, node),
         }
     }
 
@@ -133,7 +146,9 @@ impl<'a> Nodes<'a> {
         requires { value_at name.now self.old ≡ None }
         ensures { OnOk result (self.new ≡ self.old ++ (name.now, node_of node.entry) ∷ []) }
     {
-        self.children.push(Child { name, node })?;
+        self.children.reserve(1)?;
+        self.places.add(self.alloc, &self.children, name)?;
+        self.children.push_reserved(Child { name, node });
         Ok(())
     }
 }
@@ -147,13 +162,9 @@ fn give_node<'a>(children: &mut Vec<Child<'a>>, place: usize, node: Node<'a>)
 }
 
 /// The place of the child with this name.
-fn place_of(children: &[Child<'_>], name: &[u8]) -> Option<usize>
+fn place_of(children: &[Child<'_>], places: &KeyPlaces, name: &[u8]) -> Option<usize>
+    requires { Knows places.now (keys_of (children_in children.now)) }
     ensures { IsChildOf name.now children.now result }
 {
-    for (place, child) in children.iter().enumerate() {
-        if child.name == name {
-            return Some(place);
-        }
-    }
-    None
+    places.place_of(children, name)
 }

@@ -1,15 +1,15 @@
 //! Records: fields in order, with distinct names.
 ghost use Rattle.std.specs.Prelude.{◌≡◌, ◌<◌, ◌++◌, ◌∷◌, true, ℕ, List, [], length, set, if◌then◌else◌, is_ok, IfOk, OnOk, map, slice_get, is_some, vec_len, slice_index_or, remove};
-ghost use Rattle.std.specs.List.{zip};
 ghost use Rattle.std.specs.Option.{option_map};
 ghost use Rattle.mlr_spec.specs.Tree.{Tree};
 ghost use Rattle.mlr_spec.specs.Pairs.{value_at, put_at, remove_at, place_at, rename_at, keys_of, are_distinct};
 ghost use Rattle.mlr_value.specs.Value.{tree_of};
+ghost use Rattle.mlr_value.specs.Collections.{pairs_of as map_pairs};
 ghost use Rattle.mlr_record.specs.declared.record.Field.{Field};
 ghost use Rattle.mlr_record.specs.Fields.{IsPlaceOf, IsRenamed, pairs_of};
 
 use mlr_spec::NoMemory;
-use mlr_value::{Bytes, Value};
+use mlr_value::{Bytes, MapValue, Pair, Value};
 use std::alloc::Global;
 use std::marker::Model;
 use std::mem::replace;
@@ -135,15 +135,13 @@ impl Record {
         Ok(())
     }
 
-    /// A record of these values under names of which no two are equal. It takes the room of the list at once, and makes
-    /// no search.
-    pub fn of_values(alloc: Global, names: &[Bytes], values: Vec<Value>) -> Result<Self, NoMemory>
-        requires distinct { are_distinct names.now ≡ true }
-        requires count { length names.now ≡ vec_len values }
-        ensures { IfOk result (λ made. made ≡ zip names.now (map tree_of values.items)) }
+    /// A record of the pairs of a map. It takes the room of the list at once, and makes no search.
+    pub fn of_map(alloc: Global, map: MapValue) -> Result<Self, NoMemory>
+        ensures { IfOk result (λ made. made ≡ map) }
     {
-        let mut fields = Vec::with_capacity(alloc, names.len())?;
-        put_values(alloc, names, values, &mut fields)?;
+        let pairs = map.into_pairs();
+        let mut fields = Vec::with_capacity(alloc, pairs.len())?;
+        push_pairs(pairs, &mut fields)?;
         Ok(Record { alloc, fields })
     }
 
@@ -242,22 +240,14 @@ impl Record {
 
 const FIRST_ROOM: usize = 8;
 
-/// Appends fields of these names and values.
-fn put_values(
-    alloc: Global,
-    names: &[Bytes],
-    values: Vec<Value>,
-    fields: &mut Vec<Field>,
-) -> Result<(), NoMemory>
-    requires { length names.now ≡ vec_len values }
+/// Appends pairs as fields.
+fn push_pairs(pairs: Vec<Pair>, fields: &mut Vec<Field>) -> Result<(), NoMemory>
     ensures { OnOk result (pairs_of fields.new.items
-        ≡ pairs_of fields.old.items ++ zip names.now (map tree_of values.items)) }
+        ≡ pairs_of fields.old.items ++ map_pairs pairs.items) }
 {
-    let mut place = 0;
-    for value in values {
-        let name = Bytes::copy_of(alloc, names[place].as_slice())?;
-        fields.push(Field { name, value })?;
-        place += 1;
+    for pair in pairs {
+        let Pair { key, value } = pair;
+        fields.push(Field { name: key, value })?;
     }
     Ok(())
 }

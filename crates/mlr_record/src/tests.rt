@@ -337,15 +337,12 @@ fn a_record_has_these_fields_after_the_calls(rt: HostRuntime) -> Result<(), Fail
 }
 
 #[test]
-fn records_of_values_of_fields_and_copies_have_the_same_fields(
-    rt: HostRuntime,
-) -> Result<(), Fail> {
+fn records_of_maps_of_fields_and_copies_have_the_same_fields(rt: HostRuntime) -> Result<(), Fail> {
     let alloc = rt.alloc();
-    let names = [Bytes::copy_of(alloc, b"a")?, Bytes::copy_of(alloc, b"bc")?];
-    let mut values = Vec::new(alloc);
-    values.push(text_value(alloc, "1")?)?;
-    values.push(text_value(alloc, "2")?)?;
-    let record = Record::of_values(alloc, &names, values)?;
+    let mut map = MapValue::new(alloc)?;
+    map.put(b"a", text_value(alloc, "1")?)?;
+    map.put(b"bc", text_value(alloc, "2")?)?;
+    let record = Record::of_map(alloc, map)?;
     assert_eq!(rt; shown(alloc, &record)?.as_slice(), b"a=1,bc=2,".as_slice());
 
     let mut record = record_of(alloc, "a=1,b=2")?;

@@ -46,8 +46,8 @@ impl Record {
     /// text `{}` or `[]` too. A record in which no field changes is left as it is, without an allocation.
     pub fn unflatten_named(&mut self, separator: &[u8], names: &[Bytes]) -> Result<(), NoMemory>
         requires { 0 < length separator.now }
-        ensures unflat { self.new ≡ (if is_ok result then unflat_named separator.now names.now self.old
-            else self.old) }
+        ensures unflat { self.new ≡ (if is_ok result
+            then unflat_named separator.now names.now self.old else self.old) }
         ensures same { list_any (is_unflattened_named separator.now names.now) self.old ≡ false
             → IsOk result }
     {

@@ -1,5 +1,4 @@
-pub mod Columns
-mod Places
+pub mod Places
 pub mod Folding
 pub mod Depth
 mod Prefixes

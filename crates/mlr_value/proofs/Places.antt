@@ -1,5 +1,5 @@
 -- What is found, set and removed at the place of a key.
-use Rattle.std.proofs.Common.{◌≡◌, ℕ, zero, suc, ◌<◌, Bool, true, false, List, [], ◌∷◌, ◌++◌, length, take, get_or, set, remove, Option, Some, None, refl, ap, sym, subst, ◌∙◌, arith, cond, inl, inr, slice_get}
+use Rattle.std.proofs.Common.{◌≡◌, ℕ, zero, suc, ◌<◌, Bool, true, false, List, [], ◌∷◌, ◌++◌, length, map, get_or, set, remove, Option, Some, None, refl, ap, sym, subst, ◌∙◌, arith, cond, inl, inr, slice_get}
 use Rattle.std.specs.List.{list_any}
 use Rattle.std.specs.Str.{bytes_eq}
 use Rattle.std.specs.Cmp.Lexicographic.{nat_list_eq_equiv}
@@ -9,17 +9,10 @@ use Rattle.mlr_spec.proofs.Pairs.{are_distinct-push}
 use Rattle.mlr_value.specs.declared.value.Value.{Value}
 use Rattle.mlr_value.specs.declared.map_value.Pair.{Pair}
 use Rattle.mlr_value.specs.Value.{tree_of}
-use Rattle.mlr_value.specs.Texts.{IsFirst, IsPlaceAmong}
+use Rattle.mlr_keys.specs.Keys.{IsFirst, IsPlaceAmong}
 use Rattle.mlr_value.specs.Collections.{pair_of, pairs_of, has_key, IsPlaceOf}
 
 module _ {A : Type 0} (test : A → Bool) where
-  pub first-here : (xs : List A) (i : ℕ) (d : A) → i < length xs → list_any test (take i xs) ≡ false → test (get_or xs i d) ≡ true → IsFirst test xs i
-  first-here [] i d below absent here = absurd (omega arith)
-  first-here (x ∷ xs) zero d below absent here = here
-  first-here (x ∷ xs) (suc i) d below absent here =
-      let parts = or_parts (test x) (list_any test (take i xs)) absent in
-      (parts.0, first-here xs i d (omega arith) parts.1 here)
-
   pub first-below : (xs : List A) (i : ℕ) → IsFirst test xs i → i < length xs
   first-below [] i h = absurd h
   first-below (x ∷ xs) zero h = omega arith
@@ -104,3 +97,8 @@ pub distinct-pushed : {V : Type 0} (ok : Bool) (key : List ℕ) (value : V) (pai
 distinct-pushed ok key value pairs new absent distinct is =
     subst (λ x. are_distinct (keys_of x) ≡ true) (sym is)
     (cond_both ok (pairs ++ (key, value) ∷ []) pairs (λ x. are_distinct (keys_of x) ≡ true) (λ _. are_distinct-push key value pairs absent distinct) (λ _. distinct))
+
+-- the keys of the pairs, as an index knows them
+pub keys-are : (pairs : List Pair) → map (λ pair. pair.key) pairs ≡ keys_of (pairs_of pairs)
+keys-are [] = refl
+keys-are (p ∷ pairs) = ap (λ keys. p.key ∷ keys) (keys-are pairs)

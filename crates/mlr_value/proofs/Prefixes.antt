@@ -1,20 +1,9 @@
--- The prefix of a list that a copy has so far.
-use Rattle.std.proofs.Common.{◌≡◌, ℕ, zero, suc, ◌+◌, Bool, true, false, not, List, [], ◌∷◌, ◌++◌, take, Some, None, slice_get, refl, ap, sym, ◌∙◌, add-one}
+-- The keys before a pair.
+use Rattle.std.proofs.Common.{◌≡◌, ℕ, zero, suc, Bool, true, false, not, List, [], ◌∷◌, take, Some, None, slice_get, refl, ap, sym, ◌∙◌}
 use Rattle.std.specs.List.{list_any}
 use Rattle.std.specs.Str.{bytes_eq}
 use Rattle.std.proofs.lemmas.Bool.{or_parts, and_parts, not-true}
 use Rattle.mlr_spec.specs.Pairs.{value_at, keys_of, are_distinct}
-
-module _ {A : Type 0} where
-  take-next : (xs : List A) (i : ℕ) (x : A) → slice_get xs i ≡ Some x → take (suc i) xs ≡ take i xs ++ x ∷ []
-  take-next [] i x at = absurd (let e : None ≡ Some x = at in cc)
-  take-next (y ∷ xs) zero x at =
-      let same : y ≡ x = cc in
-      ap (λ z. z ∷ []) same
-  take-next (y ∷ xs) (suc i) x at = ap (λ ys. y ∷ ys) (take-next xs i x at)
-
-  pub take-more : (xs : List A) (i : ℕ) (x : A) → slice_get xs i ≡ Some x → take (i + 1) xs ≡ take i xs ++ x ∷ []
-  take-more xs i x at = rw add-one (take-next xs i x at)
 
 module _ {V : Type 0} where
   -- a key passes no test that none of the keys does

@@ -1,5 +1,5 @@
 -- What the pairs of a map, and the values of an array, are to contracts.
-use Rattle.std.specs.Prelude.{◌≡◌, ℕ, Bool, false, List, map, Box, Option, MatchOption}
+use Rattle.std.specs.Prelude.{◌≡◌, ℕ, Bool, false, List, map, Option, MatchOption}
 use Rattle.std.specs.List.{list_any}
 use Rattle.std.specs.Str.{bytes_eq}
 use Rattle.mlr_spec.specs.Tree.{Tree}
@@ -8,8 +8,7 @@ use Rattle.mlr_value.specs.declared.value.Value.{Value}
 use Rattle.mlr_value.specs.declared.map_value.Pair.{Pair}
 use Rattle.mlr_value.specs.declared.map_value.Columns.{Columns}
 use Rattle.mlr_value.specs.Value.{tree_of}
-pub use Rattle.mlr_value.specs.Texts.{texts_in}
-use Rattle.mlr_value.specs.Texts.{IsFirst}
+use Rattle.mlr_keys.specs.Keys.{IsFirst, Knows}
 
 abbrev pub trees_in : List Value → List Tree
 trees_in values = map tree_of values
@@ -28,9 +27,6 @@ has_key key pair = bytes_eq pair.key key
 abbrev pub IsPlaceOf : List ℕ → List Pair → Option ℕ → Type 0
 IsPlaceOf key pairs place = MatchOption place (list_any (has_key key) pairs ≡ false) (IsFirst (has_key key) pairs)
 
--- an index, where there is one, has these keys
-abbrev pub IsIndexOf : {A : Type 0} → Option (Box (List (List ℕ)) A) → List (List ℕ) → Type 0
-IsIndexOf index keys = MatchOption index (Unit {0}) (λ i. i.value ≡ keys)
-
+-- the index of a map knows its keys
 abbrev pub IsIndex : Columns → Type 0
-IsIndex columns = IsIndexOf columns.index (keys_of (pairs_of columns.pairs.items))
+IsIndex columns = Knows columns.index (keys_of (pairs_of columns.pairs.items))

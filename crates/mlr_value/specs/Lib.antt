@@ -1,5 +1,4 @@
 pub mod Value
-pub mod Texts
 pub mod Collections
 pub mod Depth
 pub mod Falls

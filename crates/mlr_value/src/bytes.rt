@@ -67,6 +67,21 @@ impl Bytes {
         Ok(copy)
     }
 
+    /// A copy. It takes memory where the text has more than 16 bytes.
+    #[inline(always)]
+    pub fn copy(&self) -> Result<Self, NoMemory>
+        ensures same { IfOk result (λ copy. copy ≡ self.now) }
+        ensures short { length self.now ≤ 16 → IsOk result }
+    {
+        match &self.room {
+            Room::Inline(short) => Ok(Bytes {
+                room: Room::Inline(short.copy()),
+                alloc: self.alloc,
+            }),
+            Room::Heap(heap) => Bytes::copy_of(self.alloc, heap.as_slice()),
+        }
+    }
+
     /// Becomes the text, which lies in memory.
     #[inline(never)]
     fn become_long(&mut self, text: &[u8]) -> Result<(), NoMemory>

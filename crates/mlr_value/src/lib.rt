@@ -5,7 +5,6 @@
 mod arithmetic;
 mod array_value;
 mod bytes;
-mod key_index;
 mod map_value;
 mod order;
 mod short;
@@ -16,7 +15,7 @@ mod value;
 pub use arithmetic::{arith, arith1};
 pub use array_value::ArrayValue;
 pub use bytes::Bytes;
-pub use map_value::MapValue;
+pub use map_value::{MapValue, Pair};
 pub use mlr_infer::infer;
 pub use mlr_spec::{InferOpts, Kind, Op, Op1, Order};
 pub use mlr_tables::{FLAG_ROWS, Table, functions, main_flags, separators, verbs};

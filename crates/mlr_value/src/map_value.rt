@@ -1,12 +1,12 @@
 //! Maps of values, with their keys in order.
-ghost use Rattle.std.specs.Prelude.{◌≡◌, ◌<◌, ◌++◌, ◌∷◌, [], true, length, if◌then◌else◌, is_ok, is_some, IfOk, OnOk, OnErr, None, Some, slice_get, ℕ, List, remove};
+ghost use Rattle.std.specs.Prelude.{◌≡◌, ◌<◌, ◌++◌, ◌∷◌, [], true, length, if◌then◌else◌, is_ok, is_some, IfOk, OnOk, None, Some, slice_get};
 ghost use Rattle.std.specs.Option.{option_map};
 ghost use Rattle.mlr_spec.specs.Pairs.{value_at, put_at, remove_at, keys_of, are_distinct};
 ghost use Rattle.mlr_value.specs.Value.{tree_of};
-ghost use Rattle.mlr_value.specs.Collections.{pairs_of, IsPlaceOf, IsIndex, IsIndexOf};
+ghost use Rattle.mlr_value.specs.Collections.{pairs_of, IsPlaceOf, IsIndex};
 
-use crate::key_index::KeyIndex;
 use crate::{Bytes, Value};
+use mlr_keys::{HasKey, KeyPlaces};
 use mlr_spec::NoMemory;
 use std::alloc::Global;
 use std::marker::Model;
@@ -25,19 +25,24 @@ pub struct MapValue {
 #[derive(Debug, Drop)]
 struct Columns {
     pairs: Vec<Pair>,
-    index: Option<Box<KeyIndex>>,
+    index: KeyPlaces,
 }
 
 /// A key and its value.
 #[cycle(value)]
 #[derive(Debug, Drop)]
-struct Pair {
-    key: Bytes,
-    value: Value,
+pub struct Pair {
+    pub key: Bytes,
+    pub value: Value,
 }
 
-/// How many pairs a map has before its keys are found by their hash.
-const MOST_SEARCHED: usize = 16;
+impl HasKey for Pair {
+    ghost key = { λ pair. pair.key };
+
+    fn key(&self) -> &[u8] {
+        self.key.as_slice()
+    }
+}
 
 impl Model for MapValue {
     ghost use Rattle.std.specs.Prelude.{◌≡◌, ℕ, List, true};
@@ -71,7 +76,7 @@ impl MapValue {
     {
         let columns = Columns {
             pairs: Vec::new(alloc),
-            index: None,
+            index: KeyPlaces::new(),
         };
         Ok(MapValue { alloc, columns })
     }
@@ -135,6 +140,16 @@ impl MapValue {
         remove_pair(&mut self.columns, key)
     }
 
+    /// The pairs, as a vector. It takes no memory.
+    pub fn into_pairs(self) -> Vec<Pair>
+        ensures pairs { pairs_of result.items ≡ self }
+        ensures distinct { are_distinct (keys_of self) ≡ true }
+    {
+        let MapValue { alloc: _, columns } = self;
+        let Columns { pairs, index: _ } = columns;
+        pairs
+    }
+
     /// Appends a pair whose key isn't there.
     fn push(&mut self, key: &[u8], value: Value) -> Result<(), NoMemory>
         requires { value_at key.now self.old ≡ None }
@@ -161,7 +176,7 @@ fn with_room(alloc: Global, room: usize) -> Result<MapValue, NoMemory>
 {
     let columns = Columns {
         pairs: Vec::with_capacity(alloc, room)?,
-        index: None,
+        index: KeyPlaces::new(),
     };
     Ok(MapValue { alloc, columns })
 }
@@ -184,22 +199,7 @@ fn place_of(columns: &Columns, key: &[u8]) -> Option<usize>
     requires { IsIndex columns.now }
     ensures { IsPlaceOf key.now columns.now.pairs.items result }
 {
-    match &columns.index {
-        None => place_among(&columns.pairs, key),
-        Some(index) => index.place_of(key),
-    }
-}
-
-/// The place of the pair of this key, by a search from the first pair on.
-fn place_among(pairs: &[Pair], key: &[u8]) -> Option<usize>
-    ensures { IsPlaceOf key.now pairs.now result }
-{
-    for (place, pair) in pairs.iter().enumerate() {
-        if pair.key.as_slice() == key {
-            return Some(place);
-        }
-    }
-    None
+    columns.index.place_of(&columns.pairs, key)
 }
 
 /// Appends a key and a value, where the key isn't there.
@@ -214,45 +214,9 @@ fn push_pair(columns: &mut Columns, alloc: Global, key: &[u8], value: Value) -> 
 {
     let name = Bytes::copy_of(alloc, key)?;
     columns.pairs.reserve(1)?;
-    index_key(&mut columns.index, &columns.pairs, alloc, key)?;
+    columns.index.add(alloc, &columns.pairs, key)?;
     columns.pairs.push_reserved(Pair { key: name, value });
     Ok(())
-}
-
-/// Appends a key to the index of these pairs, which is made once they are many.
-fn index_key(
-    index: &mut Option<Box<KeyIndex>>,
-    pairs: &[Pair],
-    alloc: Global,
-    key: &[u8],
-) -> Result<(), NoMemory>
-    requires index { IsIndexOf index.old (keys_of (pairs_of pairs.now)) }
-    requires distinct { are_distinct (keys_of (pairs_of pairs.now)) ≡ true }
-    requires absent { value_at key.now (pairs_of pairs.now) ≡ None }
-    ensures ok { OnOk result (IsIndexOf index.new (keys_of (pairs_of pairs.now) ++ key.now ∷ [])) }
-    ensures err { OnErr result (IsIndexOf index.new (keys_of (pairs_of pairs.now))) }
-{
-    if let Some(index) = index {
-        return index.push(key);
-    }
-    if pairs.len() >= MOST_SEARCHED {
-        let mut made = index_of(pairs, alloc)?;
-        made.push(key)?;
-        *index = Some(Box::new(alloc, made)?);
-    }
-    Ok(())
-}
-
-/// The index of the keys of these pairs.
-fn index_of(pairs: &[Pair], alloc: Global) -> Result<KeyIndex, NoMemory>
-    requires { are_distinct (keys_of (pairs_of pairs.now)) ≡ true }
-    ensures { IfOk result (λ index. index ≡ keys_of (pairs_of pairs.now)) }
-{
-    let mut index = KeyIndex::new(alloc);
-    for place in 0..pairs.len() {
-        index.push(pairs[place].key.as_slice())?;
-    }
-    Ok(index)
 }
 
 /// Takes the pair of this key out, and says whether it was there.
@@ -267,16 +231,6 @@ fn remove_pair(columns: &mut Columns, key: &[u8]) -> bool
         return false;
     };
     columns.pairs.remove(place);
-    unindex(&mut columns.index, place);
+    columns.index.remove(place);
     true
-}
-
-/// Takes the key at this place out of the index, if there is one.
-fn unindex(index: &mut Option<Box<KeyIndex>>, place: usize)
-    ensures { (keys : List (List ℕ)) → IsIndexOf index.old keys
-        → IsIndexOf index.new (remove keys place) }
-{
-    if let Some(index) = index {
-        index.remove(place);
-    }
 }

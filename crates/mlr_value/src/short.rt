@@ -36,7 +36,7 @@ impl Short {
         }
     }
 
-    /// A copy.
+    /// A short text of these bytes.
     #[inline(always)]
     pub(crate) fn copy_of(text: &[u8]) -> Self
         requires { length text.now ≤ CAPACITY }
@@ -47,6 +47,17 @@ impl Short {
         Short {
             cells,
             len: text.len(),
+        }
+    }
+
+    /// A copy of the same width whatever the text.
+    #[inline(always)]
+    pub(crate) fn copy(&self) -> Self
+        ensures { result ≡ self.now }
+    {
+        Short {
+            cells: self.cells,
+            len: self.len,
         }
     }
 

@@ -86,13 +86,13 @@ impl Value {
         match self {
             Value::Absent => Ok(Value::Absent),
             Value::Empty => Ok(Value::Empty),
-            Value::Str(text) => Ok(Value::Str(Bytes::copy_of(alloc, text.as_slice())?)),
+            Value::Str(text) => Ok(Value::Str(text.copy()?)),
             Value::Int(int) => Ok(Value::Int(IntValue {
                 n: int.n,
-                spelling: Bytes::copy_of(alloc, int.spelling.as_slice())?,
+                spelling: int.spelling.copy()?,
             })),
-            Value::Frac(text) => Ok(Value::Frac(Bytes::copy_of(alloc, text.as_slice())?)),
-            Value::Wide(text) => Ok(Value::Wide(Bytes::copy_of(alloc, text.as_slice())?)),
+            Value::Frac(text) => Ok(Value::Frac(text.copy()?)),
+            Value::Wide(text) => Ok(Value::Wide(text.copy()?)),
             Value::Bool(b) => Ok(Value::Bool(*b)),
             Value::Map(map) => Ok(Value::Map(map.copy(alloc)?)),
             Value::Array(array) => Ok(Value::Array(array.copy(alloc)?)),

@@ -11,9 +11,11 @@ use Rattle.mlr_lines.specs.Lines.{ended_lines, begun_line}
 use Rattle.mlr_lines.specs.Represents.{format_after, given}
 use Rattle.std.proofs.lemmas.List.{append-nil}
 use Rattle.read_csv.specs.declared.rules.RowRules.{RowRules}
-use Rattle.read_csv.specs.Rows.{Begun, csv_fed, csv_read, rows_from}
+use Rattle.read_csv.specs.Rows.{Begun, csv_fed, csv_items, csv_read}
+use Rattle.read_csv.specs.RowLines.{rows_from}
 use Rattle.read_csv.specs.Rules.{after_last, after_line, after_text, gives_last, gives_line, last_items}
 use Rattle.read_csv.specs.Represents.{Begins, ctx_fed, ctx_read}
+use Rattle.read_csv.proofs.Parts.{parts-same}
 use Rattle.read_csv.proofs.Walk.{last-step, step}
 use Rattle.read_csv.proofs.Whole.{Fits}
 
@@ -90,16 +92,17 @@ all-represent (line ∷ lines) rules begun fits false is last =
     ∙ ap (ctx_after rules.at) (sym (s.rows last lines))
 
 module _ (opts : ReadOpts) (file : FileRef) (start : Ctx) (rules : RowRules) (begins : Begins rules opts file start) where
-  rows-are : (last : Option (List ℕ)) (lines : List (List ℕ)) → rows_from rules.opts rules.file last rules.number None rules.header lines ≡ rows_from opts file last 1 None None lines
+  rows-are : (last : Option (List ℕ)) (lines : List (List ℕ)) → rows_from rules.opts rules.file last rules.number None rules.header lines ≡ csv_items opts file last lines
   rows-are last lines =
       ap (λ o. rows_from o rules.file last rules.number None rules.header lines) begins.opts_are
       ∙ ap (λ f. rows_from opts f last rules.number None rules.header lines) begins.file_is
       ∙ ap₂ (λ n header. rows_from opts file last n None header lines) begins.number_is begins.header_is
+      ∙ parts-same opts file last lines
 
-  give : (last : Option (List ℕ)) (lines : List (List ℕ)) → given after_line gives_line rules lines ++ end_events (format_after after_line rules lines) last ≡ events_of start (rows_from opts file last 1 None None lines)
+  give : (last : Option (List ℕ)) (lines : List (List ℕ)) → given after_line gives_line rules lines ++ end_events (format_after after_line rules lines) last ≡ events_of start (csv_items opts file last lines)
   give last lines = all-give lines rules None begins.row_is false begins.goes_on last ∙ ap₂ events_of begins.at_is (rows-are last lines)
 
-  represent : (last : Option (List ℕ)) (lines : List (List ℕ)) → (end_rules (format_after after_line rules lines) last).at ≡ ctx_after start (rows_from opts file last 1 None None lines)
+  represent : (last : Option (List ℕ)) (lines : List (List ℕ)) → (end_rules (format_after after_line rules lines) last).at ≡ ctx_after start (csv_items opts file last lines)
   represent last lines = all-represent lines rules None begins.row_is false begins.goes_on last ∙ ap₂ ctx_after begins.at_is (rows-are last lines)
 
   pub fed-is : (bytes : List ℕ) → given after_line gives_line rules (ended_lines bytes) ≡ csv_fed opts file start bytes

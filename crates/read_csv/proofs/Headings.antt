@@ -14,7 +14,8 @@ use Rattle.mlr_event.specs.declared.fault.Fault.TheVariants.{Length}
 use Rattle.mlr_event.specs.Reading.{fields, fault, record_of}
 use Rattle.read_csv.specs.Fields.{Field, quoted_value, value_of}
 use Rattle.read_csv.specs.Headers.{header_of, values_items, closed_values, values_header}
-use Rattle.read_csv.specs.Rows.{positions_from, row_keys, row_items, first_header, closed_items, header_after}
+use Rattle.read_csv.specs.Rows.{positions_from, row_keys, row_items, first_header}
+use Rattle.read_csv.specs.RowLines.{closed_items, header_after}
 
 abbrev is_empty_kind : Kind → Bool
 is_empty_kind Empty = true

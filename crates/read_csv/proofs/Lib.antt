@@ -6,6 +6,8 @@ pub mod Opening
 pub mod Ends
 pub mod Whole
 pub mod Headings
+mod Parts
 pub mod Walk
 pub mod Files
 pub mod Prefixes
+pub mod Crosses

@@ -18,9 +18,24 @@ use Rattle.mlr_lines.specs.Steps.{are_none, unmarked_line, unmarked_lines}
 use Rattle.mlr_lines.proofs.Cutting.{begun-append, begun_line-is, ended_lines-append}
 use Rattle.read_csv.specs.Fields.{Field}
 use Rattle.read_csv.specs.Prefixes.{closed_prefix, closed_within, ends_line, is_closed, open_row}
-use Rattle.read_csv.specs.Rows.{Begun, begins_at, closed_items, csv_fed, csv_read, end_items, goes_on, header_after, is_skipped, row_fields, rows_from, skipped_items}
+use Rattle.read_csv.specs.Rows.{Begun, begins_at, csv_fed, csv_read, goes_on, is_skipped, row_fields, skipped_items}
+use Rattle.read_csv.specs.RowLines.{closed_items, end_items, header_after, rows_from}
+use Rattle.read_csv.proofs.Parts.{parts-same}
 
 module _ (opts : ReadOpts) (file : FileRef) where
+  -- the events that the lines of the first bytes give one by one, and those of all lines
+  abbrev fed_by : Ctx → List ℕ → List Event
+  fed_by start bytes = events_of start (rows_from opts file None 1 None None (ended_lines bytes))
+
+  abbrev read_by : Ctx → List ℕ → List Event
+  read_by start bytes = events_of start (rows_from opts file (Some (begun_line bytes)) 1 None None (ended_lines bytes))
+
+  fed-same : (start : Ctx) (bytes : List ℕ) → fed_by start bytes ≡ csv_fed opts file start bytes
+  fed-same start bytes = ap (events_of start) (parts-same opts file None (ended_lines bytes))
+
+  read-same : (start : Ctx) (bytes : List ℕ) → read_by start bytes ≡ csv_read opts file start bytes
+  read-same start bytes = ap (events_of start) (parts-same opts file (Some (begun_line bytes)) (ended_lines bytes))
+
   -- the items from a line on, by whether it is skipped and by the fields of the row that it ends
   abbrev rows_by : Option (List ℕ) → ℕ → Begun → Option (List (List ℕ)) → List ℕ → List (List ℕ) → Bool → Option (List Field) → List Item
   rows_by last n row header line lines skipped fields = cond skipped
@@ -83,16 +98,26 @@ module _ (opts : ReadOpts) (file : FileRef) where
   abbrev lines_more : List ℕ → List ℕ → List (List ℕ)
   lines_more bytes more = unmarked_lines (are_none (ended_lines bytes)) (ended_after (begun_after [] bytes) more)
 
-  pub fed-more : (start : Ctx) (bytes rest : List ℕ) → (more : List Event) × (csv_fed opts file start (bytes ++ rest) ≡ csv_fed opts file start bytes ++ more)
-  fed-more start bytes rest =
+  more-fed : (start : Ctx) (bytes rest : List ℕ) → (more : List Event) × (fed_by start (bytes ++ rest) ≡ fed_by start bytes ++ more)
+  more-fed start bytes rest =
       let events = events-more start None (ended_lines bytes) (lines_more bytes rest) in
       (events.0, ap (λ lines. events_of start (rows_from opts file None 1 None None lines)) (ended_lines-append bytes rest) ∙ events.1)
 
-  pub read-more : (start : Ctx) (bytes rest : List ℕ) → (more : List Event) × (csv_read opts file start (bytes ++ rest) ≡ csv_fed opts file start bytes ++ more)
-  read-more start bytes rest =
+  more-read : (start : Ctx) (bytes rest : List ℕ) → (more : List Event) × (read_by start (bytes ++ rest) ≡ fed_by start bytes ++ more)
+  more-read start bytes rest =
       let last = Some (begun_line (bytes ++ rest)) in
       let events = events-more start last (ended_lines bytes) (lines_more bytes rest) in
       (events.0, ap (λ lines. events_of start (rows_from opts file last 1 None None lines)) (ended_lines-append bytes rest) ∙ events.1)
+
+  pub fed-more : (start : Ctx) (bytes rest : List ℕ) → (more : List Event) × (csv_fed opts file start (bytes ++ rest) ≡ csv_fed opts file start bytes ++ more)
+  fed-more start bytes rest =
+      let more = more-fed start bytes rest in
+      (more.0, sym (fed-same start (bytes ++ rest)) ∙ more.1 ∙ ap (λ events. events ++ more.0) (fed-same start bytes))
+
+  pub read-more : (start : Ctx) (bytes rest : List ℕ) → (more : List Event) × (csv_read opts file start (bytes ++ rest) ≡ csv_fed opts file start bytes ++ more)
+  read-more start bytes rest =
+      let more = more-read start bytes rest in
+      (more.0, sym (read-same start (bytes ++ rest)) ∙ more.1 ∙ ap (λ events. events ++ more.0) (fed-same start bytes))
 
   -- the row that is open after a line
   abbrev open_by : ℕ → Begun → List ℕ → Bool → Option (List Field) → Begun
@@ -184,7 +209,7 @@ module _ (opts : ReadOpts) (file : FileRef) where
     unmarked-one false line = refl
 
     -- a byte that ends no line, or that is within quotes, fixes nothing
-    open-byte : (start : Ctx) (bytes : List ℕ) (b : ℕ) → is_closed opts (bytes ++ b ∷ []) ≡ false → csv_fed opts file start (bytes ++ b ∷ []) ≡ csv_fed opts file start bytes
+    open-byte : (start : Ctx) (bytes : List ℕ) (b : ℕ) → is_closed opts (bytes ++ b ∷ []) ≡ false → fed_by start (bytes ++ b ∷ []) ≡ fed_by start bytes
     open-byte start bytes b is =
         let ended = ended_lines bytes in
         let first = are_none ended in
@@ -193,7 +218,7 @@ module _ (opts : ReadOpts) (file : FileRef) where
         let gives = λ (all : List (List ℕ)). events_of start (rows_from opts file None 1 None None all) in
         let open_at = λ (all : List (List ℕ)). is_some (open_row opts 1 None all) in
         let all : ended_lines (bytes ++ b ∷ []) ≡ lines (eqb b 10) = ended_lines-append bytes (b ∷ []) in
-        elim (cases_Bool (eqb b 10)) as (λ _. csv_fed opts file start (bytes ++ b ∷ []) ≡ csv_fed opts file start bytes) [
+        elim (cases_Bool (eqb b 10)) as (λ _. fed_by start (bytes ++ b ∷ []) ≡ fed_by start bytes) [
           | inl feed ↦
               let line = unmarked_line first begun in
               let more : ended_lines (bytes ++ b ∷ []) ≡ ended ++ line ∷ [] = all ∙ ap lines feed ∙ ap (λ m. ended ++ m) (unmarked-one first begun) in
@@ -204,7 +229,7 @@ module _ (opts : ReadOpts) (file : FileRef) where
         ]
 
     -- a prefix that ends with a line ending outside quotes gives the same as a whole file
-    closed-byte : (start : Ctx) (bytes : List ℕ) (b : ℕ) → is_closed opts (bytes ++ b ∷ []) ≡ true → csv_fed opts file start (bytes ++ b ∷ []) ≡ csv_read opts file start (bytes ++ b ∷ [])
+    closed-byte : (start : Ctx) (bytes : List ℕ) (b : ℕ) → is_closed opts (bytes ++ b ∷ []) ≡ true → fed_by start (bytes ++ b ∷ []) ≡ read_by start (bytes ++ b ∷ [])
     closed-byte start bytes b is =
         let prefix = bytes ++ b ∷ [] in
         let ended = ended_lines prefix in
@@ -216,23 +241,26 @@ module _ (opts : ReadOpts) (file : FileRef) where
         ap (events_of start) (sym (rows-closed ended 1 None None (not-true left parts.1)))
         ∙ ap (λ last. events_of start (rows_from opts file (Some last) 1 None None ended)) (sym begun)
 
-    prefix-within : (start : Ctx) (bytes : List ℕ) (n : ℕ) → n ≤ length bytes → csv_fed opts file start (take n bytes) ≡ csv_read opts file start (closed_within opts bytes n)
+    prefix-within : (start : Ctx) (bytes : List ℕ) (n : ℕ) → n ≤ length bytes → fed_by start (take n bytes) ≡ read_by start (closed_within opts bytes n)
     prefix-within start bytes zero fits = sym (ap (events_of start) (nothing-last 1 None None refl))
     prefix-within start bytes (suc n) fits =
         let prefix = take (suc n) bytes in
         let shorter = take n bytes in
         let b = get_or bytes n 0 in
         let more : prefix ≡ shorter ++ b ∷ [] = ap (λ k. take k bytes) (sym (add-one n)) ∙ take_more bytes n 0 (omega arith) in
-        let by = λ (t : Bool). csv_read opts file start (cond t prefix (closed_within opts bytes n)) in
-        elim (cases_Bool (is_closed opts prefix)) as (λ _. csv_fed opts file start prefix ≡ by (is_closed opts prefix)) [
+        let by = λ (t : Bool). read_by start (cond t prefix (closed_within opts bytes n)) in
+        elim (cases_Bool (is_closed opts prefix)) as (λ _. fed_by start prefix ≡ by (is_closed opts prefix)) [
           | inl closed ↦
-              subst (λ t. is_closed opts t ≡ true → csv_fed opts file start t ≡ csv_read opts file start t) (sym more) (closed-byte start shorter b) closed
+              subst (λ t. is_closed opts t ≡ true → fed_by start t ≡ read_by start t) (sym more) (closed-byte start shorter b) closed
               ∙ ap by (sym closed)
           | inr goes_on ↦
-              subst (λ t. is_closed opts t ≡ false → csv_fed opts file start t ≡ csv_fed opts file start shorter) (sym more) (open-byte start shorter b) goes_on
+              subst (λ t. is_closed opts t ≡ false → fed_by start t ≡ fed_by start shorter) (sym more) (open-byte start shorter b) goes_on
               ∙ prefix-within start bytes n (omega arith)
               ∙ ap by (sym goes_on)
         ]
 
+    prefix-fed : (start : Ctx) (bytes : List ℕ) → fed_by start bytes ≡ read_by start (closed_prefix opts bytes)
+    prefix-fed start bytes = ap (fed_by start) (sym (take-length bytes)) ∙ prefix-within start bytes (length bytes) (omega arith)
+
     pub fed-prefix : (start : Ctx) (bytes : List ℕ) → csv_fed opts file start bytes ≡ csv_read opts file start (closed_prefix opts bytes)
-    fed-prefix start bytes = ap (csv_fed opts file start) (sym (take-length bytes)) ∙ prefix-within start bytes (length bytes) (omega arith)
+    fed-prefix start bytes = sym (fed-same start bytes) ∙ prefix-fed start bytes ∙ read-same start (closed_prefix opts bytes)

@@ -117,11 +117,6 @@ drop-at (y ∷ xs) (suc place) x rest is =
     let more = drop-at xs place x rest is in
     (ap (λ k. drop k (y ∷ xs)) (add-one (suc place)) ∙ ap (λ k. drop k xs) (sym (add-one place)) ∙ more.0, more.1)
 
-pub map-drop : {A B : Type 0} (f : A → B) (xs : List A) (n : ℕ) → map f (drop n xs) ≡ drop n (map f xs)
-map-drop f xs zero = refl
-map-drop f [] (suc n) = refl
-map-drop f (x ∷ xs) (suc n) = map-drop f xs n
-
 -- a field that was appended, and one that was set
 pub pushed-is : (dedupe : Bool) → dedupe ≡ true → (pairs : List (List ℕ × Tree)) (name key : List ℕ) (value : Tree) → key ≡ free_name (keys_of pairs) name → pairs ++ (key, value) ∷ [] ≡ with_field dedupe name value pairs
 pushed-is dedupe is pairs name key value free = ap (λ k. pairs ++ (k, value) ∷ []) free ∙ ap (λ d. with_field d name value pairs) (sym is)

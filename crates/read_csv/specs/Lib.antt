@@ -1,5 +1,6 @@
 pub mod Fields
 pub mod Rows
+pub mod RowLines
 pub mod OpenRow
 pub mod Quotes
 pub mod Escapes

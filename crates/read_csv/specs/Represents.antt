@@ -8,16 +8,16 @@ use Rattle.mlr_event.specs.declared.options.ReadOpts.{ReadOpts}
 use Rattle.mlr_event.specs.Reading.{ctx_after}
 use Rattle.read_csv.specs.declared.reader.CsvReader.{CsvReader}
 use Rattle.read_csv.specs.declared.rules.RowRules.{RowRules}
-use Rattle.read_csv.specs.Rows.{rows_from}
+use Rattle.read_csv.specs.Rows.{csv_items}
 use Rattle.read_csv.specs.Rules.{after_last, after_line, count_of}
 use Rattle.read_csv.specs.OpenRow.{no_row}
 
 -- the context of the last record that the bytes so far fix, and of the last record of a whole file
 abbrev pub ctx_fed : ReadOpts → FileRef → Ctx → List ℕ → Ctx
-ctx_fed opts file start bytes = ctx_after start (rows_from opts file None 1 None None (ended_lines bytes))
+ctx_fed opts file start bytes = ctx_after start (csv_items opts file None (ended_lines bytes))
 
 abbrev pub ctx_read : ReadOpts → FileRef → Ctx → List ℕ → Ctx
-ctx_read opts file start bytes = ctx_after start (rows_from opts file (Some (begun_line bytes)) 1 None None (ended_lines bytes))
+ctx_read opts file start bytes = ctx_after start (csv_items opts file (Some (begun_line bytes)) (ended_lines bytes))
 
 -- the state at the start of a file
 pub record Begins (rules : RowRules) (opts : ReadOpts) (file : FileRef) (start : Ctx) : Type 0 where

@@ -54,18 +54,18 @@ fn full_record(alloc: Global, names: &Header, fields: &mut Vec<Field>) -> Result
 {
     let room = Vec::with_capacity(alloc, fields.len())?;
     let mut own = mem::replace(fields, room);
-    name_fields(alloc, names.keys(), &mut own)?;
+    name_fields(names.keys(), &mut own)?;
     Ok(Record::of_fields(alloc, own))
 }
 
 /// Gives each field the name of its place.
 #[inline]
-fn name_fields(alloc: Global, names: &[Bytes], fields: &mut [Field]) -> Result<(), NoMemory>
+fn name_fields(names: &[Bytes], fields: &mut [Field]) -> Result<(), NoMemory>
     requires { length names.now ≡ length fields.old }
     ensures { OnOk result (pairs_of fields.new ≡ zip names.now (values_in fields.old)) }
 {
     for place in 0..fields.len() {
-        fields[place].name = Bytes::copy_of(alloc, names[place].as_slice())?;
+        fields[place].name = names[place].copy()?;
     }
     Ok(())
 }

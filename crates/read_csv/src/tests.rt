@@ -5,23 +5,14 @@ use crate::{CsvReader, can_read};
 use itoa::Buffer;
 use mlr_event::{Comments, Ctx, Event, Events, Fault, FileRef, Format, ReadOpts};
 use mlr_record::Record;
-use mlr_spec::{InferOpts, NoMemory};
+use mlr_spec::NoMemory;
 use mlr_value::{Bytes, Value, append_text};
 use std::alloc::Global;
 use std::process::Abort;
 
 /// The options of plain CSV, changed by these.
 fn options(alloc: Global, changes: &[Opt]) -> Result<ReadOpts, NoMemory> {
-    let mut opts = ReadOpts {
-        format: Format::Csv,
-        ifs: Bytes::copy_of(alloc, b",")?,
-        ips: Bytes::new(alloc),
-        implicit: false,
-        ragged: false,
-        dedupe: true,
-        comments: Comments::Keep,
-        infer: InferOpts::plain(),
-    };
+    let mut opts = ReadOpts::of(alloc, Format::Csv)?;
     for change in changes {
         match change {
             Opt::Tsv => {

@@ -1,4 +1,6 @@
 pub mod Piecewise
+mod Rowing
 pub mod Whole
 pub mod Tables
 pub mod Prefixes
+pub mod Crosses

@@ -1,7 +1,9 @@
 -- What the first bytes of a file fix stays the same when bytes follow.
-use Rattle.std.proofs.Common.{◌≡◌, ℕ, ◌+◌, List, [], ◌∷◌, ◌++◌, refl, ap, sym, ◌∙◌, append_assoc}
+use Rattle.std.proofs.Common.{◌≡◌, ℕ, List, [], ◌++◌, refl, ap, sym, ◌∙◌}
 use Rattle.std.specs.List.{flat_map}
 use Rattle.std.proofs.lemmas.Grind.{flat_map-append}
+use Rattle.mlr_lines.specs.Blocks.{each_after}
+use Rattle.mlr_lines.proofs.Blocks.{each_after-append}
 use Rattle.mlr_lines.specs.Prefixes.{ended_prefix}
 use Rattle.mlr_lines.proofs.Prefixing.{fixed-more, whole-more, whole-prefix}
 use Rattle.mlr_lines.specs.Lines.{fixed_lines}
@@ -16,23 +18,17 @@ use Rattle.mlr_event.specs.Stream.{events_after, has_fault}
 use Rattle.mlr_event.proofs.Streams.{events_of-append}
 use Rattle.read_dkvp_nidx.specs.Dkvp.{dkvp_line}
 use Rattle.read_dkvp_nidx.specs.Nidx.{nidx_line}
-use Rattle.read_dkvp_nidx.specs.Markdown.{Block, markdown_block, markdown_line, markdown_lines, outside}
+use Rattle.read_dkvp_nidx.specs.Markdown.{line_after, markdown_items}
 use Rattle.read_dkvp_nidx.specs.Lines.{items_of_lines, line_fed, line_read}
 
 module _ (opts : ReadOpts) (file : FileRef) where
-  table-more : (lines more : List (List ℕ)) (n : ℕ) (block : Block) → (items : List Item) × (markdown_lines opts file n block (lines ++ more) ≡ markdown_lines opts file n block lines ++ items)
-  table-more [] more n block = (markdown_lines opts file n block more, refl)
-  table-more (line ∷ lines) more n block =
-      let later = table-more lines more (n + 1) (markdown_block opts block line) in
-      let here = markdown_line opts file n block line in (
-        later.0,
-        ap (λ items. here ++ items) later.1 ∙ sym (append_assoc here (markdown_lines opts file (n + 1) (markdown_block opts block line) lines) later.0),
-      )
+  table-more : (lines more : List (List ℕ)) → (items : List Item) × (markdown_items opts file (lines ++ more) ≡ markdown_items opts file lines ++ items)
+  table-more lines more = (each_after (line_after opts file) lines more, each_after-append (line_after opts file) [] lines more)
 
   items-more : (as_format : Format) (lines more : List (List ℕ)) → (items : List Item) × (items_of_lines opts file as_format (lines ++ more) ≡ items_of_lines opts file as_format lines ++ items)
   items-more format.Dkvp lines more = (flat_map (dkvp_line opts) more, flat_map-append (dkvp_line opts) lines more)
   items-more format.Nidx lines more = (flat_map (nidx_line opts) more, flat_map-append (nidx_line opts) lines more)
-  items-more format.Markdown lines more = table-more lines more 1 outside
+  items-more format.Markdown lines more = table-more lines more
   items-more _ lines more = ([], refl)
 
   pub events-more : (start : Ctx) (lines more : List (List ℕ)) → (events : List Event) × (events_of start (items_of_lines opts file opts.format (lines ++ more)) ≡ events_of start (items_of_lines opts file opts.format lines) ++ events)

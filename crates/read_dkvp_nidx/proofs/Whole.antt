@@ -19,11 +19,12 @@ use Rattle.read_dkvp_nidx.specs.declared.rules.LineRules.{LineRules}
 use Rattle.read_dkvp_nidx.specs.Dkvp.{dkvp_line}
 use Rattle.read_dkvp_nidx.specs.Nidx.{nidx_line}
 use Rattle.read_dkvp_nidx.specs.Lines.{items_of_lines, line_fed, line_read}
-use Rattle.read_dkvp_nidx.specs.Markdown as markdown
+use Rattle.read_dkvp_nidx.specs.MarkdownLines as markdown
 use Rattle.read_dkvp_nidx.specs.Row.{block_of, place_of}
-use Rattle.read_dkvp_nidx.specs.Rules.{Begins, after_last, after_line, rules_after, gives_last, gives_line, items_by, items_from, line_block, line_events, plain_items, plain_block}
+use Rattle.read_dkvp_nidx.specs.Rules.{Begins, after_last, after_line, rules_after, gives_last, gives_line, items_by, items_from, line_block, line_events, plain_items}
 use Rattle.read_dkvp_nidx.specs.Represents.{ctx_fed, ctx_read}
 use Rattle.read_dkvp_nidx.specs.Usable.{is_usable_as}
+use Rattle.read_dkvp_nidx.proofs.Rowing.{markdown-same}
 
 block_of-place : (block : markdown.Block) → block_of (place_of block) ≡ block
 block_of-place markdown.outside = refl
@@ -109,17 +110,10 @@ module _ (opts : ReadOpts) (file : FileRef) where
       ap₂ (λ f rest. (if is_comment opts.comments line then comment_items opts.comments line else plain_items f opts file n block line) ++ rest) is
       (nidx-items lines (n + 1) (line_block opts block line) is)
 
-  markdown-items : (lines : List (List ℕ)) (n : ℕ) (block : markdown.Block) → opts.format ≡ format.Markdown → items_from opts file n block lines ≡ markdown.markdown_lines opts file n block lines
-  markdown-items [] n block is = refl
-  markdown-items (line ∷ lines) n block is =
-      ap₂ (λ f rest. (if is_comment opts.comments line then comment_items opts.comments line else plain_items f opts file n block line) ++ rest) is
-      (markdown-items lines (n + 1) (line_block opts block line) is
-      ∙ ap (λ f. markdown.markdown_lines opts file (n + 1) (if is_comment opts.comments line then block else plain_block f block line) lines) is)
-
   items-as : (as_format : Format) → opts.format ≡ as_format → is_usable_as as_format opts ≡ true → (lines : List (List ℕ)) → items_from opts file 1 markdown.outside lines ≡ items_of_lines opts file as_format lines
   items-as format.Dkvp is usable lines = dkvp-items lines 1 markdown.outside is
   items-as format.Nidx is usable lines = nidx-items lines 1 markdown.outside is
-  items-as format.Markdown is usable lines = markdown-items lines 1 markdown.outside is
+  items-as format.Markdown is usable lines = markdown-same opts file is lines []
   items-as format.Csv is usable lines = absurd (true≢false (sym usable))
   items-as format.Tsv is usable lines = absurd (true≢false (sym usable))
   items-as format.Json is usable lines = absurd (true≢false (sym usable))

@@ -14,7 +14,8 @@ use Rattle.mlr_event.specs.Reading.{Item, comment, fields, fault, is_comment, co
 use Rattle.read_dkvp_nidx.specs.declared.rules.LineRules.{LineRules}
 use Rattle.read_dkvp_nidx.specs.Dkvp.{dkvp_record}
 use Rattle.read_dkvp_nidx.specs.Nidx.{nidx_record, words_of}
-use Rattle.read_dkvp_nidx.specs.Markdown as markdown
+use Rattle.read_dkvp_nidx.specs.Markdown.{cells_of, is_rule}
+use Rattle.read_dkvp_nidx.specs.MarkdownLines as markdown
 use Rattle.read_dkvp_nidx.specs.Rules.{after_last, after_line, rules_after, count_of, items_by, line_items, plain_items}
 
 few-either : (test : Bool) (items more : List Item) → length items ≤ 1 → length more ≤ 1 → length (if test then items else more) ≤ 1
@@ -38,12 +39,12 @@ few-row : (opts : ReadOpts) (file : FileRef) (n : ℕ) (block : markdown.Block) 
 few-row opts file n block None = omega arith
 few-row opts file n markdown.outside (Some cells) = omega arith
 few-row opts file n (markdown.under header) (Some cells) =
-    few-either (list_all markdown.is_rule cells) _ _ (few-either (length cells == length header) _ _ (omega arith) (omega arith)) (omega arith)
+    few-either (list_all is_rule cells) _ _ (few-either (length cells == length header) _ _ (omega arith) (omega arith)) (omega arith)
 few-row opts file n (markdown.within header) (Some cells) = few-either (length cells == length header) _ _ (omega arith) (omega arith)
 
 few-table : (opts : ReadOpts) (file : FileRef) (n : ℕ) (block : markdown.Block) (line : List ℕ) → length (markdown.markdown_row opts file n block line) ≤ 1
 few-table opts file n block [] = omega arith
-few-table opts file n block (b ∷ line) = few-row opts file n block (markdown.cells_of (b ∷ line))
+few-table opts file n block (b ∷ line) = few-row opts file n block (cells_of (b ∷ line))
 
 few-plain : (as_format : Format) (opts : ReadOpts) (file : FileRef) (n : ℕ) (block : markdown.Block) (line : List ℕ) → length (plain_items as_format opts file n block line) ≤ 1
 few-plain format.Dkvp opts file n block line = few-dkvp opts line

@@ -1,6 +1,7 @@
 pub mod Dkvp
 pub mod Nidx
 pub mod Markdown
+pub mod MarkdownLines
 pub mod Lines
 pub mod Pieces
 pub mod Row

@@ -11,13 +11,13 @@ use Rattle.mlr_event.specs.declared.options.ReadOpts.{ReadOpts}
 use Rattle.mlr_event.specs.Reading.{Item, events_of}
 use Rattle.read_dkvp_nidx.specs.Dkvp.{dkvp_line}
 use Rattle.read_dkvp_nidx.specs.Nidx.{nidx_line}
-use Rattle.read_dkvp_nidx.specs.Markdown.{markdown_lines, outside}
+use Rattle.read_dkvp_nidx.specs.Markdown.{markdown_items}
 
 -- the items of lines without their line endings
 abbrev pub items_of_lines : ReadOpts → FileRef → Format → List (List ℕ) → List Item
 items_of_lines opts file format.Dkvp lines = flat_map (dkvp_line opts) lines
 items_of_lines opts file format.Nidx lines = flat_map (nidx_line opts) lines
-items_of_lines opts file format.Markdown lines = markdown_lines opts file 1 outside lines
+items_of_lines opts file format.Markdown lines = markdown_items opts file lines
 items_of_lines opts file _ lines = []
 
 -- the events of a whole file, and those that the first bytes of a file fix

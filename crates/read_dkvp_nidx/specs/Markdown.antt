@@ -1,8 +1,9 @@
 -- Markdown tables: lines of cells between bars; an empty line ends a table.
-use Rattle.std.specs.Prelude.{ℕ, ◌+◌, ◌-◌, if◌then◌else◌, Bool, not, ◌&&◌, ◌==◌, nat_lt, List, [], ◌∷◌, ◌++◌, map, length, take, drop, Option, Some, None}
-use Rattle.std.specs.List.{list_all, onto_first, prefix_len, suffix_len}
+use Rattle.std.specs.Prelude.{ℕ, ◌+◌, ◌-◌, if◌then◌else◌, Bool, not, ◌&&◌, ◌==◌, nat_lt, List, [], ◌∷◌, map, length, take, drop, Option, Some, None}
+use Rattle.std.specs.List.{filter, filter_map, list_all, onto_first, prefix_len, suffix_len}
 use Rattle.mlr_spec.specs.Ascii.{space, dash, colon, backslash, vertical_bar}
 use Rattle.mlr_spec.specs.Infer.{tree_of_data}
+use Rattle.mlr_lines.specs.Blocks.{each, since_end}
 use Rattle.mlr_event.specs.declared.names.FileRef.{FileRef}
 use Rattle.mlr_event.specs.declared.fault.Fault.TheVariants.{Length, Table}
 use Rattle.mlr_event.specs.declared.options.ReadOpts.{ReadOpts}
@@ -58,52 +59,35 @@ without_colons text =
 abbrev pub is_rule : List ℕ → Bool
 is_rule cell = nat_lt 0 (length (without_colons cell)) && list_all (λ b. b == dash) (without_colons cell)
 
--- the place of a line: the first of a table, the second under its header, or a later one
-pub data Block : Type 0 where
-  outside : Block
-  under : List (List ℕ) → Block
-  within : List (List ℕ) → Block
-
 -- the record of a row under a header, or a fault if the lengths differ
 abbrev pub row : ReadOpts → FileRef → ℕ → List (List ℕ) → List (List ℕ) → List Item
 row opts file n header cells =
     if length cells == length header then fields (record_of opts.dedupe header (map (tree_of_data opts.infer) cells)) ∷ []
     else fault (Length file n (length header) (length cells)) ∷ []
 
--- the items of a line with its cells, and the place of the next line; the second line of a table has to be a
--- rule
-abbrev pub row_items : ReadOpts → FileRef → ℕ → Block → Option (List (List ℕ)) → List Item
-row_items opts file n block None = fault (Table file n) ∷ []
-row_items opts file n outside (Some cells) = []
-row_items opts file n (under header) (Some cells) =
+-- an empty line ends a table; a comment doesn't
+abbrev pub ends_table : ReadOpts → List ℕ → Bool
+ends_table opts line = not (is_comment opts.comments line) && length line == 0
+
+-- the rows of the table that goes on after these lines, each as its cells
+abbrev pub rows_so_far : ReadOpts → List (List ℕ) → List (List (List ℕ))
+rows_so_far opts before = filter_map cells_of (filter (λ line. not (is_comment opts.comments line)) (since_end (ends_table opts) before))
+
+-- a row after the rows before it in its table: the first is the header, the second has to be a rule under it
+abbrev pub row_after : ReadOpts → FileRef → ℕ → List (List (List ℕ)) → Option (List (List ℕ)) → List Item
+row_after opts file n rows None = fault (Table file n) ∷ []
+row_after opts file n [] (Some cells) = []
+row_after opts file n (header ∷ []) (Some cells) =
     if list_all is_rule cells then (if length cells == length header then [] else fault (Length file n (length header) (length cells)) ∷ [])
     else fault (Table file n) ∷ []
-row_items opts file n (within header) (Some cells) = row opts file n header cells
+row_after opts file n (header ∷ rule ∷ rows) (Some cells) = row opts file n header cells
 
-abbrev pub row_block : Block → Option (List (List ℕ)) → Block
-row_block block None = block
-row_block outside (Some cells) = under cells
-row_block (under header) (Some cells) = within header
-row_block (within header) (Some cells) = within header
+-- the items of a line after those before it in the file
+abbrev pub line_after : ReadOpts → FileRef → List (List ℕ) → List ℕ → List Item
+line_after opts file before line =
+    if is_comment opts.comments line then comment_items opts.comments line else (
+    if length line == 0 then [] else row_after opts file (length before + 1) (rows_so_far opts before) (cells_of line))
 
--- an empty line ends a table
-abbrev pub markdown_row : ReadOpts → FileRef → ℕ → Block → List ℕ → List Item
-markdown_row opts file n block [] = []
-markdown_row opts file n block (b ∷ line) = row_items opts file n block (cells_of (b ∷ line))
-
-abbrev pub block_after : Block → List ℕ → Block
-block_after block [] = outside
-block_after block (b ∷ line) = row_block block (cells_of (b ∷ line))
-
--- the items of line n, and the place of the next line; a comment keeps the place
-abbrev pub markdown_line : ReadOpts → FileRef → ℕ → Block → List ℕ → List Item
-markdown_line opts file n block line = if is_comment opts.comments line then comment_items opts.comments line else markdown_row opts file n block line
-
-abbrev pub markdown_block : ReadOpts → Block → List ℕ → Block
-markdown_block opts block line = if is_comment opts.comments line then block else block_after block line
-
--- the items of lines, of which the first has number n
-abbrev pub markdown_lines : ReadOpts → FileRef → ℕ → Block → List (List ℕ) → List Item
-markdown_lines opts file n block [] = []
-markdown_lines opts file n block (line ∷ lines) =
-    markdown_line opts file n block line ++ markdown_lines opts file (n + 1) (markdown_block opts block line) lines
+-- the items of all lines of a file
+abbrev pub markdown_items : ReadOpts → FileRef → List (List ℕ) → List Item
+markdown_items opts file lines = each (line_after opts file) lines

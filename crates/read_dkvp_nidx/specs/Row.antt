@@ -7,7 +7,7 @@ use Rattle.read_dkvp_nidx.specs.declared.block.Block.{Block}
 use Rattle.read_dkvp_nidx.specs.declared.block.Block.TheVariants as place
 use Rattle.read_dkvp_nidx.specs.declared.row.Row.{Row}
 use Rattle.read_dkvp_nidx.specs.declared.row.Row.TheVariants as row
-use Rattle.read_dkvp_nidx.specs.Markdown as markdown
+use Rattle.read_dkvp_nidx.specs.MarkdownLines as markdown
 
 abbrev pub row_items : Row → List Item
 row_items row.Nothing = []

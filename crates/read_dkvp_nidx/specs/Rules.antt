@@ -13,7 +13,7 @@ use Rattle.read_dkvp_nidx.specs.declared.block.Block.TheVariants.{Outside}
 use Rattle.read_dkvp_nidx.specs.declared.rules.LineRules.{LineRules}
 use Rattle.read_dkvp_nidx.specs.Dkvp.{dkvp_record}
 use Rattle.read_dkvp_nidx.specs.Nidx.{nidx_record, words_of}
-use Rattle.read_dkvp_nidx.specs.Markdown as markdown
+use Rattle.read_dkvp_nidx.specs.MarkdownLines as markdown
 use Rattle.read_dkvp_nidx.specs.Row.{block_of, place_of}
 
 -- the items of a line without its line ending that isn't a comment, and the place of the next line

@@ -4,7 +4,8 @@ ghost use Rattle.std.specs.List.{zip};
 ghost use Rattle.mlr_spec.specs.Infer.{tree_of_data};
 ghost use Rattle.mlr_spec.specs.Pairs.{are_distinct};
 ghost use Rattle.mlr_event.specs.Reading.{record_of};
-ghost use Rattle.read_dkvp_nidx.specs.Markdown.{block_after, markdown_row, row, row_block, row_items as items_in_block, under};
+ghost use Rattle.read_dkvp_nidx.specs.Markdown.{row};
+ghost use Rattle.read_dkvp_nidx.specs.MarkdownLines.{block_after, markdown_row, row_block, row_items as items_in_block, under};
 ghost use Rattle.read_dkvp_nidx.specs.Row.{block_of, place_of, row_items};
 
 use crate::block::Block;

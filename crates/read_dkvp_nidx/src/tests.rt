@@ -3,7 +3,7 @@
 use crate::{LineReader, can_read};
 use mlr_event::{Comments, Ctx, Event, Events, Fault, FileRef, Format, ReadOpts};
 use mlr_record::Record;
-use mlr_spec::{InferOpts, NoMemory};
+use mlr_spec::NoMemory;
 use mlr_value::{Bytes, append_text};
 use std::alloc::Global;
 use std::process::Abort;
@@ -21,16 +21,7 @@ enum Opt {
 
 /// The options of plain DKVP, changed by these.
 fn options(alloc: Global, changes: &[Opt]) -> Result<ReadOpts, NoMemory> {
-    let mut opts = ReadOpts {
-        format: Format::Dkvp,
-        ifs: Bytes::copy_of(alloc, b",")?,
-        ips: Bytes::copy_of(alloc, b"=")?,
-        implicit: false,
-        ragged: false,
-        dedupe: true,
-        comments: Comments::Keep,
-        infer: InferOpts::plain(),
-    };
+    let mut opts = ReadOpts::of(alloc, Format::Dkvp)?;
     for change in changes {
         match change {
             Opt::Nidx => opts.format = Format::Nidx,

@@ -14,7 +14,7 @@ use Rattle.mlr_event.specs.Verb.{is_end, is_last, is_list, is_part}
 use Rattle.mlr_json.specs.Reading.{lexemes_left}
 use Rattle.mlr_lines.specs.Lines.{begun_line, ended_lines, fixed_lines, whole_lines}
 use Rattle.mlr_spec.specs.JsonTokens.{lexeme_outside}
-use Rattle.read_csv.specs.Rows.{rows_from}
+use Rattle.read_csv.specs.Rows.{csv_items}
 use Rattle.read_dkvp_nidx.specs.Lines.{items_of_lines}
 use Rattle.read_xtab_pprint.specs.Blocks.{items_fixed, items_whole}
 use Rattle.read_json_lines.specs.Files.{file_items}
@@ -58,8 +58,8 @@ abbrev Items : Source → List Event → Type 0
 Items source events = (items : List Item) × (events ≡ events_of source.ctx items)
 
 csv-items : (source : Source) (all : Bool) (bytes : List ℕ) → Items source (gives_as format.Csv source all bytes)
-csv-items source true bytes = (rows_from source.opts source.file (Some (begun_line bytes)) 1 None None (ended_lines bytes), refl)
-csv-items source false bytes = (rows_from source.opts source.file None 1 None None (ended_lines bytes), refl)
+csv-items source true bytes = (csv_items source.opts source.file (Some (begun_line bytes)) (ended_lines bytes), refl)
+csv-items source false bytes = (csv_items source.opts source.file None (ended_lines bytes), refl)
 
 line-items : (source : Source) (all : Bool) (bytes : List ℕ) → Items source (gives_as format.Dkvp source all bytes)
 line-items source true bytes = (items_of_lines source.opts source.file source.opts.format (whole_lines bytes), refl)

@@ -12,3 +12,4 @@ pub mod Ending
 pub mod Steps
 pub mod Fixed
 pub mod Prefixes
+pub mod Crosses

@@ -8,8 +8,8 @@ ghost use Rattle.read_files.specs.Takes.{After};
 ghost use Rattle.read_files.specs.Represents.{Represents};
 
 use crate::{FileReader, ReadTurn, can_read};
-use mlr_event::{Comments, Ctx, Event, Events, Fault, Format, InputName, ReadOpts};
-use mlr_spec::{InferOpts, NoMemory};
+use mlr_event::{Ctx, Event, Events, Fault, Format, InputName, ReadOpts};
+use mlr_spec::NoMemory;
 use mlr_value::{Bytes, append_text};
 use mlr_world::{Inputs, MemInputs};
 use std::alloc::Global;
@@ -21,19 +21,6 @@ const TURNS: usize = 1000;
 /// The name of a file.
 fn file(alloc: Global, name: &str) -> Result<InputName, NoMemory> {
     Ok(InputName::File(Bytes::copy_of(alloc, name.as_bytes())?))
-}
-
-fn options(alloc: Global, format: Format, separator: &[u8]) -> Result<ReadOpts, NoMemory> {
-    Ok(ReadOpts {
-        format,
-        ifs: Bytes::copy_of(alloc, separator)?,
-        ips: Bytes::copy_of(alloc, b"=")?,
-        implicit: false,
-        ragged: false,
-        dedupe: true,
-        comments: Comments::Keep,
-        infer: InferOpts::plain(),
-    })
 }
 
 /// A context as its three numbers: `2.1.2`.
@@ -215,7 +202,7 @@ fn inputs_are_read_one_after_another(rt: HostRuntime) -> Result<(), Fail> {
     let alloc = rt.alloc();
     for case in CASES.iter() {
         for pieces in [ONES.as_slice(), [].as_slice()] {
-            let opts = options(alloc, case.format, b",")?;
+            let opts = ReadOpts::of(alloc, case.format)?;
             let got = read(alloc, opts, case.files, case.names, pieces, &[])?;
             let last = match case.failed {
                 Some(name) => ReadTurn::Failed(file(alloc, name)?),
@@ -245,7 +232,7 @@ fn a_call_that_fails_ends_the_reading(rt: HostRuntime) -> Result<(), Fail> {
     let alloc = rt.alloc();
     for row in FAILING.iter() {
         let (failing, name, events) = *row;
-        let opts = options(alloc, Format::Dkvp, b",")?;
+        let opts = ReadOpts::of(alloc, Format::Dkvp)?;
         let got = read(alloc, opts, &TWO, &["f", "g"], &[], &[failing])?;
         let last = ReadTurn::Failed(file(alloc, name)?);
         assert_eq!(rt; got.shown.as_slice(), events.as_bytes(), "call {failing}");
@@ -254,24 +241,19 @@ fn a_call_that_fails_ends_the_reading(rt: HostRuntime) -> Result<(), Fail> {
     Ok(())
 }
 
-/// A format, what separates two fields, a file, and what it gives before the end.
-type Row = (Format, &'static str, &'static str, &'static str);
+/// A format, a file, and what it gives before the end.
+type Row = (Format, &'static str, &'static str);
 
 const FORMATS: [Row; 9] = [
-    (Format::Csv, ",", "a,b\n1,2\n", ".1.1.1 a=1 b=2; "),
-    (Format::Tsv, "\t", "a\tb\n1\t2\n", ".1.1.1 a=1 b=2; "),
-    (Format::Dkvp, ",", "a=1,b=2\n", ".1.1.1 a=1 b=2; "),
-    (Format::Nidx, " ", "1  2\n", ".1.1.1 1=1 2=2; "),
-    (
-        Format::Markdown,
-        ",",
-        "| a |\n| --- |\n| 1 |\n",
-        ".1.1.1 a=1; ",
-    ),
-    (Format::Xtab, ",", "a 1\nb 2\n", ".1.1.1 a=1 b=2; "),
-    (Format::Pprint, ",", "a b\n1 2\n", ".1.1.1 a=1 b=2; "),
-    (Format::Json, ",", "[{\"a\":1}]", ".1.1.1 a=1; "),
-    (Format::Jsonl, ",", "{\"a\":1}\n", ".1.1.1 a=1; "),
+    (Format::Csv, "a,b\n1,2\n", ".1.1.1 a=1 b=2; "),
+    (Format::Tsv, "a\tb\n1\t2\n", ".1.1.1 a=1 b=2; "),
+    (Format::Dkvp, "a=1,b=2\n", ".1.1.1 a=1 b=2; "),
+    (Format::Nidx, "1  2\n", ".1.1.1 1=1 2=2; "),
+    (Format::Markdown, "| a |\n| --- |\n| 1 |\n", ".1.1.1 a=1; "),
+    (Format::Xtab, "a 1\nb 2\n", ".1.1.1 a=1 b=2; "),
+    (Format::Pprint, "a b\n1 2\n", ".1.1.1 a=1 b=2; "),
+    (Format::Json, "[{\"a\":1}]", ".1.1.1 a=1; "),
+    (Format::Jsonl, "{\"a\":1}\n", ".1.1.1 a=1; "),
 ];
 
 /// Each format that needs a separator can't be read without one.
@@ -289,12 +271,13 @@ fn each_format_is_read(rt: HostRuntime) -> Result<(), Fail> {
     let alloc = rt.alloc();
     for (i, row) in SEPARATED.iter().enumerate() {
         let (format, separator, want) = *row;
-        let opts = options(alloc, format, separator.as_bytes())?;
+        let mut opts = ReadOpts::of(alloc, format)?;
+        opts.ifs = Bytes::copy_of(alloc, separator.as_bytes())?;
         assert_eq!(rt; can_read(&opts), want, "separator {i}");
     }
     for (i, row) in FORMATS.iter().enumerate() {
-        let (format, separator, text, events) = *row;
-        let opts = options(alloc, format, separator.as_bytes())?;
+        let (format, text, events) = *row;
+        let opts = ReadOpts::of(alloc, format)?;
         let got = read(alloc, opts, &[("f", text)], &["f"], &ONES, &[])?;
         let mut want = Bytes::copy_of(alloc, events.as_bytes())?;
         want.append(b"end .1.1.1")?;

@@ -31,3 +31,4 @@ pub mod GrammarAlong
 pub mod GrammarStreams
 pub mod GrammarUnique
 pub mod GrammarExamples
+pub mod Crosses

@@ -193,7 +193,7 @@ impl RecordState {
         ensures turn { IfOk result (λ made. Represents self.old.machine [] Phase.Value
             → IsTurn (record_turn self.old.list (tree_of value)) made (state_of self.new)) }
     {
-        match record_of(self.alloc, &value)? {
+        match record_of(self.alloc, value)? {
             None => Ok(Turn::Fault(Trouble::Kind)),
             Some(record) => {
                 self.list = after_record(self.list);

@@ -5,7 +5,7 @@ ghost use Rattle.read_json_lines.specs.Represents.{CanTake, IsOpen, used};
 
 use crate::{JsonReader, can_read};
 use itoa::Buffer;
-use mlr_event::{Comments, Ctx, Event, Events, Fault, FileRef, Format, ReadOpts};
+use mlr_event::{Ctx, Event, Events, Fault, FileRef, Format, ReadOpts};
 use mlr_json::append_json_value;
 use mlr_record::Record;
 use mlr_spec::{InferOpts, JsonStyle, NoMemory};
@@ -59,27 +59,13 @@ fn shown(alloc: Global, events: &Events) -> Result<Bytes, NoMemory> {
     Ok(all)
 }
 
-fn options(alloc: Global, format: Format, infer: InferOpts) -> ReadOpts
-    ensures { result.format ≡ format }
-{
-    ReadOpts {
-        format,
-        ifs: Bytes::new(alloc),
-        ips: Bytes::new(alloc),
-        implicit: false,
-        ragged: false,
-        dedupe: true,
-        comments: Comments::Keep,
-        infer,
-    }
-}
-
 /// A reader at the start of a file.
 fn reader(alloc: Global, infer: InferOpts) -> Result<JsonReader, NoMemory>
     ensures open { IfOk result (λ reader. IsOpen reader) }
     ensures room { IfOk result (λ reader. used reader ≤ 2 ^ 62) }
 {
-    let opts = options(alloc, Format::Jsonl, infer);
+    let mut opts = ReadOpts::of(alloc, Format::Jsonl)?;
+    opts.infer = infer;
     let start = Ctx {
         nr: 0,
         fnr: 0,
@@ -476,12 +462,12 @@ fn json_alone_is_read_and_records_count_on(rt: HostRuntime) -> Result<(), NoMemo
     for (i, row) in FORMATS.iter().enumerate() {
         let (format, want) = *row;
         assert_eq!(rt;
-            can_read(&options(rt.alloc(), format, PLAIN)),
+            can_read(&ReadOpts::of(rt.alloc(), format)?),
             want,
             "at {i}"
         );
     }
-    let opts = options(rt.alloc(), Format::Json, PLAIN);
+    let opts = ReadOpts::of(rt.alloc(), Format::Json)?;
     let start = Ctx {
         nr: 7,
         fnr: 0,

@@ -15,7 +15,9 @@ use Rattle.mlr_event.specs.declared.options.ReadOpts.{ReadOpts}
 use Rattle.mlr_event.specs.Reading.{Item, comment_items, events_of, is_comment}
 use Rattle.read_xtab_pprint.specs.Blocks.{block_fed, block_read, items_fixed, items_whole}
 use Rattle.read_xtab_pprint.specs.Prefixes.{end_empty, ends_with_gap, gap_prefix, gap_prefix_within, is_empty_line}
-use Rattle.read_xtab_pprint.specs.Xtab.{is_gap, record_items, xtab_from, xtab_rest}
+use Rattle.read_xtab_pprint.specs.Xtab.{is_gap, record_items}
+use Rattle.read_xtab_pprint.specs.XtabRules.{xtab_from, xtab_rest}
+use Rattle.read_xtab_pprint.proofs.Runs.{runs-fixed, runs-whole}
 
 -- one more byte either ends a line or doesn't
 unmarked-nothing : (first : Bool) → unmarked_line first [] ≡ []
@@ -159,6 +161,7 @@ module _ (opts : ReadOpts) where
   pub fed-gap : (file : FileRef) (start : Ctx) (bytes : List ℕ) → opts.format ≡ format.Xtab → block_fed opts file start bytes ≡ block_read opts file start (gap_prefix opts.comments bytes)
   fed-gap file start bytes is =
       ap (λ f. events_of start (items_fixed opts file f (fixed_lines bytes))) is
+      ∙ ap (events_of start) (sym (runs-fixed opts (fixed_lines bytes)))
       ∙ ap (λ text. events_of start (fixed text)) (sym (take-length bytes))
-      ∙ ap (events_of start) (prefix-is (length bytes) bytes (omega arith))
+      ∙ ap (events_of start) (prefix-is (length bytes) bytes (omega arith) ∙ runs-whole opts (whole_lines (gap_prefix opts.comments bytes)))
       ∙ ap (λ f. events_of start (items_whole opts file f (whole_lines (gap_prefix opts.comments bytes)))) (sym is)

@@ -1,8 +1,10 @@
 -- What the first bytes of a file fix stays the same when bytes follow.
-use Rattle.std.proofs.Common.{◌≡◌, ℕ, ◌+◌, cond, List, [], ◌∷◌, ◌++◌, Option, None, refl, ap, sym, ◌∙◌, append_assoc, inl, inr}
+use Rattle.std.proofs.Common.{◌≡◌, ℕ, cond, List, [], ◌∷◌, ◌++◌, refl, ap, sym, ◌∙◌, append_assoc, inl, inr}
 use Rattle.std.proofs.lemmas.Bool.{cases_Bool}
 use Rattle.mlr_lines.specs.Prefixes.{ended_prefix}
 use Rattle.mlr_lines.specs.Lines.{fixed_lines, whole_lines}
+use Rattle.mlr_lines.specs.Blocks.{each_after}
+use Rattle.mlr_lines.proofs.Blocks.{each_after-append}
 use Rattle.mlr_lines.proofs.Prefixing.{fixed-more, whole-more, whole-prefix}
 use Rattle.mlr_event.specs.declared.event.Ctx.{Ctx}
 use Rattle.mlr_event.specs.declared.event.Event.{Event}
@@ -14,18 +16,14 @@ use Rattle.mlr_event.specs.Reading.{Item, comment_items, ctx_after, events_of, i
 use Rattle.mlr_event.specs.Stream.{events_after, has_fault}
 use Rattle.mlr_event.proofs.Streams.{events_of-append}
 use Rattle.read_xtab_pprint.specs.Blocks.{block_fed, block_read, items_fixed, items_whole}
-use Rattle.read_xtab_pprint.specs.Pprint.{pprint_header, pprint_line, pprint_lines}
-use Rattle.read_xtab_pprint.specs.Xtab.{is_gap, record_items, xtab_from, xtab_rest}
+use Rattle.read_xtab_pprint.specs.Pprint.{line_after, pprint_items}
+use Rattle.read_xtab_pprint.specs.Xtab.{is_gap, record_items}
+use Rattle.read_xtab_pprint.specs.XtabRules.{xtab_from, xtab_rest}
+use Rattle.read_xtab_pprint.proofs.Runs.{runs-fixed, runs-whole}
 
 module _ (opts : ReadOpts) (file : FileRef) where
-  pprint-more : (lines more : List (List ℕ)) (n : ℕ) (header : Option (List (List ℕ))) → (items : List Item) × (pprint_lines opts file n header (lines ++ more) ≡ pprint_lines opts file n header lines ++ items)
-  pprint-more [] more n header = (pprint_lines opts file n header more, refl)
-  pprint-more (line ∷ lines) more n header =
-      let later = pprint-more lines more (n + 1) (pprint_header opts header line) in
-      let here = pprint_line opts file n header line in (
-        later.0,
-        ap (λ items. here ++ items) later.1 ∙ sym (append_assoc here (pprint_lines opts file (n + 1) (pprint_header opts header line) lines) later.0),
-      )
+  pprint-more : (lines more : List (List ℕ)) → (items : List Item) × (pprint_items opts file (lines ++ more) ≡ pprint_items opts file lines ++ items)
+  pprint-more lines more = (each_after (line_after opts file) lines more, each_after-append (line_after opts file) [] lines more)
 
   xtab-more : (lines more : List (List ℕ)) (passed : List Item) (begun : List (List ℕ)) → (items : List Item) × (xtab_from opts passed begun (lines ++ more) ≡ xtab_from opts passed begun lines ++ items)
   xtab-more [] more passed begun = (xtab_from opts passed begun more, refl)
@@ -50,16 +48,21 @@ module _ (opts : ReadOpts) (file : FileRef) where
       ]
 
   items-more : (as_format : Format) (lines more : List (List ℕ)) → (items : List Item) × (items_fixed opts file as_format (lines ++ more) ≡ items_fixed opts file as_format lines ++ items)
-  items-more format.Xtab lines more = xtab-more lines more [] []
-  items-more format.Pprint lines more = pprint-more lines more 1 None
+  items-more format.Xtab lines more =
+      let later = xtab-more lines more [] [] in
+      (later.0, sym (runs-fixed opts (lines ++ more)) ∙ later.1 ∙ ap (λ items. items ++ later.0) (runs-fixed opts lines))
+  items-more format.Pprint lines more = pprint-more lines more
   items-more _ lines more = ([], refl)
 
   whole-items : (as_format : Format) (lines more : List (List ℕ)) → (items : List Item) × (items_whole opts file as_format (lines ++ more) ≡ items_fixed opts file as_format lines ++ items)
   whole-items format.Xtab lines more =
       let later = xtab-more lines more [] [] in
-      let rest = xtab_rest opts [] [] (lines ++ more) in
-      (later.0 ++ rest, ap (λ items. items ++ rest) later.1 ∙ append_assoc (xtab_from opts [] [] lines) later.0 rest)
-  whole-items format.Pprint lines more = pprint-more lines more 1 None
+      let rest = xtab_rest opts [] [] (lines ++ more) in (
+        later.0 ++ rest,
+        sym (runs-whole opts (lines ++ more)) ∙ ap (λ items. items ++ rest) later.1 ∙ append_assoc (xtab_from opts [] [] lines) later.0 rest
+            ∙ ap (λ items. items ++ (later.0 ++ rest)) (runs-fixed opts lines),
+      )
+  whole-items format.Pprint lines more = pprint-more lines more
   whole-items _ lines more = ([], refl)
 
   -- the events of items that extend other items
@@ -83,5 +86,5 @@ module _ (opts : ReadOpts) (file : FileRef) where
   pub fed-prefix : (start : Ctx) (bytes : List ℕ) → opts.format ≡ format.Pprint → block_fed opts file start bytes ≡ block_read opts file start (ended_prefix bytes)
   fed-prefix start bytes is =
       ap (λ f. events_of start (items_fixed opts file f (fixed_lines bytes))) is
-      ∙ ap (λ lines. events_of start (pprint_lines opts file 1 None lines)) (sym (whole-prefix bytes))
+      ∙ ap (λ lines. events_of start (pprint_items opts file lines)) (sym (whole-prefix bytes))
       ∙ ap (λ f. events_of start (items_whole opts file f (whole_lines (ended_prefix bytes)))) (sym is)

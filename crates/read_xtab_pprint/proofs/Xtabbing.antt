@@ -16,8 +16,9 @@ use Rattle.mlr_event.proofs.Streams.{ctx_after-append, ctx_after-comment, events
 use Rattle.read_xtab_pprint.specs.declared.rules.XtabRules.{XtabRules}
 use Rattle.read_xtab_pprint.specs.Last.{xtab_after_last, xtab_gives_last}
 use Rattle.read_xtab_pprint.specs.Rules.{XtabBegins}
-use Rattle.read_xtab_pprint.specs.Xtab.{is_gap, key_in, record_items, value_in, without_spaces, xtab_from, xtab_rest}
-use Rattle.read_xtab_pprint.specs.XtabRules.{after_gap, begun_items, gap_events, with_text, xtab_after, xtab_events}
+use Rattle.read_xtab_pprint.specs.Xtab.{is_gap, key_in, record_items, value_in, without_spaces, xtab_fixed, xtab_items}
+use Rattle.read_xtab_pprint.specs.XtabRules.{after_gap, begun_items, gap_events, with_text, xtab_after, xtab_events, xtab_from, xtab_rest}
+use Rattle.read_xtab_pprint.proofs.Runs.{runs-fixed, runs-whole}
 
 -- the record of the lines so far is built field by field
 abbrev value_by : ReadOpts → List ℕ → Tree
@@ -193,27 +194,32 @@ module _ (opts : ReadOpts) (start : Ctx) (rules : XtabRules) (begins : XtabBegin
   come : (texts : List (List ℕ)) → Comes rules [] [] texts
   come texts = comes texts rules [] [] (record { passed_are = begins.passed_is; begun_is = begins.begun_is; at_stays = refl; goes_on = refl })
 
-  pub xtab-give : (texts : List (List ℕ)) → given xtab_after xtab_events rules texts ≡ events_of start (xtab_from opts [] [] texts)
-  xtab-give texts = let come_to = come texts in come_to.events ∙ ap₂ (λ at o. events_of at (xtab_from o [] [] texts)) begins.at_is begins.opts_are
+  pub xtab-give : (texts : List (List ℕ)) → given xtab_after xtab_events rules texts ≡ events_of start (xtab_fixed opts texts)
+  xtab-give texts =
+      let come_to = come texts in
+      come_to.events ∙ ap₂ (λ at o. events_of at (xtab_from o [] [] texts)) begins.at_is begins.opts_are ∙ ap (events_of start) (runs-fixed opts texts)
 
-  pub xtab-represent : (texts : List (List ℕ)) → (format_after xtab_after rules texts).at ≡ ctx_after start (xtab_from opts [] [] texts)
-  xtab-represent texts = let come_to = come texts in come_to.at_is ∙ ap₂ (λ at o. ctx_after at (xtab_from o [] [] texts)) begins.at_is begins.opts_are
+  pub xtab-represent : (texts : List (List ℕ)) → (format_after xtab_after rules texts).at ≡ ctx_after start (xtab_fixed opts texts)
+  xtab-represent texts =
+      let come_to = come texts in
+      come_to.at_is ∙ ap₂ (λ at o. ctx_after at (xtab_from o [] [] texts)) begins.at_is begins.opts_are ∙ ap (ctx_after start) (runs-fixed opts texts)
 
   sound : (texts : List (List ℕ)) → has_fault (xtab_from opts [] [] texts) ≡ false
   sound texts = let come_to = come texts in ap (λ o. has_fault (xtab_from o [] [] texts)) (sym begins.opts_are) ∙ come_to.goes_on
 
   -- the end of the file gives the items after the last empty line
-  pub xtab-last : (texts : List (List ℕ)) → events_of start (xtab_from opts [] [] texts) ++ gap_events (format_after xtab_after rules texts) ≡ events_of start (xtab_from opts [] [] texts ++ xtab_rest opts [] [] texts)
+  pub xtab-last : (texts : List (List ℕ)) → events_of start (xtab_fixed opts texts) ++ gap_events (format_after xtab_after rules texts) ≡ events_of start (xtab_items opts texts)
   xtab-last texts =
       let come_to = come texts in
       let from = xtab_from opts [] [] texts in
-      ap (λ events. events_of start from ++ events) (
+      ap (λ items. events_of start items ++ gap_events (format_after xtab_after rules texts)) (sym (runs-fixed opts texts))
+      ∙ ap (λ events. events_of start from ++ events) (
       come_to.rest_gives ∙ ap₂ (λ at o. events_of (ctx_after at (xtab_from o [] [] texts)) (xtab_rest o [] [] texts)) begins.at_is begins.opts_are
       )
-      ∙ sym (events-on start from (xtab_rest opts [] [] texts) (sound texts))
+      ∙ sym (events-on start from (xtab_rest opts [] [] texts) (sound texts)) ∙ ap (events_of start) (runs-whole opts texts)
 
-  pub xtab-last-at : (texts : List (List ℕ)) → (after_gap (format_after xtab_after rules texts)).at ≡ ctx_after start (xtab_from opts [] [] texts ++ xtab_rest opts [] [] texts)
+  pub xtab-last-at : (texts : List (List ℕ)) → (after_gap (format_after xtab_after rules texts)).at ≡ ctx_after start (xtab_items opts texts)
   xtab-last-at texts =
       let come_to = come texts in
       come_to.rest_at ∙ ap₂ (λ at o. ctx_after (ctx_after at (xtab_from o [] [] texts)) (xtab_rest o [] [] texts)) begins.at_is begins.opts_are
-      ∙ sym (ctx-on start (xtab_from opts [] [] texts) (xtab_rest opts [] [] texts) (sound texts))
+      ∙ sym (ctx-on start (xtab_from opts [] [] texts) (xtab_rest opts [] [] texts) (sound texts)) ∙ ap (ctx_after start) (runs-whole opts texts)

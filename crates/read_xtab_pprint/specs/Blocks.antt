@@ -1,5 +1,5 @@
 -- The events of a whole file of XTAB or PPRINT, and those that its first bytes fix.
-use Rattle.std.specs.Prelude.{ℕ, List, [], ◌++◌, None}
+use Rattle.std.specs.Prelude.{ℕ, List, []}
 use Rattle.mlr_lines.specs.Lines.{fixed_lines, whole_lines}
 use Rattle.mlr_event.specs.declared.event.Ctx.{Ctx}
 use Rattle.mlr_event.specs.declared.event.Event.{Event}
@@ -8,19 +8,19 @@ use Rattle.mlr_event.specs.declared.options.Format.{Format}
 use Rattle.mlr_event.specs.declared.options.Format.TheVariants as format
 use Rattle.mlr_event.specs.declared.options.ReadOpts.{ReadOpts}
 use Rattle.mlr_event.specs.Reading.{Item, events_of}
-use Rattle.read_xtab_pprint.specs.Xtab.{xtab_from, xtab_rest}
-use Rattle.read_xtab_pprint.specs.Pprint.{pprint_lines}
+use Rattle.read_xtab_pprint.specs.Xtab.{xtab_fixed, xtab_items}
+use Rattle.read_xtab_pprint.specs.Pprint.{pprint_items}
 
 -- the items that lines fix, whatever follows; in XTAB these end at the last empty line
 abbrev pub items_fixed : ReadOpts → FileRef → Format → List (List ℕ) → List Item
-items_fixed opts file format.Xtab lines = xtab_from opts [] [] lines
-items_fixed opts file format.Pprint lines = pprint_lines opts file 1 None lines
+items_fixed opts file format.Xtab lines = xtab_fixed opts lines
+items_fixed opts file format.Pprint lines = pprint_items opts file lines
 items_fixed opts file _ lines = []
 
 -- the items of all lines of a file
 abbrev pub items_whole : ReadOpts → FileRef → Format → List (List ℕ) → List Item
-items_whole opts file format.Xtab lines = xtab_from opts [] [] lines ++ xtab_rest opts [] [] lines
-items_whole opts file format.Pprint lines = pprint_lines opts file 1 None lines
+items_whole opts file format.Xtab lines = xtab_items opts lines
+items_whole opts file format.Pprint lines = pprint_items opts file lines
 items_whole opts file _ lines = []
 
 -- the events of a whole file, and those that the first bytes of a file fix

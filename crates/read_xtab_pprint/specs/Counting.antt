@@ -18,8 +18,9 @@ use Rattle.read_xtab_pprint.specs.declared.rules.BlockRules.{BlockRules}
 use Rattle.read_xtab_pprint.specs.declared.rules.BlockRules.TheVariants as by
 use Rattle.read_xtab_pprint.specs.declared.rules.PprintRules.{PprintRules}
 use Rattle.read_xtab_pprint.specs.declared.rules.XtabRules.{XtabRules}
-use Rattle.read_xtab_pprint.specs.Pprint.{cells_items, cells_of, is_rule, pprint_line}
-use Rattle.read_xtab_pprint.specs.PprintRules.{pprint_after, pprint_count, pprint_items}
+use Rattle.read_xtab_pprint.specs.Pprint.{cells_of, is_rule}
+use Rattle.read_xtab_pprint.specs.PprintRules.{cells_items, line_items}
+use Rattle.read_xtab_pprint.specs.PprintRules.{pprint_after, pprint_count, items_by}
 use Rattle.read_xtab_pprint.specs.Last.{pprint_after_last, xtab_after_last}
 use Rattle.read_xtab_pprint.specs.Rules.{after_last, after_line, at_of, count_of}
 use Rattle.read_xtab_pprint.specs.Xtab.{is_gap, without_spaces}
@@ -52,7 +53,7 @@ few-cells opts file n (Some header) None = omega arith
 few-cells opts file n None (Some cells) = omega arith
 few-cells opts file n (Some header) (Some cells) = few-either (length cells == length header) _ _ (omega arith) (omega arith)
 
-few-items : (opts : ReadOpts) (file : FileRef) (n : ℕ) (header : Option (List (List ℕ))) (line : List ℕ) → length (pprint_line opts file n header line) ≤ 1
+few-items : (opts : ReadOpts) (file : FileRef) (n : ℕ) (header : Option (List (List ℕ))) (line : List ℕ) → length (line_items opts file n header line) ≤ 1
 few-items opts file n header line =
     few-either (is_comment opts.comments line) _ _ (few-comments opts.comments line)
     (few-either (is_rule line || length line == 0) _ _ (omega arith) (few-cells opts file n header (cells_of line)))
@@ -68,7 +69,7 @@ one-record at (fields pairs ∷ item ∷ items) few = absurd (omega arith)
 count-pprint : (stopped : Bool) (rules : PprintRules) (line : List ℕ) → rules.stopped ≡ stopped → pprint_count (pprint_after rules line) ≤ pprint_count rules + 1
 count-pprint true rules line is = rw is (omega arith)
 count-pprint false rules line is =
-    let one = one-record rules.at (pprint_items rules line) (few-items rules.opts rules.file rules.number rules.header line) in
+    let one = one-record rules.at (items_by rules line) (few-items rules.opts rules.file rules.number rules.header line) in
     rw is (omega (arith, one.0, one.1))
 
 few-begun : (begun : Option (List (List ℕ × Tree))) → length (begun_items begun) ≤ 1

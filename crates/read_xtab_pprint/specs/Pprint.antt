@@ -1,9 +1,10 @@
 -- PPRINT: tables of a header line and rows, whose cells are separated by spaces or are between bars.
-use Rattle.std.specs.Prelude.{ℕ, ◌+◌, if◌then◌else◌, Bool, false, not, ◌||◌, ◌==◌, List, [], ◌∷◌, ◌++◌, map, length, Option, Some, None}
-use Rattle.std.specs.List.{filter, slice_split}
+use Rattle.std.specs.Prelude.{ℕ, ◌+◌, if◌then◌else◌, Bool, false, not, ◌&&◌, ◌||◌, ◌==◌, List, [], ◌∷◌, map, length, Option, Some, None}
+use Rattle.std.specs.List.{filter, filter_map, slice_split}
 use Rattle.std.specs.Str.{bytes_eq}
 use Rattle.mlr_spec.specs.Ascii.{space, plus_sign, vertical_bar}
 use Rattle.mlr_spec.specs.Infer.{tree_of_data}
+use Rattle.mlr_lines.specs.Blocks.{each, since_end}
 use Rattle.mlr_event.specs.declared.names.FileRef.{FileRef}
 use Rattle.mlr_event.specs.declared.fault.Fault.TheVariants.{Length, Table}
 use Rattle.mlr_event.specs.declared.options.ReadOpts.{ReadOpts}
@@ -45,31 +46,30 @@ row opts file n header cells =
     if length cells == length header then fields (record_of opts.dedupe header (map (tree_of_data opts.infer) cells)) ∷ []
     else fault (Length file n (length header) (length cells)) ∷ []
 
--- a line of cells is the header of a table, or a row under it
-abbrev pub cells_items : ReadOpts → FileRef → ℕ → Option (List (List ℕ)) → Option (List (List ℕ)) → List Item
-cells_items opts file n header None = fault (Table file n) ∷ []
-cells_items opts file n None (Some cells) = []
-cells_items opts file n (Some header) (Some cells) = row opts file n header cells
+-- the lines that belong to a table: neither comments nor rules
+abbrev pub is_row : ReadOpts → List ℕ → Bool
+is_row opts line = not (is_comment opts.comments line || is_rule line)
 
-abbrev pub header_after : Option (List (List ℕ)) → Option (List (List ℕ)) → Option (List (List ℕ))
-header_after header None = header
-header_after None (Some cells) = Some cells
-header_after (Some header) (Some cells) = Some header
+-- an empty line ends a table; a comment doesn't
+abbrev pub ends_table : ReadOpts → List ℕ → Bool
+ends_table opts line = not (is_comment opts.comments line) && length line == 0
 
--- the items of line n, under the header of its table if that has been read, and the header of the next line;
--- an empty line ends a table
-abbrev pub pprint_line : ReadOpts → FileRef → ℕ → Option (List (List ℕ)) → List ℕ → List Item
-pprint_line opts file n header line =
+-- the rows of the table that goes on after these lines, each as its cells
+abbrev pub rows_so_far : ReadOpts → List (List ℕ) → List (List (List ℕ))
+rows_so_far opts before = filter_map cells_of (filter (is_row opts) (since_end (ends_table opts) before))
+
+-- a row after the rows before it in its table: the first is the header
+abbrev pub row_after : ReadOpts → FileRef → ℕ → List (List (List ℕ)) → Option (List (List ℕ)) → List Item
+row_after opts file n rows None = fault (Table file n) ∷ []
+row_after opts file n [] (Some cells) = []
+row_after opts file n (header ∷ rows) (Some cells) = row opts file n header cells
+
+-- the items of a line after those before it in the file
+abbrev pub line_after : ReadOpts → FileRef → List (List ℕ) → List ℕ → List Item
+line_after opts file before line =
     if is_comment opts.comments line then comment_items opts.comments line else (
-    if is_rule line || length line == 0 then [] else cells_items opts file n header (cells_of line))
+    if is_rule line || length line == 0 then [] else row_after opts file (length before + 1) (rows_so_far opts before) (cells_of line))
 
-abbrev pub pprint_header : ReadOpts → Option (List (List ℕ)) → List ℕ → Option (List (List ℕ))
-pprint_header opts header line =
-    if is_comment opts.comments line || is_rule line then header else (
-    if length line == 0 then None else header_after header (cells_of line))
-
--- the items of lines, of which the first has number n
-abbrev pub pprint_lines : ReadOpts → FileRef → ℕ → Option (List (List ℕ)) → List (List ℕ) → List Item
-pprint_lines opts file n header [] = []
-pprint_lines opts file n header (line ∷ lines) =
-    pprint_line opts file n header line ++ pprint_lines opts file (n + 1) (pprint_header opts header line) lines
+-- the items of all lines of a file
+abbrev pub pprint_items : ReadOpts → FileRef → List (List ℕ) → List Item
+pprint_items opts file lines = each (line_after opts file) lines

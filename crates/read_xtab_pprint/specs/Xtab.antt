@@ -1,6 +1,6 @@
--- XTAB: a record is a sequence of lines, each a key and a value; records are separated by empty lines.
-use Rattle.std.specs.Prelude.{ℕ, if◌then◌else◌, Bool, ◌==◌, List, [], ◌∷◌, ◌++◌, map, length, drop}
-use Rattle.std.specs.List.{prefix_len, before_first}
+-- XTAB: a record is a run of lines, each a key and a value; records are separated by empty lines.
+use Rattle.std.specs.Prelude.{ℕ, Bool, not, ◌&&◌, ◌==◌, List, [], ◌∷◌, ◌++◌, map, length, drop}
+use Rattle.std.specs.List.{before_first, filter, flat_map, prefix_len, slice_split}
 use Rattle.mlr_spec.specs.Ascii.{space}
 use Rattle.mlr_spec.specs.Infer.{tree_of_data}
 use Rattle.mlr_event.specs.declared.options.ReadOpts.{ReadOpts}
@@ -30,19 +30,30 @@ record_items opts [] = []
 record_items opts (line ∷ lines) =
     fields (record_of opts.dedupe (map key_in (line ∷ lines)) (map (λ l. tree_of_data opts.infer (value_in l)) (line ∷ lines))) ∷ []
 
--- The items of lines up to the last empty line. `lines` are the lines of the current record so far, and
--- `passed` are the items of the comments since the last empty line. An empty line ends the record, and the
--- comments within it precede it.
-abbrev pub xtab_from : ReadOpts → List Item → List (List ℕ) → List (List ℕ) → List Item
-xtab_from opts passed lines [] = []
-xtab_from opts passed lines (line ∷ more) =
-    if is_comment opts.comments line then xtab_from opts (passed ++ comment_items opts.comments line) lines more else (
-    if is_gap line then passed ++ record_items opts lines ++ xtab_from opts [] [] more
-    else xtab_from opts passed (lines ++ line ∷ []) more)
+-- a line that ends a record: an empty line, or a line of spaces; a comment doesn't
+abbrev pub ends_record : ReadOpts → List ℕ → Bool
+ends_record opts line = not (is_comment opts.comments line) && is_gap line
 
--- the items after the last empty line: the comments and the record
-abbrev pub xtab_rest : ReadOpts → List Item → List (List ℕ) → List (List ℕ) → List Item
-xtab_rest opts passed lines [] = passed ++ record_items opts lines
-xtab_rest opts passed lines (line ∷ more) =
-    if is_comment opts.comments line then xtab_rest opts (passed ++ comment_items opts.comments line) lines more else (
-    if is_gap line then xtab_rest opts [] [] more else xtab_rest opts passed (lines ++ line ∷ []) more)
+-- the comments among these lines, and the others
+abbrev pub comments_in : ReadOpts → List (List ℕ) → List Item
+comments_in opts lines = flat_map (comment_items opts.comments) (filter (is_comment opts.comments) lines)
+
+abbrev pub others_in : ReadOpts → List (List ℕ) → List (List ℕ)
+others_in opts lines = filter (λ line. not (is_comment opts.comments line)) lines
+
+-- the items of a run of lines: its comments, and then the record of the others
+abbrev pub run_items : ReadOpts → List (List ℕ) → List Item
+run_items opts lines = comments_in opts lines ++ record_items opts (others_in opts lines)
+
+-- the items of all lines of a file: those of the runs between the lines that end a record
+abbrev pub xtab_items : ReadOpts → List (List ℕ) → List Item
+xtab_items opts lines = flat_map (run_items opts) (slice_split (ends_record opts) lines)
+
+abbrev pub without_last : {A : Type 0} → List A → List A
+without_last [] = []
+without_last (x ∷ []) = []
+without_last (x ∷ y ∷ xs) = x ∷ without_last (y ∷ xs)
+
+-- the items that lines fix, whatever follows: those of the runs that have ended
+abbrev pub xtab_fixed : ReadOpts → List (List ℕ) → List Item
+xtab_fixed opts lines = flat_map (run_items opts) (without_last (slice_split (ends_record opts) lines))

@@ -8,7 +8,7 @@ use Rattle.mlr_event.specs.declared.options.ReadOpts.{ReadOpts}
 use Rattle.mlr_event.specs.Reading.{Item, fields, is_comment, comment_items, ctx_after, events_of}
 use Rattle.mlr_event.specs.Rows.{with_field}
 use Rattle.read_xtab_pprint.specs.declared.rules.XtabRules.{XtabRules}
-use Rattle.read_xtab_pprint.specs.Xtab.{is_gap, is_space, without_spaces}
+use Rattle.read_xtab_pprint.specs.Xtab.{is_gap, is_space, record_items, without_spaces}
 
 -- the fields of the current record, and its item
 abbrev pub begun_pairs : Option (List (List ℕ × Tree)) → List (List ℕ × Tree)
@@ -44,3 +44,18 @@ xtab_events rules line = if is_comment rules.opts.comments line then [] else (if
 -- the number of records so far, or of fields of the current record, whichever is larger
 abbrev pub xtab_count : XtabRules → ℕ
 xtab_count rules = max (length (begun_pairs rules.begun)) (max rules.at.nr rules.at.fnr)
+
+-- the items of lines up to the last empty line, where these comments and these lines of the current record precede them
+abbrev pub xtab_from : ReadOpts → List Item → List (List ℕ) → List (List ℕ) → List Item
+xtab_from opts passed lines [] = []
+xtab_from opts passed lines (line ∷ more) =
+    if is_comment opts.comments line then xtab_from opts (passed ++ comment_items opts.comments line) lines more else (
+    if is_gap line then passed ++ record_items opts lines ++ xtab_from opts [] [] more
+    else xtab_from opts passed (lines ++ line ∷ []) more)
+
+-- the items after the last empty line: the comments and the record
+abbrev pub xtab_rest : ReadOpts → List Item → List (List ℕ) → List (List ℕ) → List Item
+xtab_rest opts passed lines [] = passed ++ record_items opts lines
+xtab_rest opts passed lines (line ∷ more) =
+    if is_comment opts.comments line then xtab_rest opts (passed ++ comment_items opts.comments line) lines more else (
+    if is_gap line then xtab_rest opts [] [] more else xtab_rest opts passed (lines ++ line ∷ []) more)

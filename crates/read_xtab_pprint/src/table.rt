@@ -5,7 +5,8 @@ ghost use Rattle.mlr_spec.specs.Infer.{tree_of_data};
 ghost use Rattle.mlr_spec.specs.Pairs.{are_distinct};
 ghost use Rattle.mlr_event.specs.Reading.{record_of};
 ghost use Rattle.read_xtab_pprint.specs.Cells.{cells_in};
-ghost use Rattle.read_xtab_pprint.specs.Pprint.{cells_items, header_after, is_rule, row};
+ghost use Rattle.read_xtab_pprint.specs.Pprint.{is_rule, row};
+ghost use Rattle.read_xtab_pprint.specs.PprintRules.{cells_items, header_after};
 ghost use Rattle.read_xtab_pprint.specs.PprintRules.{plain_header, plain_items, row_items};
 
 use crate::cells::{copy_cells, count_cells, is_barred, next_cell};

@@ -3,7 +3,7 @@
 use crate::{BlockReader, can_read};
 use mlr_event::{Comments, Ctx, Event, Events, Fault, FileRef, Format, ReadOpts};
 use mlr_record::Record;
-use mlr_spec::{InferOpts, NoMemory};
+use mlr_spec::NoMemory;
 use mlr_value::{Bytes, append_text};
 use std::alloc::Global;
 use std::process::Abort;
@@ -18,16 +18,7 @@ enum Opt {
 
 /// The options of plain XTAB, changed by these.
 fn options(alloc: Global, changes: &[Opt]) -> Result<ReadOpts, NoMemory> {
-    let mut opts = ReadOpts {
-        format: Format::Xtab,
-        ifs: Bytes::new(alloc),
-        ips: Bytes::new(alloc),
-        implicit: false,
-        ragged: false,
-        dedupe: true,
-        comments: Comments::Keep,
-        infer: InferOpts::plain(),
-    };
+    let mut opts = ReadOpts::of(alloc, Format::Xtab)?;
     for change in changes {
         match change {
             Opt::Format(format) => opts.format = *format,

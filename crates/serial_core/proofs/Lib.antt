@@ -6,3 +6,4 @@ pub mod Turns
 pub mod Left
 pub mod Running
 pub mod Stopping
+pub mod Crosses

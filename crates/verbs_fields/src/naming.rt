@@ -1,5 +1,5 @@
 //! `label`, `rename` and `altkv`: new names for the fields of a record.
-ghost use Rattle.std.specs.Prelude.{◌≡◌, ◌<◌, ◌++◌, ◌∷◌, [], true, length, drop, map, IfOk, OnOk, MatchOption};
+ghost use Rattle.std.specs.Prelude.{◌≡◌, ◌<◌, ◌≤◌, ◌++◌, ◌∷◌, [], true, length, drop, map, IfOk, IsOk, OnOk, MatchOption};
 ghost use Rattle.std.specs.List.{zip};
 ghost use Rattle.mlr_spec.specs.Pairs.{are_distinct, put_at, put_each};
 ghost use Rattle.mlr_value.specs.Value.{tree_of};
@@ -26,12 +26,13 @@ pub struct Renaming {
 
 impl Renaming {
     /// A copy. It allocates only for names of more than 16 bytes.
-    pub fn copy(&self, alloc: Global) -> Result<Self, NoMemory>
-        ensures { IfOk result (λ copy. copy ≡ self.now) }
+    pub fn copy(&self, _: Global) -> Result<Self, NoMemory>
+        ensures same { IfOk result (λ copy. copy ≡ self.now) }
+        ensures short { length self.now.old ≤ 16 → length self.now.new ≤ 16 → IsOk result }
     {
         Ok(Renaming {
-            old: Bytes::copy_of(alloc, self.old.as_slice())?,
-            new: Bytes::copy_of(alloc, self.new.as_slice())?,
+            old: self.old.copy()?,
+            new: self.new.copy()?,
         })
     }
 }

@@ -1,5 +1,5 @@
 //! `ssub`: replaces a plain text in values.
-ghost use Rattle.std.specs.Prelude.{◌≡◌, IfOk};
+ghost use Rattle.std.specs.Prelude.{◌≡◌, ◌≤◌, length, IfOk, IsOk};
 ghost use Rattle.mlr_pattern.specs.Values.{ssub_of};
 ghost use Rattle.verbs_pattern.specs.Changing.{changed_fields};
 
@@ -32,12 +32,14 @@ impl Ssub {
 
     /// A copy. It allocates for the names, and for texts of more than 16 bytes.
     pub fn copy(&self, alloc: Global) -> Result<Self, NoMemory>
-        ensures { IfOk result (λ copy. copy ≡ self.now) }
+        ensures same { IfOk result (λ copy. copy ≡ self.now) }
+        ensures short { self.now.fields ≡ SubFields.All → length self.now.old ≤ 16
+            → length self.now.by ≤ 16 → IsOk result }
     {
         Ok(Ssub {
             fields: self.fields.copy(alloc)?,
-            old: Bytes::copy_of(alloc, self.old.as_slice())?,
-            by: Bytes::copy_of(alloc, self.by.as_slice())?,
+            old: self.old.copy()?,
+            by: self.by.copy()?,
         })
     }
 }

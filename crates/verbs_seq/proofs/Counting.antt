@@ -1,5 +1,5 @@
 -- The numbers of `seqgen` are between its start and its stop.
-use Rattle.std.proofs.Common.{◌≡◌, ◌≢◌, ℕ, zero, suc, ◌+◌, ◌*◌, ◌/◌, ◌^◌, ◌<◌, ◌≤◌, Bool, true, false, if◌then◌else◌, ℤ, pos, negsuc, neg_ℤ, refl, sym, ap, ap₂, ◌∙◌, ◌-◌, to_z, of_z, arith, inl, inr, w64, FitsSigned, subst}
+use Rattle.std.proofs.Common.{◌≡◌, ℕ, zero, suc, ◌+◌, ◌*◌, ◌/◌, ◌^◌, ◌<◌, ◌≤◌, true, if◌then◌else◌, ℤ, pos, negsuc, neg_ℤ, refl, sym, ap, ap₂, ◌∙◌, ◌-◌, to_z, of_z, arith, inl, inr, w64, FitsSigned, subst}
 use Rattle.std.specs.Prelude.{◌+ℤ◌, ◌-ℤ◌, ◌*ℤ◌, ◌≤ℤ◌, int_le, int_lt, unsigned_abs}
 use Rattle.std.specs.Int.{w128}
 use Rattle.std.specs.Prelude.{Result, Ok, Err}
@@ -8,7 +8,7 @@ use Rattle.std.proofs.lemmas.Bool.{cases_Bool}
 use Rattle.std.proofs.lemmas.Int.{fits_signed_mul, ints}
 use Rattle.std.proofs.Math.Facts.{to_z-of_z}
 use Rattle.std.proofs.Math.Nat.{div-mul-le_self, mul-le-mul_right}
-use Rattle.verbs_seq.specs.Seq.{begins, count_between, number_from}
+use Rattle.verbs_seq.specs.Seq.{count_between, number_from}
 
 not-negative : (z : ℤ) → pos 0 ≤ℤ z → pos (unsigned_abs z) ≡ z
 not-negative (pos n) h = refl

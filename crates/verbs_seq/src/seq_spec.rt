@@ -1,5 +1,5 @@
 //! The options of `seqgen`.
-ghost use Rattle.std.specs.Prelude.{◌≡◌, ◌≢◌, ◌↔◌, ◌/◌, pos, ◌-ℤ◌, unsigned_abs, IfOk, IsTrue};
+ghost use Rattle.std.specs.Prelude.{◌≡◌, ◌≢◌, ◌↔◌, ◌/◌, ◌≤◌, length, pos, ◌-ℤ◌, unsigned_abs, IfOk, IsOk, IsTrue};
 ghost use Rattle.verbs_seq.specs.Seq.{IsSoundSeq, begins};
 
 use mlr_spec::NoMemory;
@@ -28,11 +28,12 @@ impl SeqSpec {
     }
 
     /// A copy. It allocates only for a name of more than 16 bytes.
-    pub fn copy(&self, alloc: Global) -> Result<Self, NoMemory>
-        ensures { IfOk result (λ copy. copy ≡ self.now) }
+    pub fn copy(&self, _: Global) -> Result<Self, NoMemory>
+        ensures same { IfOk result (λ copy. copy ≡ self.now) }
+        ensures short { length self.now.field ≤ 16 → IsOk result }
     {
         Ok(SeqSpec {
-            field: Bytes::copy_of(alloc, self.field.as_slice())?,
+            field: self.field.copy()?,
             start: self.start,
             stop: self.stop,
             step: self.step,

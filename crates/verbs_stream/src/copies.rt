@@ -1,6 +1,6 @@
 //! Copies of the options of verbs, which share the patterns.
 ghost use Rattle.std.specs.Prelude.{◌≡◌, ◌≤◌, ℕ, List, length, None, IfOk, IsOk};
-ghost use Rattle.verbs_stream.specs.Copies.{AreSameFields, AreSameHaving, AreSameRename};
+ghost use Rattle.verbs_stream.specs.Copies.{AreSameFields, AreSameHaving, AreSameRename, IsShort};
 ghost use Rattle.verbs_stream.specs.Each.{IsSound, streaming_of};
 
 use crate::spec::{
@@ -19,6 +19,7 @@ impl Spec {
     pub fn copy(&self, alloc: Global) -> Result<Self, NoMemory>
         ensures meaning { IfOk result (λ copy. streaming_of copy ≡ streaming_of self.now) }
         ensures sound { IfOk result (λ copy. IsSound self.now → IsSound copy) }
+        ensures short { IsShort self.now → IsOk result }
     {
         match self {
             Spec::Altkv => Ok(Spec::Altkv),

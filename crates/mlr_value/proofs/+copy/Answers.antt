@@ -2,7 +2,8 @@ use Rattle.std.proofs.Common.{◌++◌, ◌∷◌, [], take, ap, sym, ◌∙◌,
 use Rattle.mlr_spec.specs.Pairs.{value_at}
 use Rattle.mlr_value.specs.Value.{tree_of}
 use Rattle.mlr_value.proofs.Depth.{depth-item, depth-pair}
-use Rattle.mlr_value.proofs.Prefixes.{take-more, value_at-before}
+use Rattle.mlr_keys.proofs.Keyed.{take-more}
+use Rattle.mlr_value.proofs.Prefixes.{value_at-before}
 use Rattle.mlr_value.proofs.+copy.Goals as goal
 
 pub array_value::copy_items-copy-requires : goal.array_value::copy_items-copy-requires

@@ -1,7 +1,8 @@
-use Rattle.std.proofs.Common.{ap, sym, subst, ◌∙◌, arith, is_some, remove}
-use Rattle.indexmap.proofs.SetLemmas.{map-remove}
+use Rattle.std.proofs.Common.{ap, sym, subst, ◌∙◌, arith, is_some}
+use Rattle.mlr_keys.proofs.Keyed.{map-remove}
 use Rattle.mlr_spec.specs.Pairs.{keys_of}
-use Rattle.mlr_value.specs.Collections.{IsIndexOf, pair_of, pairs_of, has_key}
+use Rattle.mlr_keys.specs.Keys.{Knows}
+use Rattle.mlr_value.specs.Collections.{pair_of, pairs_of, has_key}
 use Rattle.mlr_value.proofs.Places.{value_at-absent, value_at-first, remove_at-absent, remove_at-first, first-below}
 use Rattle.mlr_value.proofs.map_value.remove_pair.Goals as goal
 
@@ -27,5 +28,5 @@ returns-clause-index c =
     let pairs = c.args.columns.now.pairs.items in
     let keys_removed = map-remove (λ pair. pair.0) (pairs_of pairs) c.in-Some.place in
     let pairs_removed = map-remove pair_of pairs c.in-Some.place in
-    subst (IsIndexOf c.unindex.new.index) (sym (ap (λ t. keys_of (pairs_of t)) c.remove.ensures.items ∙ ap keys_of pairs_removed ∙ keys_removed))
-    (c.unindex.ensures (keys_of (pairs_of pairs)) c.requires)
+    subst (Knows c.remove-2.new.self) (sym (ap (λ t. keys_of (pairs_of t)) c.remove.ensures.items ∙ ap keys_of pairs_removed ∙ keys_removed))
+    (c.remove-2.ensures (keys_of (pairs_of pairs)) c.requires)

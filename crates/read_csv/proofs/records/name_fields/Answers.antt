@@ -15,7 +15,7 @@ loop-place-preserved c =
     let below : place < length names = omega (arith, c.loop-place-test.true, c.loop-place.auto.place-end, c.requires) in
     record {
       names = names-more fields place field name (omega (arith, c.loop-place-test.true, c.loop-place.auto.fields, c.loop-place.auto.place-end))
-          ∙ ap₂ (λ made text. made ++ text ∷ []) c.loop-place.invariant.names (c.in_ok-fields.ensures.copied ∙ c.as_slice.ensures ∙ c.index-names-place.is)
+          ∙ ap₂ (λ made text. made ++ text ∷ []) c.loop-place.invariant.names (c.in_ok-fields.ensures.same ∙ c.index-names-place.is)
           ∙ sym (take_more names place key below);
       values = values-same fields place field name ∙ c.loop-place.invariant.values;
     }

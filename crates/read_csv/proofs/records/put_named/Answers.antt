@@ -4,7 +4,8 @@ use Rattle.mlr_event.specs.Rows.{with_field}
 use Rattle.mlr_value.specs.Value.{tree_of}
 use Rattle.std.proofs.lemmas.List.{length-map}
 use Rattle.read_csv.specs.OpenRow.{value_in, values_in}
-use Rattle.read_csv.proofs.Recording.{drop-at, key-is, key-free, keys-now, map-drop, one-more, pushed-is, put-is, length-with_fields}
+use Rattle.std.specs.List.{drop-map}
+use Rattle.read_csv.proofs.Recording.{drop-at, key-is, key-free, keys-now, one-more, pushed-is, put-is, length-with_fields}
 use Rattle.read_csv.proofs.records.put_named.Goals as goal
 use Rattle.read_csv.proofs.records.put_named.Goals.{then-dedupe+in_ok-push, else-dedupe+in_ok-put}
 
@@ -39,7 +40,7 @@ loop-place-preserved c =
     let below : place < length header = omega (arith, c.loop-place-test.true, c.requires.names) in
     let below_2 : place < length values = omega (arith, c.loop-place-test.true, c.requires.values, length-map items value_in) in
     let rest = values_in (drop (place + 1) c.taken-value.new.fields.items) in
-    let out = drop-at values place (tree_of value) rest (sym (map-drop value_in items place) ∙ sym c.loop-place.invariant.rest ∙ c.taken-value.ensures.value) in
+    let out = drop-at values place (tree_of value) rest (drop-map value_in place items ∙ sym c.loop-place.invariant.rest ∙ c.taken-value.ensures.value) in
     let more = one-more dedupe header values place below below_2 pairs c.loop-place.invariant.fields in
     record {
       fields = elim c.if-dedupe.branch [
@@ -54,6 +55,6 @@ loop-place-preserved c =
             ∙ ap (λ n. with_field dedupe n (tree_of value) pairs) w.name.ensures
             ∙ ap (λ v. with_field dedupe (get_or header place w.name.result.now) v pairs) (sym (out.1 empty)) ∙ more w.name.result.now empty
       ];
-      rest = sym out.0 ∙ sym (map-drop value_in items (place + 1));
+      rest = sym out.0 ∙ drop-map value_in (place + 1) items;
       len = c.taken-value.ensures.len ∙ c.loop-place.invariant.len;
     }

@@ -2,12 +2,12 @@ use Rattle.std.proofs.Common.{rules, ◌≡◌, ◌+◌, ◌-◌, ◌≤◌, ◌
 use Rattle.std.proofs.lemmas.List.{length-map}
 use Rattle.std.proofs.lemmas.Result.{IfOk-weaker}
 use Rattle.std.specs.Vec.{vec_len}
-use Rattle.std.specs.List.{zip}
+use Rattle.std.specs.List.{drop-map, zip}
 use Rattle.mlr_event.specs.Rows.{with_fields}
 use Rattle.mlr_event.specs.Reading.{distinct_names, record_of}
 use Rattle.read_csv.specs.OpenRow.{value_in, values_in}
 use Rattle.read_csv.specs.Rows.{positions_from, row_keys}
-use Rattle.read_csv.proofs.Recording.{fields-distinct, full-made, row-made, map-drop, length-with_fields}
+use Rattle.read_csv.proofs.Recording.{fields-distinct, full-made, row-made, length-with_fields}
 use Rattle.read_csv.proofs.records.record_of_row.Goals as goal
 
 pub put_surplus-requires-clause-into : goal.put_surplus-requires-clause-into
@@ -44,7 +44,7 @@ returns-clause-made c =
     ∙ fields-distinct dedupe c.is_distinct.result header values named low low_2 (omega (arith, c.len-3.ensures.few, ap length c.header-names.ensures)) c.is_distinct.ensures in
     c.into_record.ensures ∙ c.in_ok-put_surplus.ensures
     ∙ ap₂ (λ n rest. with_fields dedupe c.put_named.new.into (positions_from (named + 1) (n - named)) rest) count c.in_ok-put_named.ensures.rest
-    ∙ ap₂ (λ p vs. with_fields dedupe p (positions_from (named + 1) (length values - named)) vs) fields (map-drop value_in items named)
+    ∙ ap₂ (λ p vs. with_fields dedupe p (positions_from (named + 1) (length values - named)) vs) fields (sym (drop-map value_in named items))
     ∙ row-made dedupe header values named low_2 low (λ less. omega (arith, c.min-named.ensures, c.len-3.ensures.count, ap length c.header-names.ensures, length-map items value_in))
     ∙ ap (λ n. record_of dedupe (row_keys header n) values) (length-map items value_in ∙ sym size)
 

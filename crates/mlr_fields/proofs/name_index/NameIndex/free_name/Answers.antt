@@ -1,7 +1,7 @@
 use Rattle.std.proofs.Common.{◌≡◌, ◌<◌, ◌^◌, true, length, Some, slice_get, ap, sym, subst, arith}
 use Rattle.std.proofs.lemmas.Option.{slice_get_within}
 use Rattle.std.specs.Vec.{vec_len}
-use Rattle.mlr_value.specs.Collections.{texts_in}
+use Rattle.mlr_keys.specs.Keys.{texts_in}
 use Rattle.mlr_event.specs.Reading.{is_among}
 use Rattle.mlr_fields.specs.Suffixes.{AreTaken}
 use Rattle.mlr_fields.proofs.Suffixing.{free_name-chosen, known-at, known-length, known-set}

@@ -1,5 +1,5 @@
 use Rattle.std.proofs.Common.{◌≡◌, ◌++◌, ◌∷◌, [], false, ap, sym, subst, ◌∙◌}
-use Rattle.mlr_value.specs.Collections.{texts_in}
+use Rattle.mlr_keys.specs.Keys.{texts_in}
 use Rattle.mlr_event.specs.Reading.{is_among}
 use Rattle.mlr_fields.specs.Suffixes.{AreKnown}
 use Rattle.mlr_fields.proofs.Suffixing.{known-pushed}

@@ -1,6 +1,6 @@
 use Rattle.std.proofs.Common.{◌≡◌, true, false, Some, slice_get, sym, ap, subst, ◌∙◌, is_ok, if◌then◌else◌}
 use Rattle.std.proofs.lemmas.Bool.{true≢false}
-use Rattle.mlr_value.proofs.Columns.{IsAt-position}
+use Rattle.mlr_keys.proofs.Sets.{IsAt-position}
 use Rattle.mlr_event.specs.Reading.{is_among}
 use Rattle.mlr_groups.proofs.Tables.{among-texts, among-at, text-at, entered-known, entered-new}
 use Rattle.mlr_groups.proofs.keys.KeyTable.enter.Goals as goal

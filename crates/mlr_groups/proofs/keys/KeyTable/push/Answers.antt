@@ -1,6 +1,6 @@
 use Rattle.std.proofs.Common.{◌≡◌, ◌++◌, ◌∷◌, [], false, Some, slice_get, sym, ap, ◌∙◌}
 use Rattle.std.proofs.lemmas.List.{length-map}
-use Rattle.mlr_value.specs.Collections.{texts_in}
+use Rattle.mlr_keys.specs.Keys.{texts_in}
 use Rattle.mlr_event.specs.Reading.{is_among}
 use Rattle.mlr_groups.proofs.Tables.{texts-push, slice_get-last}
 use Rattle.mlr_groups.proofs.keys.KeyTable.push.Goals as goal

@@ -4,10 +4,11 @@ use Rattle.mlr_spec.specs.Tree.{absent}
 use Rattle.mlr_spec.specs.Flatten.{leaf}
 use Rattle.mlr_spec.specs.Pairs.{value_at, put_at, keys_of, are_distinct}
 use Rattle.mlr_spec.proofs.Pairs.{are_distinct-put}
+use Rattle.mlr_keys.specs.Keys.{Knows}
 use Rattle.mlr_record.specs.NodeView.{node_of, children_in}
 use Rattle.mlr_record.specs.Children.{IsChildOf}
 use Rattle.mlr_record.proofs.Named.{put_at-twice}
-use Rattle.mlr_record.proofs.Children.{child-absent, child-found, child-written}
+use Rattle.mlr_record.proofs.Children.{child-absent, child-found, child-written, names-written}
 use Rattle.mlr_record.proofs.node.Nodes.take.Goals as goal
 
 pub invariant_of-self : goal.invariant_of-self
@@ -15,8 +16,13 @@ invariant_of-self c =
     let name = c.args.name.now in
     let children = c.self.inside.children.items in
     let place = subst (λ children. IsChildOf name children (Some c.in-Some.place)) c.deref.ensures.value c.in-Some.ensures in
-    let written = child-written name children c.in-Some.place c.index_mut.result.now c.index_mut.ensures.value place c.replace.new.dest in
-    subst (λ pairs. are_distinct (keys_of pairs) ≡ true) (sym written) (are_distinct-put name (node_of c.replace.new.dest) (children_in children) c.self.invariant)
+    let written = child-written name children c.in-Some.place c.index_mut.result.now c.index_mut.ensures.value place c.replace.new.dest in (
+      subst (λ pairs. are_distinct (keys_of pairs) ≡ true) (sym written) (are_distinct-put name (node_of c.replace.new.dest) (children_in children) c.self.invariant.0),
+      subst (Knows c.self.inside.places) (sym (names-written name children c.in-Some.place c.index_mut.result.now c.index_mut.ensures.value place.0 c.replace.new.dest)) c.self.invariant.1,
+    )
+
+pub place_of-requires : goal.place_of-requires
+place_of-requires c = subst (λ children. Knows c.self.inside.places (keys_of (children_in children))) (sym c.deref.ensures.value) c.self.invariant.1
 
 pub returns-in-Some-clause-taken : goal.returns-in-Some-clause-taken
 returns-in-Some-clause-taken c =

@@ -2,7 +2,8 @@ use Rattle.std.proofs.Common.{◌≡◌, true, ap, ap₂, sym, subst, ◌∙◌,
 use Rattle.mlr_spec.specs.Pairs.{put_at, keys_of, are_distinct}
 use Rattle.mlr_spec.proofs.Pairs.{put_at-none, are_distinct-put}
 use Rattle.mlr_value.specs.Value.{tree_of}
-use Rattle.mlr_value.specs.Collections.{pairs_of, has_key, IsIndexOf}
+use Rattle.mlr_keys.specs.Keys.{Knows}
+use Rattle.mlr_value.specs.Collections.{pairs_of, has_key}
 use Rattle.mlr_value.proofs.Places.{value_at-absent, first-below, pairs_of-set, keys-set, distinct-pushed}
 use Rattle.mlr_value.proofs.map_value.MapValue.put.Goals as goal
 
@@ -18,7 +19,7 @@ invariant_of-self c =
     let old = c.index_mut.result.now in
     let written = pairs_of-set key c.args.value pairs c.in-Some.place old c.index_mut.ensures.value c.in-Some.ensures in (
       subst (λ x. are_distinct (keys_of x) ≡ true) (sym written) (are_distinct-put key (tree_of c.args.value) (pairs_of pairs) c.self.invariant.0),
-      subst (IsIndexOf c.self.inside.columns.index) (sym (keys-set pairs c.in-Some.place old c.args.value c.index_mut.ensures.value)) c.self.invariant.1,
+      subst (Knows c.self.inside.columns.index) (sym (keys-set pairs c.in-Some.place old c.args.value c.index_mut.ensures.value)) c.self.invariant.1,
     )
 
 pub push_pair-requires-clause-absent : goal.push_pair-requires-clause-absent

@@ -1,6 +1,6 @@
 use Rattle.std.proofs.Common.{arith, ◌∙◌}
 use Rattle.std.proofs.Common.{Some, None}
-use Rattle.read_csv.specs.Rows.{rows_from}
+use Rattle.read_csv.specs.Rows.{csv_items}
 use Rattle.mlr_lines.specs.Lines.{begun_line, ended_lines}
 use Rattle.read_files.proofs.Formats.{events-ctx}
 use Rattle.read_files.proofs.byte_reader.CsvReaderByteReader.end.Goals as goal
@@ -13,7 +13,7 @@ returns-clause-adds c = λ source bytes represents. c.in_ok-end.ensures.adds sou
 
 pub returns-clause-ctx : goal.returns-clause-ctx
 returns-clause-ctx c = λ source bytes represents.
-    c.ctx.ensures.read source.opts source.file source.ctx bytes (c.in_ok-end.ensures.represents source.opts source.file source.ctx bytes represents.represents) ∙ events-ctx source.ctx (rows_from source.opts source.file (Some (begun_line bytes)) 1 None None (ended_lines bytes))
+    c.ctx.ensures.read source.opts source.file source.ctx bytes (c.in_ok-end.ensures.represents source.opts source.file source.ctx bytes represents.represents) ∙ events-ctx source.ctx (csv_items source.opts source.file (Some (begun_line bytes)) (ended_lines bytes))
 
 pub returns-clause-few : goal.returns-clause-few
 returns-clause-few c = λ source bytes represents. omega (arith, c.ctx.ensures.nr, c.in_ok-end.ensures.room, represents.used)
