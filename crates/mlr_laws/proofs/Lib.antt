@@ -1,0 +1,13 @@
+pub mod Bytes
+pub mod Names
+pub mod Lines
+pub mod Rows
+pub mod Tsv
+pub mod Runs
+pub mod Reading
+pub mod Returns
+pub mod Quotes
+pub mod Csv
+pub mod Nodes
+pub mod Finished
+pub mod Unflattened
