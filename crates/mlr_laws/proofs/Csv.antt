@@ -8,7 +8,8 @@ use Rattle.std.proofs.Math.Seq.{take-append_seam}
 use Rattle.mlr_spec.specs.Json.{joined}
 use Rattle.mlr_spec.specs.Split.{place_in}
 use Rattle.mlr_lines.specs.Lines.{without_return}
-use Rattle.read_csv.specs.Fields.{Field, First, after_next, before_next, csv_fields, first_field, first_plain, first_quoted, quoted_at, quoted_value, value_of}
+use Rattle.read_csv.specs.Csv.{First, after_next, before_next, csv_fields, first_field, first_plain, first_quoted, quoted_at}
+use Rattle.read_csv.specs.Fields.{Field, quoted_value, value_of}
 use Rattle.read_csv.proofs.Opening.{csv-is}
 use Rattle.writers.specs.declared.options.WriteOpts.{WriteOpts}
 use Rattle.writers.specs.Csv.{csv_field, never_empty, quoted, wants_quotes}

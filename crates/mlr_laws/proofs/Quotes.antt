@@ -3,7 +3,7 @@ use Rattle.std.proofs.Common.{◌≡◌, ℕ, eqb, true, false, List, [], ◌∷
 use Rattle.std.specs.List.{flat_map}
 use Rattle.std.proofs.lemmas.Bool.{cases_Bool, eqb-true}
 use Rattle.mlr_lines.specs.Lines.{without_return}
-use Rattle.read_csv.specs.Fields.{quoted_at, with_byte}
+use Rattle.read_csv.specs.Csv.{quoted_at, with_byte}
 use Rattle.read_csv.proofs.Opening.{quoted-other}
 use Rattle.writers.specs.Csv.{csv_escaped}
 use Rattle.mlr_laws.proofs.Returns.{return-last, return-more, return-one}

@@ -6,7 +6,8 @@ use Rattle.std.specs.Str.{bytes_eq}
 use Rattle.std.proofs.lemmas.Slice.Eq.{bytes_eq-Decides}
 use Rattle.mlr_event.specs.declared.options.Format.TheVariants.{Tsv}
 use Rattle.mlr_event.specs.Defaults.{default_read}
-use Rattle.read_csv.specs.Fields.{Field, tsv_fields, unescaped, value_of}
+use Rattle.read_csv.specs.Fields.{Field, value_of}
+use Rattle.read_csv.specs.Tsv.{tsv_fields, unescaped}
 use Rattle.read_csv.specs.Rows.{row_fields}
 use Rattle.mlr_lines.specs.Lines.{without_return}
 use Rattle.writers.specs.Tsv.{tsv_escaped, tsv_field}

@@ -3,3 +3,4 @@ pub mod Steps
 pub mod Represents
 pub mod Prefixes
 pub mod Blocks
+pub mod Reader

@@ -8,9 +8,11 @@ mod laws;
 mod lines;
 #[cfg(test)]
 mod lines_tests;
+mod reader;
 mod stage;
 
 pub use cut::without_return;
 pub use format::LineFormat;
 pub use laws::line_laws;
 pub use lines::Lines;
+pub use reader::Reader;

@@ -4,7 +4,7 @@ ghost use Rattle.std.specs.Prelude.{◌≡◌, ◌∷◌, [], IfOk};
 ghost use Rattle.mlr_event.specs.declared.event.Event.TheVariants as event;
 
 use crate::{LineFormat, Lines};
-use mlr_event::{Event, Events};
+use mlr_event::{Ctx, Event, Events, FileRef, ReadOpts};
 use mlr_spec::NoMemory;
 use mlr_value::Bytes;
 use std::alloc::Global;
@@ -14,12 +14,23 @@ use std::test::Fail;
 #[derive(Drop)]
 struct Echo {
     alloc: Global,
+    at: Ctx,
 }
 
 impl LineFormat for Echo {
-    ghost use Rattle.std.specs.Prelude.{ℕ, List, [], ◌∷◌, ◌+◌, ◌≤◌};
+    ghost use Rattle.std.specs.Prelude.{◌≡◌, ℕ, List, true, map, max, [], ◌∷◌, ◌++◌, ◌+◌, ◌≤◌};
     ghost use Rattle.std.proofs.Common.{arith};
     ghost use Rattle.mlr_event.specs.declared.event.Event.TheVariants as event;
+    ghost use Rattle.mlr_event.specs.Reading.{comment};
+    ghost use Rattle.mlr_lines.specs.Lines.{begun_line, ended_lines};
+
+    ghost usable = { λ opts. true };
+
+    ghost fed = { λ opts file bytes. map comment (ended_lines bytes) };
+
+    ghost whole = { λ opts file bytes. map comment (ended_lines bytes ++ begun_line bytes ∷ []) };
+
+    ghost begins = { λ echo opts file start. echo.at ≡ start };
 
     ghost after = { λ echo line. echo };
 
@@ -29,9 +40,15 @@ impl LineFormat for Echo {
 
     ghost gives_last = { λ echo line. event.Text line ∷ [] };
 
-    ghost count = { λ echo. 0 };
+    ghost at = { λ echo. echo.at };
+
+    ghost count = { λ echo. max 1 (max echo.at.nr echo.at.fnr) };
 
     ghost counts = { λ echo line. Prim.omega arith };
+
+    fn begin(alloc: Global, _: ReadOpts, _: FileRef, start: Ctx) -> Self {
+        Echo { alloc, at: start }
+    }
 
     fn line(&mut self, line: &[u8], out: &mut Events) -> Result<(), NoMemory> {
         out.push(Event::Text(Bytes::copy_of(self.alloc, line)?))
@@ -40,7 +57,20 @@ impl LineFormat for Echo {
     fn last(&mut self, line: &[u8], out: &mut Events) -> Result<(), NoMemory> {
         out.push(Event::Text(Bytes::copy_of(self.alloc, line)?))
     }
+
+    fn ctx(&self) -> Ctx {
+        self.at
+    }
+
+    fn laws() {}
 }
+
+/// Before the first record of a first file.
+const START: Ctx = Ctx {
+    nr: 0,
+    fnr: 0,
+    filenum: 1,
+};
 
 /// The texts, each in brackets.
 fn shown(alloc: Global, events: &Events) -> Result<Bytes, NoMemory> {
@@ -58,7 +88,7 @@ fn shown(alloc: Global, events: &Events) -> Result<Bytes, NoMemory> {
 /// The lines of a file that is read in two pieces.
 fn lines_of(alloc: Global, prefix: &[u8], rest: &[u8]) -> Result<Bytes, NoMemory> {
     let mut events = Events::new(alloc);
-    let mut lines = Lines::new(alloc, Echo { alloc });
+    let mut lines = Lines::new(alloc, Echo { alloc, at: START });
     if prefix.len() < 1000 && rest.len() < 1000 {
         lines.feed(prefix, &mut events)?;
         lines.feed(rest, &mut events)?;
@@ -99,7 +129,7 @@ fn files_cut_at_each_byte(rt: HostRuntime) -> Result<(), NoMemory> {
 fn lines_broken_never_with_memory(rt: HostRuntime) -> Result<(), Fail> {
     let alloc = rt.alloc();
     let mut events = Events::new(alloc);
-    let mut lines = Lines::new(alloc, Echo { alloc });
+    let mut lines = Lines::new(alloc, Echo { alloc, at: START });
     assert!(rt; !lines.is_broken());
     lines.feed(b"a\nb", &mut events).ok().ok_or("no memory")?;
     assert!(rt; !lines.is_broken());

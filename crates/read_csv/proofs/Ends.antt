@@ -5,7 +5,7 @@ use Rattle.std.proofs.Math.Seq.{drop-append_seam, drop-length}
 use Rattle.std.proofs.lemmas.Bool.{cases_Bool}
 use Rattle.std.proofs.lemmas.Bool.Decides.{nat_tests}
 use Rattle.mlr_lines.specs.Lines.{without_return}
-use Rattle.read_csv.specs.Fields.{quoted_at}
+use Rattle.read_csv.specs.Csv.{quoted_at}
 use Rattle.read_csv.specs.Rules.{line_end}
 use Rattle.read_csv.proofs.Opening.{after_text, quoted-open, quoted-other}
 

@@ -7,7 +7,8 @@ use Rattle.mlr_spec.specs.Infer.{tree_of_data}
 use Rattle.mlr_spec.specs.Split.{split_by}
 use Rattle.mlr_record.specs.Parts.{parts_of_rest}
 use Rattle.mlr_event.specs.declared.options.ReadOpts.{ReadOpts}
-use Rattle.read_csv.specs.Fields.{Field, unescaped, tsv_fields, value_of}
+use Rattle.read_csv.specs.Fields.{Field, value_of}
+use Rattle.read_csv.specs.Tsv.{unescaped, tsv_fields}
 use Rattle.read_csv.specs.OpenRow.{RowState, tsv_reading, with_value, row_with}
 
 -- a byte that isn't a backslash is itself

@@ -14,7 +14,7 @@ use Rattle.read_csv.specs.declared.rules.RowRules.{RowRules}
 use Rattle.read_csv.specs.Rows.{Begun, csv_fed, csv_items, csv_read}
 use Rattle.read_csv.specs.RowLines.{rows_from}
 use Rattle.read_csv.specs.Rules.{after_last, after_line, after_text, gives_last, gives_line, last_items}
-use Rattle.read_csv.specs.Represents.{Begins, ctx_fed, ctx_read}
+use Rattle.read_csv.specs.Begins.{Begins, ctx_fed, ctx_read}
 use Rattle.read_csv.proofs.Parts.{parts-same}
 use Rattle.read_csv.proofs.Walk.{last-step, step}
 use Rattle.read_csv.proofs.Whole.{Fits}

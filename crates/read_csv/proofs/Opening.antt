@@ -7,7 +7,8 @@ use Rattle.std.proofs.lemmas.Bool.Decides.{nat_tests}
 use Rattle.std.specs.Str.{bytes_eq}
 use Rattle.mlr_spec.specs.Split.{place_in, begins_with}
 use Rattle.mlr_spec.proofs.Splitting.{cases_Option, place_in-fits}
-use Rattle.read_csv.specs.Fields.{Field, First, Quoted, quoted_at, with_byte, before_next, after_next, first_plain, first_quoted, first_field, fields_from, csv_fields}
+use Rattle.read_csv.specs.Csv.{First, Quoted, quoted_at, with_byte, before_next, after_next, first_plain, first_quoted, first_field, fields_from, csv_fields}
+use Rattle.read_csv.specs.Fields.{Field}
 use Rattle.read_csv.specs.OpenRow.{Reading, open_text, reading_from, csv_reading}
 use Rattle.read_csv.proofs.Readings.{rest_of, rest-shorter, next-shorter, reading-is, reading_at, reading_after}
 

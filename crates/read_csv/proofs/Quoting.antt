@@ -2,7 +2,7 @@
 use Rattle.std.proofs.Common.{◌≡◌, ℕ, zero, suc, ◌+◌, ◌<◌, true, false, eqb, List, [], ◌∷◌, ◌++◌, length, take, drop, get_or, Option, Some, None, refl, ap, sym, ◌∙◌, append_assoc, arith, add-one}
 use Rattle.std.proofs.lemmas.Bool.{false_from_ne_true, true≢false}
 use Rattle.memchr.specs.Find.{IsFirstByte, is_byte}
-use Rattle.read_csv.specs.Fields.{Quoted, quoted_at, with_byte}
+use Rattle.read_csv.specs.Csv.{Quoted, quoted_at, with_byte}
 use Rattle.read_csv.specs.OpenRow.{RowState, open_text, inside, after_quotes, starts_quoted, in_quotes, with_text}
 use Rattle.read_csv.specs.Quotes.{HasNoQuote, HasQuote}
 

@@ -7,7 +7,8 @@ use Rattle.mlr_spec.specs.declared.infer.InferOpts.{InferOpts}
 use Rattle.mlr_spec.specs.Split.{place_in}
 use Rattle.mlr_spec.proofs.Splitting.{cases_Option, place_in-fits}
 use Rattle.mlr_event.specs.declared.options.ReadOpts.{ReadOpts}
-use Rattle.read_csv.specs.Fields.{Field, First, Quoted, quoted_at, with_byte, before_next, after_next, first_quoted, first_field, quoted_value, value_of}
+use Rattle.read_csv.specs.Csv.{First, Quoted, quoted_at, with_byte, before_next, after_next, first_quoted, first_field}
+use Rattle.read_csv.specs.Fields.{Field, quoted_value, value_of}
 use Rattle.mlr_record.specs.Parts.{first_part, after_first}
 use Rattle.read_csv.proofs.Quoting.{with_text-twice}
 use Rattle.read_csv.specs.OpenRow.{Reading, RowState, open_text, inside, after_quotes, after_field, reading_from, csv_reading, in_quotes, with_value, with_text, quoted_row, after_quoted, field_row, after_row_field, row_with, row_on, row_reading, row_taken}

@@ -11,7 +11,8 @@ use Rattle.mlr_event.specs.Stream.{has_fault}
 use Rattle.mlr_event.proofs.Streams.{has_fault-comment, ctx_after-comment}
 use Rattle.mlr_lines.specs.Lines.{without_return}
 use Rattle.read_csv.specs.declared.rules.RowRules.{RowRules}
-use Rattle.read_csv.specs.Fields.{Field, csv_fields, value_of}
+use Rattle.read_csv.specs.Csv.{csv_fields}
+use Rattle.read_csv.specs.Fields.{Field, value_of}
 use Rattle.read_csv.specs.Rows.{Begun, begins_at, goes_on, is_skipped, row_fields, skipped_items}
 use Rattle.read_csv.specs.RowLines.{closed_items, end_items, header_after, rows_from}
 use Rattle.read_csv.specs.Rules.{after_line, begins_now, after_row, after_text, gives_line, is_passed, last_items, line_end, open_items, row_gives, text_items, with_end}

@@ -7,7 +7,9 @@ use Rattle.mlr_event.specs.declared.options.Format.{Format}
 use Rattle.mlr_event.specs.declared.options.Format.TheVariants as format
 use Rattle.mlr_event.specs.declared.options.ReadOpts.{ReadOpts}
 use Rattle.mlr_lines.specs.Lines.{without_return}
-use Rattle.read_csv.specs.Fields.{Field, csv_fields, tsv_fields, value_of}
+use Rattle.read_csv.specs.Csv.{csv_fields}
+use Rattle.read_csv.specs.Fields.{Field, value_of}
+use Rattle.read_csv.specs.Tsv.{tsv_fields}
 use Rattle.read_csv.specs.Rows.{Begun, goes_on, row_fields}
 use Rattle.read_csv.specs.Rules.{line_end}
 use Rattle.read_csv.specs.OpenRow.{Reading, RowState, csv_reading, no_row, row_on, row_reading, row_taken, row_with, with_text}

@@ -1,4 +1,6 @@
 pub mod Fields
+pub mod Csv
+pub mod Tsv
 pub mod Rows
 pub mod RowLines
 pub mod OpenRow
@@ -9,5 +11,5 @@ pub mod Usable
 pub mod RowOutcome
 pub mod Rules
 pub mod Counting
-pub mod Represents
+pub mod Begins
 pub mod Prefixes

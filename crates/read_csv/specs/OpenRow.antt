@@ -8,7 +8,9 @@ use Rattle.mlr_value.specs.Value.{tree_of}
 use Rattle.mlr_record.specs.declared.record.Field.{Field as NamedField}
 use Rattle.mlr_event.specs.declared.options.Format.TheVariants as format
 use Rattle.mlr_event.specs.declared.options.ReadOpts.{ReadOpts}
-use Rattle.read_csv.specs.Fields.{Field, quoted_at, before_next, after_next, first_field, tsv_fields, quoted_value, value_of}
+use Rattle.read_csv.specs.Csv.{quoted_at, before_next, after_next, first_field}
+use Rattle.read_csv.specs.Fields.{Field, quoted_value, value_of}
+use Rattle.read_csv.specs.Tsv.{tsv_fields}
 
 -- the text after an opening quote that isn't closed, where two quotes are one
 abbrev pub open_text : List ℕ → List ℕ

@@ -12,7 +12,9 @@ use Rattle.mlr_event.specs.declared.options.ReadOpts.{ReadOpts}
 use Rattle.mlr_event.specs.Reading.{Item, fields, fault, events_of, is_comment, comment_items, record_of}
 use Rattle.mlr_lines.specs.Blocks.{each}
 use Rattle.mlr_lines.specs.Lines.{ended_lines, begun_line, without_return}
-use Rattle.read_csv.specs.Fields.{Field, csv_fields, tsv_fields, value_of}
+use Rattle.read_csv.specs.Csv.{csv_fields}
+use Rattle.read_csv.specs.Fields.{Field, value_of}
+use Rattle.read_csv.specs.Tsv.{tsv_fields}
 
 -- the fields of a row; None if a quote is open, so that the row continues on the next line
 abbrev pub row_fields : ReadOpts → List ℕ → Option (List Field)

@@ -1,12 +1,11 @@
 //! The reader of CSV (RFC 4180) and TSV.
 #![tactic(auto)]
 
-mod escapes;
+mod csv;
 mod fields;
 mod heading;
 mod laws;
 mod line_step;
-mod quotes;
 mod reader;
 mod records;
 mod row;
@@ -16,6 +15,7 @@ mod rules;
 mod test_files;
 #[cfg(test)]
 mod tests;
+mod tsv;
 
 pub use laws::prefix_laws;
 pub use reader::{CsvReader, can_read};

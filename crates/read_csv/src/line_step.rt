@@ -6,22 +6,36 @@ ghost use Rattle.read_csv.specs.Headers.{closed_values, header_of, values_header
 ghost use Rattle.read_csv.specs.OpenRow.{no_row, row_taken};
 ghost use Rattle.read_csv.specs.Rules.{after_last, after_line, begins_now, after_row, after_text, count_of, gives_last, gives_line, header_after_row, row_after_row, row_gives, text_items, with_end};
 
+use crate::csv::following;
 use crate::fields::take_text;
 use crate::heading::Heading;
-use crate::quotes::following;
 use crate::records::positions;
 use crate::row::Row;
 use crate::row_outcome::RowOutcome;
 use crate::rules::RowRules;
 use mlr_event::rows::{is_comment, next_ctx, push_comment};
-use mlr_event::{Event, Events, Fault, FileRef, ReadOpts};
+use mlr_event::{Ctx, Event, Events, Fault, FileRef, ReadOpts};
 use mlr_lines::{LineFormat, without_return};
 use mlr_spec::NoMemory;
 use std::alloc::Global;
 
 impl LineFormat for RowRules {
-    ghost use Rattle.read_csv.specs.Rules.{after_last, after_line, count_of, gives_last, gives_line};
+    ghost use Rattle.std.specs.Prelude.{Some, None};
+    ghost use Rattle.mlr_lines.specs.Lines.{begun_line, ended_lines};
+    ghost use Rattle.read_csv.specs.Begins.{Begins};
     ghost use Rattle.read_csv.specs.Counting.{count-line};
+    ghost use Rattle.read_csv.specs.Rows.{csv_items};
+    ghost use Rattle.read_csv.specs.Rules.{after_last, after_line, count_of, gives_last, gives_line};
+    ghost use Rattle.read_csv.specs.Usable.{is_usable};
+
+    ghost usable = { is_usable };
+
+    ghost fed = { λ opts file bytes. csv_items opts file None (ended_lines bytes) };
+
+    ghost whole = { λ opts file bytes.
+        csv_items opts file (Some (begun_line bytes)) (ended_lines bytes) };
+
+    ghost begins = { Begins };
 
     ghost after = { after_line };
 
@@ -31,9 +45,25 @@ impl LineFormat for RowRules {
 
     ghost gives_last = { gives_last };
 
+    ghost at = { λ rules. rules.at };
+
     ghost count = { count_of };
 
     ghost counts = { count-line };
+
+    fn begin(alloc: Global, opts: ReadOpts, file: FileRef, start: Ctx) -> Self {
+        RowRules {
+            alloc,
+            opts,
+            file,
+            number: 1,
+            begins: 1,
+            header: None,
+            row: Row::new(alloc),
+            at: start,
+            stopped: false,
+        }
+    }
 
     fn line(&mut self, line: &[u8], out: &mut Events) -> Result<(), NoMemory> {
         if self.stopped {
@@ -60,6 +90,12 @@ impl LineFormat for RowRules {
         }
         Ok(())
     }
+
+    fn ctx(&self) -> Ctx {
+        self.at
+    }
+
+    fn laws() {}
 }
 
 impl RowRules {

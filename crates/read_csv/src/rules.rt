@@ -9,7 +9,7 @@ use std::alloc::Global;
 
 /// How the rows of a file are read, and the state after the lines so far.
 #[derive(Drop)]
-pub(crate) struct RowRules {
+pub struct RowRules {
     pub(crate) alloc: Global,
     pub(crate) opts: ReadOpts,
     pub(crate) file: FileRef,

@@ -18,11 +18,10 @@ use Rattle.mlr_event.proofs.Streams.{events_of-append, ctx_after-append}
 use Rattle.read_dkvp_nidx.specs.declared.rules.LineRules.{LineRules}
 use Rattle.read_dkvp_nidx.specs.Dkvp.{dkvp_line}
 use Rattle.read_dkvp_nidx.specs.Nidx.{nidx_line}
-use Rattle.read_dkvp_nidx.specs.Lines.{items_of_lines, line_fed, line_read}
+use Rattle.read_dkvp_nidx.specs.Lines.{ctx_fed, ctx_read, items_of_lines, line_fed, line_read}
 use Rattle.read_dkvp_nidx.specs.MarkdownLines as markdown
 use Rattle.read_dkvp_nidx.specs.Row.{block_of, place_of}
 use Rattle.read_dkvp_nidx.specs.Rules.{Begins, after_last, after_line, rules_after, gives_last, gives_line, items_by, items_from, line_block, line_events, plain_items}
-use Rattle.read_dkvp_nidx.specs.Represents.{ctx_fed, ctx_read}
 use Rattle.read_dkvp_nidx.specs.Usable.{is_usable_as}
 use Rattle.read_dkvp_nidx.proofs.Rowing.{markdown-same}
 

@@ -8,5 +8,4 @@ pub mod Row
 pub mod Usable
 pub mod Rules
 pub mod Counting
-pub mod Represents
 pub mod Cells

@@ -8,7 +8,7 @@ use Rattle.mlr_event.specs.declared.names.FileRef.{FileRef}
 use Rattle.mlr_event.specs.declared.options.Format.{Format}
 use Rattle.mlr_event.specs.declared.options.Format.TheVariants as format
 use Rattle.mlr_event.specs.declared.options.ReadOpts.{ReadOpts}
-use Rattle.mlr_event.specs.Reading.{Item, events_of}
+use Rattle.mlr_event.specs.Reading.{Item, ctx_after, events_of}
 use Rattle.read_dkvp_nidx.specs.Dkvp.{dkvp_line}
 use Rattle.read_dkvp_nidx.specs.Nidx.{nidx_line}
 use Rattle.read_dkvp_nidx.specs.Markdown.{markdown_items}
@@ -26,3 +26,10 @@ line_read opts file start bytes = events_of start (items_of_lines opts file opts
 
 abbrev pub line_fed : ReadOpts → FileRef → Ctx → List ℕ → List Event
 line_fed opts file start bytes = events_of start (items_of_lines opts file opts.format (fixed_lines bytes))
+
+-- the context of the last record that the bytes so far fix, and of the last record of a whole file
+abbrev pub ctx_fed : ReadOpts → FileRef → Ctx → List ℕ → Ctx
+ctx_fed opts file start bytes = ctx_after start (items_of_lines opts file opts.format (fixed_lines bytes))
+
+abbrev pub ctx_read : ReadOpts → FileRef → Ctx → List ℕ → Ctx
+ctx_read opts file start bytes = ctx_after start (items_of_lines opts file opts.format (whole_lines bytes))

@@ -4,19 +4,32 @@ ghost use Rattle.mlr_event.specs.Reading.{events_of};
 ghost use Rattle.read_dkvp_nidx.specs.Row.{block_of, place_of, row_items};
 ghost use Rattle.read_dkvp_nidx.specs.Rules.{after_last, after_line, rules_after, after_row, count_of, gives_last, gives_line, line_events, plain_block, plain_items};
 
+use crate::block::Block;
 use crate::dkvp::dkvp_row;
 use crate::markdown::{Place, markdown_row};
 use crate::nidx::nidx_row;
 use crate::row::Row;
 use crate::rules::LineRules;
 use mlr_event::rows::{is_comment, next_ctx, push_comment};
-use mlr_event::{Event, Events, Format};
+use mlr_event::{Ctx, Event, Events, FileRef, Format, ReadOpts};
 use mlr_lines::{LineFormat, without_return};
 use mlr_spec::NoMemory;
+use std::alloc::Global;
 
 impl LineFormat for LineRules {
-    ghost use Rattle.read_dkvp_nidx.specs.Rules.{after_last, after_line, count_of, gives_last, gives_line};
+    ghost use Rattle.mlr_lines.specs.Lines.{fixed_lines, whole_lines};
     ghost use Rattle.read_dkvp_nidx.specs.Counting.{count-line};
+    ghost use Rattle.read_dkvp_nidx.specs.Lines.{items_of_lines};
+    ghost use Rattle.read_dkvp_nidx.specs.Rules.{Begins, after_last, after_line, count_of, gives_last, gives_line};
+    ghost use Rattle.read_dkvp_nidx.specs.Usable.{is_usable};
+
+    ghost usable = { is_usable };
+
+    ghost fed = { λ opts file bytes. items_of_lines opts file opts.format (fixed_lines bytes) };
+
+    ghost whole = { λ opts file bytes. items_of_lines opts file opts.format (whole_lines bytes) };
+
+    ghost begins = { Begins };
 
     ghost after = { after_line };
 
@@ -26,9 +39,23 @@ impl LineFormat for LineRules {
 
     ghost gives_last = { gives_last };
 
+    ghost at = { λ rules. rules.at };
+
     ghost count = { count_of };
 
     ghost counts = { count-line };
+
+    fn begin(alloc: Global, opts: ReadOpts, file: FileRef, start: Ctx) -> Self {
+        LineRules {
+            alloc,
+            opts,
+            file,
+            number: 1,
+            block: Block::Outside,
+            at: start,
+            stopped: false,
+        }
+    }
 
     fn line(&mut self, line: &[u8], out: &mut Events) -> Result<(), NoMemory> {
         self.take(without_return(line), out)
@@ -40,6 +67,12 @@ impl LineFormat for LineRules {
         }
         self.take(line, out)
     }
+
+    fn ctx(&self) -> Ctx {
+        self.at
+    }
+
+    fn laws() {}
 }
 
 impl LineRules {

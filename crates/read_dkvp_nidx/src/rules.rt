@@ -8,7 +8,7 @@ use std::alloc::Global;
 
 /// How the lines of a file are read, and the state after the lines so far.
 #[derive(Drop)]
-pub(crate) struct LineRules {
+pub struct LineRules {
     pub(crate) alloc: Global,
     pub(crate) opts: ReadOpts,
     pub(crate) file: FileRef,

@@ -1,7 +1,6 @@
 -- What a file gives in each format.
-use Rattle.std.proofs.Common.{◌≡◌, ℕ, ◌+◌, Bool, true, false, not, ◌&&◌, ◌||◌, List, [], ◌∷◌, ◌++◌, Some, None, refl, ap, ap₂, sym, ◌∙◌, subst}
+use Rattle.std.proofs.Common.{◌≡◌, ℕ, Bool, true, false, not, ◌&&◌, List, [], ◌∷◌, ◌++◌, Some, None, refl, ap, ap₂, ◌∙◌}
 use Rattle.std.specs.List.{list_any}
-use Rattle.std.proofs.lemmas.List.{append-nil}
 use Rattle.mlr_event.specs.declared.event.Ctx.{Ctx}
 use Rattle.mlr_event.specs.declared.event.Event.{Event}
 use Rattle.mlr_event.specs.declared.event.Event.TheVariants as event
@@ -14,11 +13,11 @@ use Rattle.mlr_event.specs.Verb.{is_end, is_last, is_list, is_part}
 use Rattle.mlr_json.specs.Reading.{lexemes_left}
 use Rattle.mlr_lines.specs.Lines.{begun_line, ended_lines, fixed_lines, whole_lines}
 use Rattle.mlr_spec.specs.JsonTokens.{lexeme_outside}
-use Rattle.read_csv.specs.Rows.{csv_items}
-use Rattle.read_dkvp_nidx.specs.Lines.{items_of_lines}
-use Rattle.read_xtab_pprint.specs.Blocks.{items_fixed, items_whole}
-use Rattle.read_json_lines.specs.Files.{file_items}
-use Rattle.read_files.specs.Sources.{Source, ctx_after_events, gives_as, csv_fed_of, csv_read_of, line_fed_of, line_read_of, block_fed_of, block_read_of, json_fed_of, json_read_of}
+use Rattle.read_csv.specs.Rows.{csv_fed, csv_items, csv_read}
+use Rattle.read_dkvp_nidx.specs.Lines.{items_of_lines, line_fed, line_read}
+use Rattle.read_xtab_pprint.specs.Blocks.{block_fed, block_read, items_fixed, items_whole}
+use Rattle.read_json_lines.specs.Json.{file_items, json_fed, json_read}
+use Rattle.read_files.specs.Sources.{Source, ctx_after_events, gives_as}
 
 -- the events of items are a part
 no-end : (at : Ctx) (items : List Item) → list_any is_end (events_of at items) ≡ false
@@ -114,13 +113,13 @@ no-blocks opts file format.Xtab = refl
 no-blocks opts file format.Pprint = refl
 no-blocks opts file format.Markdown = refl
 
-line-none : (source : Source) → line_fed_of source [] ≡ []
+line-none : (source : Source) → line_fed source.opts source.file source.ctx [] ≡ []
 line-none source = ap (events_of source.ctx) (no-lines source.opts source.file source.opts.format)
 
-block-none : (source : Source) → block_fed_of source [] ≡ []
+block-none : (source : Source) → block_fed source.opts source.file source.ctx [] ≡ []
 block-none source = ap (events_of source.ctx) (no-blocks source.opts source.file source.opts.format)
 
-json-none : (source : Source) → json_fed_of source [] ≡ []
+json-none : (source : Source) → json_fed source.opts source.file source.ctx [] ≡ []
 unfolding lexemes_left lexeme_outside
 json-none source = refl
 
@@ -136,32 +135,32 @@ gives-none format.Pprint source = block-none source
 gives-none format.Markdown source = line-none source
 
 -- the laws of a reader, and what they say of each format: more bytes, or the end, give more events
-abbrev pub Law : (Source → List ℕ → List Event) → (Source → List ℕ → List Event) → Type 0
-Law fed later = (source : Source) (bytes rest : List ℕ) → (more : List Event) × (later source (bytes ++ rest) ≡ fed source bytes ++ more)
+abbrev pub Law : (ReadOpts → FileRef → Ctx → List ℕ → List Event) → (ReadOpts → FileRef → Ctx → List ℕ → List Event) → Type 0
+Law fed later = (opts : ReadOpts) (file : FileRef) (start : Ctx) (bytes rest : List ℕ) → (more : List Event) × (later opts file start (bytes ++ rest) ≡ fed opts file start bytes ++ more)
 
 abbrev pub Growth : Type 0
 Growth = (fmt : Format) (source : Source) (all : Bool) (bytes rest : List ℕ) → (more : List Event) × (gives_as fmt source all (bytes ++ rest) ≡ gives_as fmt source false bytes ++ more)
 
-module _ (csv-fed : Law csv_fed_of csv_fed_of) (csv-read : Law csv_fed_of csv_read_of) (line-fed : Law line_fed_of line_fed_of) (line-read : Law line_fed_of line_read_of)
-    (block-fed : Law block_fed_of block_fed_of) (block-read : Law block_fed_of block_read_of) (json-fed : Law json_fed_of json_fed_of) (json-read : Law json_fed_of json_read_of) where
+module _ (csv-fed : Law csv_fed csv_fed) (csv-read : Law csv_fed csv_read) (line-fed : Law line_fed line_fed) (line-read : Law line_fed line_read)
+    (block-fed : Law block_fed block_fed) (block-read : Law block_fed block_read) (json-fed : Law json_fed json_fed) (json-read : Law json_fed json_read) where
   abbrev Grows : Format → Type 0
   Grows fmt = (source : Source) (all : Bool) (bytes rest : List ℕ) → (more : List Event) × (gives_as fmt source all (bytes ++ rest) ≡ gives_as fmt source false bytes ++ more)
 
   csv : Grows format.Csv
-  csv source true bytes rest = csv-read source bytes rest
-  csv source false bytes rest = csv-fed source bytes rest
+  csv source true bytes rest = csv-read source.opts source.file source.ctx bytes rest
+  csv source false bytes rest = csv-fed source.opts source.file source.ctx bytes rest
 
   line : Grows format.Dkvp
-  line source true bytes rest = line-read source bytes rest
-  line source false bytes rest = line-fed source bytes rest
+  line source true bytes rest = line-read source.opts source.file source.ctx bytes rest
+  line source false bytes rest = line-fed source.opts source.file source.ctx bytes rest
 
   block : Grows format.Xtab
-  block source true bytes rest = block-read source bytes rest
-  block source false bytes rest = block-fed source bytes rest
+  block source true bytes rest = block-read source.opts source.file source.ctx bytes rest
+  block source false bytes rest = block-fed source.opts source.file source.ctx bytes rest
 
   json : Grows format.Json
-  json source true bytes rest = json-read source bytes rest
-  json source false bytes rest = json-fed source bytes rest
+  json source true bytes rest = json-read source.opts source.file source.ctx bytes rest
+  json source false bytes rest = json-fed source.opts source.file source.ctx bytes rest
 
   pub growth : Growth
   growth format.Csv = csv

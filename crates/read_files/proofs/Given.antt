@@ -1,13 +1,12 @@
 -- Inputs that were taken one after another.
-use Rattle.std.proofs.Common.{◌≡◌, ℕ, suc, ◌+◌, ◌≤◌, Bool, true, false, List, [], ◌∷◌, ◌++◌, length, Option, Some, None, refl, ap, sym, subst, ◌∙◌, append_assoc, arith}
+use Rattle.std.proofs.Common.{◌≡◌, ◌+◌, true, List, [], ◌∷◌, ◌++◌, Some, refl, ap, sym, ◌∙◌, append_assoc, arith}
 use Rattle.std.specs.Prelude.{IfSome, if◌then◌else◌}
-use Rattle.std.proofs.lemmas.Bool.{false≢true}
 use Rattle.std.proofs.lemmas.List.{append-nil}
 use Rattle.mlr_event.specs.declared.event.Ctx.{Ctx}
 use Rattle.mlr_event.specs.declared.names.InputName.{InputName}
 use Rattle.mlr_event.specs.declared.options.ReadOpts.{ReadOpts}
 use Rattle.mlr_world.specs.Inputs.{Contents}
-use Rattle.mlr_world.specs.Taken.{Take, grown}
+use Rattle.mlr_world.specs.Taken.{Take}
 use Rattle.read_files.specs.Takes.{ArePrefixesTaken, GoesOn, InOrder, TakeGoesOn, ends, last_take, stops_at, total, with_last}
 use Rattle.read_files.specs.Sources.{ctx_after_take, ctx_from, events_from, take_gives}
 use Rattle.read_files.specs.Represents.{AllRead}

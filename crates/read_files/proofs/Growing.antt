@@ -1,5 +1,5 @@
 -- What inputs give is a list, and extends as more is taken.
-use Rattle.std.proofs.Common.{◌≡◌, ℕ, ◌+◌, Bool, true, false, not, ◌&&◌, ◌||◌, List, [], ◌∷◌, ◌++◌, Option, Some, None, refl, ap, ap₂, sym, subst, ◌∙◌, append_assoc, arith, inl, inr}
+use Rattle.std.proofs.Common.{◌≡◌, ℕ, true, false, not, ◌||◌, List, [], ◌∷◌, ◌++◌, Some, refl, ap, ap₂, sym, ◌∙◌, append_assoc, inl, inr}
 use Rattle.std.specs.Prelude.{is_some, if◌then◌else◌}
 use Rattle.std.specs.List.{list_any}
 use Rattle.std.proofs.lemmas.Bool.{and_parts, cases_Bool, not-true}
@@ -14,9 +14,9 @@ use Rattle.mlr_event.specs.Verb.{is_end, is_fault, is_list}
 use Rattle.mlr_world.specs.Inputs.{Contents}
 use Rattle.mlr_world.specs.Taken.{Take}
 use Rattle.read_files.specs.Takes.{ArePrefixesTaken, AreWhole, GoesOn, InOrder, IsPrefixTaken, TakeGoesOn, stops_at}
-use Rattle.read_files.specs.Sources.{Source, ctx_after_take, ctx_after_events, ctx_from, events_from, events_taken, gives_as, is_whole, next_file, source, take_gives, until_fault, zero_context}
+use Rattle.read_files.specs.Sources.{ctx_after_take, ctx_after_events, ctx_from, events_from, events_taken, gives_as, is_whole, next_file, source, take_gives, until_fault, zero_context}
 use Rattle.read_files.specs.Represents.{source_after}
-use Rattle.read_files.proofs.Events.{ended-list, fault-none, part-no_end, until-clear, until-grows, until-prefix}
+use Rattle.read_files.proofs.Events.{ended-list, fault-none, part-no_end, until-grows, until-prefix}
 use Rattle.read_files.proofs.Formats.{Growth, gives-part}
 
 -- no end is among what inputs give

@@ -1,6 +1,6 @@
 -- The next input is opened, or there is none.
-use Rattle.std.proofs.Common.{◌≡◌, ℕ, ◌+◌, ◌<◌, ◌≤◌, ◌^◌, Bool, true, false, List, [], ◌∷◌, ◌++◌, length, Option, Some, None, refl, ap, ap₂, sym, subst, ◌∙◌, arith, length-append}
-use Rattle.std.specs.Prelude.{IsSome, IfSome, reverse}
+use Rattle.std.proofs.Common.{◌≡◌, false, List, [], ◌∷◌, ◌++◌, length, Option, Some, None, refl, ap, sym, subst, ◌∙◌, arith, length-append}
+use Rattle.std.specs.Prelude.{reverse}
 use Rattle.std.specs.List.{list_any}
 use Rattle.std.specs.declared.vec.Vec.{Vec}
 use Rattle.std.specs.declared.alloc.Global.{Global}
@@ -15,7 +15,7 @@ use Rattle.mlr_world.specs.Taken.{Take, OpenEntry, begun}
 use Rattle.read_files.specs.declared.reader.FileReader.{FileReader}
 use Rattle.read_files.specs.declared.reader.ReadTurn.{ReadTurn}
 use Rattle.read_files.specs.declared.reader.ReadTurn.TheVariants.{Went, Ended, Failed, TooLong, NoMemory}
-use Rattle.read_files.specs.Takes.{After, InOrder, ends, stops_at, total}
+use Rattle.read_files.specs.Takes.{After, InOrder, stops_at, total}
 use Rattle.read_files.specs.Sources.{ctx_from, events_taken, source, zero_context}
 use Rattle.read_files.specs.Represents.{AllRead, NoneRepresents, OpenRepresents, Represents, Turned, TurnSays, open_count}
 use Rattle.read_files.specs.Steps.{AppendsEnd, RepresentsNext}

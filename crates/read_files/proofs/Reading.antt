@@ -1,26 +1,24 @@
 -- A read of the open input, and what the inputs tell of it.
-use Rattle.std.proofs.Common.{◌≡◌, ℕ, ◌+◌, ◌<◌, ◌≤◌, ◌^◌, Bool, true, false, List, [], ◌∷◌, ◌++◌, length, Option, Some, None, refl, ap, sym, subst, ◌∙◌, arith, length-append}
-use Rattle.std.specs.Prelude.{IsSome, IfSome, reverse}
-use Rattle.std.specs.Option.{option_map}
+use Rattle.std.proofs.Common.{◌≡◌, ℕ, ◌+◌, ◌<◌, ◌≤◌, ◌^◌, true, false, List, [], ◌∷◌, ◌++◌, length, Option, Some, refl, ap, sym, subst, ◌∙◌, arith, length-append}
+use Rattle.std.specs.Prelude.{IsSome, reverse}
 use Rattle.std.proofs.lemmas.List.{append-nil}
 use Rattle.mlr_event.specs.declared.event.Event.{Event}
 use Rattle.mlr_event.specs.declared.names.InputName.{InputName}
 use Rattle.mlr_event.specs.declared.options.ReadOpts.{ReadOpts}
 use Rattle.mlr_event.specs.Verb.{is_open}
-use Rattle.mlr_world.specs.Counts.{Counted}
 use Rattle.mlr_world.specs.Inputs.{Contents, MeetsEnd, TakesPiece}
-use Rattle.mlr_world.specs.Taken.{Take, OpenEntry, begun, ended, entry_of, grown}
+use Rattle.mlr_world.specs.Taken.{Take, OpenEntry, ended, entry_of, grown}
 use Rattle.read_files.specs.declared.open_file.OpenInput.{OpenInput}
 use Rattle.read_files.specs.declared.reader.FileReader.{FileReader}
 use Rattle.read_files.specs.declared.reader.ReadTurn.{ReadTurn}
 use Rattle.read_files.specs.declared.reader.ReadTurn.TheVariants.{Went, Ended, Failed, TooLong, NoMemory}
-use Rattle.read_files.specs.Takes.{After, GoesOn, ends, stops_at, total, with_last, last_place}
+use Rattle.read_files.specs.Takes.{After, GoesOn, stops_at, total, with_last, last_place}
 use Rattle.read_files.specs.Sources.{events_taken, source}
-use Rattle.read_files.specs.Represents.{Represents, Turned, TurnCause, TurnSays}
+use Rattle.read_files.specs.Represents.{Represents, Turned, TurnCause}
 use Rattle.read_files.specs.Steps.{Stepped, failed}
 use Rattle.read_files.proofs.Given.{goes_on-more, stops-following, total-append, with_last-push}
-use Rattle.read_files.proofs.Steps.{given_to, source-stops, take_of}
-use Rattle.read_files.proofs.Taking.{following-ended, following-grown, following-same, open-name, open-some}
+use Rattle.read_files.proofs.Steps.{source-stops, take_of}
+use Rattle.read_files.proofs.Taking.{following-ended, following-grown, open-name, open-some}
 
 -- what was read is no other for what is kept of the last piece
 pub represents-piece : (opts : ReadOpts) (names : List InputName) (given : List Take) (reader : FileReader) (piece : List ℕ) → Represents opts names given reader → Represents opts names given (record reader { piece = piece })

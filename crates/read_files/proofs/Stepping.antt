@@ -1,5 +1,5 @@
 -- What a read of the open input leads to, by the reader that it leaves.
-use Rattle.std.proofs.Common.{◌≡◌, ℕ, suc, ◌+◌, ◌*◌, ◌<◌, ◌≤◌, ◌^◌, Bool, true, false, List, [], ◌∷◌, ◌++◌, length, Option, Some, None, refl, ap, ap₂, sym, subst, ◌∙◌, append_assoc, arith, inl, inr}
+use Rattle.std.proofs.Common.{◌≡◌, ℕ, ◌+◌, ◌<◌, ◌≤◌, ◌^◌, Bool, true, false, List, [], ◌∷◌, ◌++◌, length, Option, Some, None, refl, ap, sym, subst, ◌∙◌, append_assoc, arith, inl, inr}
 use Rattle.std.specs.Prelude.{reverse}
 use Rattle.std.specs.List.{list_any}
 use Rattle.std.proofs.lemmas.Bool.{cases_lt}
@@ -17,7 +17,7 @@ use Rattle.read_files.specs.declared.open_file.OpenInput.{OpenInput}
 use Rattle.read_files.specs.declared.reader.FileReader.{FileReader}
 use Rattle.read_files.specs.declared.reader.ReadTurn.{ReadTurn}
 use Rattle.read_files.specs.declared.reader.ReadTurn.TheVariants.{Went, Ended, Failed, TooLong, NoMemory}
-use Rattle.read_files.specs.Takes.{GoesOn, InOrder, ends, stops_at, total, with_last}
+use Rattle.read_files.specs.Takes.{GoesOn, InOrder, stops_at, total, with_last}
 use Rattle.read_files.specs.Readers.{FileRepresents, counted}
 use Rattle.read_files.specs.Sources.{Source, ctx_after_events, ctx_from, events_taken, gives_as, source, zero_context}
 use Rattle.read_files.specs.Represents.{Represents, source_after}

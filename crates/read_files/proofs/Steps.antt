@@ -1,29 +1,23 @@
 -- What a read of the open input leads to.
-use Rattle.std.proofs.Common.{◌≡◌, ℕ, suc, ◌+◌, ◌*◌, ◌<◌, ◌≤◌, ◌^◌, Bool, true, false, not, ◌&&◌, ◌||◌, List, [], ◌∷◌, ◌++◌, length, Option, Some, None, refl, ap, ap₂, sym, subst, ◌∙◌, append_assoc, arith, length-append}
-use Rattle.std.specs.Prelude.{if◌then◌else◌, is_some, reverse}
+use Rattle.std.proofs.Common.{◌≡◌, ℕ, ◌+◌, Bool, true, false, not, ◌&&◌, ◌||◌, List, [], ◌∷◌, ◌++◌, length, Some, None, refl, ap, ap₂, sym, ◌∙◌, append_assoc, arith}
+use Rattle.std.specs.Prelude.{if◌then◌else◌, is_some}
 use Rattle.std.specs.List.{list_any}
 use Rattle.std.proofs.lemmas.Bool.{false≢true}
 use Rattle.std.proofs.lemmas.List.{append-nil}
 use Rattle.std.proofs.lemmas.List.Folds.{list_any-append}
-use Rattle.mlr_event.specs.Adding.{Adds}
 use Rattle.mlr_event.specs.declared.event.Ctx.{Ctx}
 use Rattle.mlr_event.specs.declared.event.Event.{Event}
 use Rattle.mlr_event.specs.declared.event.Event.TheVariants.{End}
 use Rattle.mlr_event.specs.declared.names.InputName.{InputName}
 use Rattle.mlr_event.specs.declared.options.ReadOpts.{ReadOpts}
-use Rattle.mlr_event.specs.Verb.{is_end, is_fault, is_open, is_part}
+use Rattle.mlr_event.specs.Verb.{is_fault, is_open, is_part}
 use Rattle.mlr_world.specs.Taken.{Take, ended, grown}
-use Rattle.read_files.specs.declared.open_file.OpenInput.{OpenInput}
-use Rattle.read_files.specs.declared.reader.FileReader.{FileReader}
-use Rattle.read_files.specs.declared.reader.ReadTurn.TheVariants.{Went, Ended, Failed, TooLong, NoMemory}
-use Rattle.read_files.specs.Takes.{GoesOn, InOrder, TakeGoesOn, ends, stops_at, total, with_last}
-use Rattle.read_files.specs.Readers.{FileRepresents}
-use Rattle.read_files.specs.Sources.{Source, ctx_after_events, ctx_from, events_from, events_taken, gives_as, is_whole, source, until_fault, zero_context}
-use Rattle.read_files.specs.Represents.{AllRead, Represents, TurnSays, can_read, source_after}
-use Rattle.read_files.specs.Steps.{AppendsEnd, Stepped}
+use Rattle.read_files.specs.Takes.{GoesOn, InOrder, stops_at, total, with_last}
+use Rattle.read_files.specs.Sources.{Source, ctx_after_events, ctx_from, events_from, events_taken, gives_as, source, until_fault, zero_context}
+use Rattle.read_files.specs.Represents.{AllRead, source_after}
 use Rattle.read_files.proofs.Events.{clear-open, end-closed, fault-closed, part-rest, part-until, until-following, until-clear, until-no_end, until-open}
 use Rattle.read_files.proofs.Formats.{gives-filenum, gives-part}
-use Rattle.read_files.proofs.Given.{ctx-append, ends-append, events-append, goes_on-last, last_take-push, order-following, read-append, stops-following, total-append, with_last-push}
+use Rattle.read_files.proofs.Given.{ctx-append, events-append, goes_on-last, order-following, stops-following, total-append, with_last-push}
 use Rattle.read_files.proofs.Growing.{inputs-no_end}
 
 -- what inputs give that stop at one of them, and what they give whole

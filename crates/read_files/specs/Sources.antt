@@ -1,5 +1,5 @@
 -- What the bytes of an input give, and the inputs of a run one after another.
-use Rattle.std.specs.Prelude.{◌≡◌, ℕ, ◌+◌, Bool, true, false, not, ◌&&◌, if◌then◌else◌, List, [], ◌∷◌, ◌++◌, Option, Some, None, is_some}
+use Rattle.std.specs.Prelude.{ℕ, ◌+◌, Bool, true, false, not, ◌&&◌, if◌then◌else◌, List, [], ◌∷◌, ◌++◌, is_some}
 use Rattle.std.specs.List.{list_any}
 use Rattle.mlr_event.specs.declared.event.Ctx.{Ctx}
 use Rattle.mlr_event.specs.declared.event.Event.{Event}
@@ -15,7 +15,7 @@ use Rattle.mlr_world.specs.Taken.{Take}
 use Rattle.read_csv.specs.Rows.{csv_fed, csv_read}
 use Rattle.read_dkvp_nidx.specs.Lines.{line_fed, line_read}
 use Rattle.read_xtab_pprint.specs.Blocks.{block_fed, block_read}
-use Rattle.read_json_lines.specs.Files.{json_fed, json_read}
+use Rattle.read_json_lines.specs.Json.{json_fed, json_read}
 use Rattle.read_files.specs.Takes.{stops_at}
 
 -- a file that is read: with which options, as which input, and after which record
@@ -28,46 +28,21 @@ pub record Source : Type 0 where
 abbrev pub Gives : Type 0
 Gives = Bool → List ℕ → List Event
 
-abbrev pub gives_by : (Source → List ℕ → List Event) → (Source → List ℕ → List Event) → Source → Gives
-gives_by fed whole source true bytes = whole source bytes
-gives_by fed whole source false bytes = fed source bytes
-
--- what the bytes of a source fix, and what they give as a whole file
-abbrev pub csv_fed_of : Source → List ℕ → List Event
-csv_fed_of source bytes = csv_fed source.opts source.file source.ctx bytes
-
-abbrev pub csv_read_of : Source → List ℕ → List Event
-csv_read_of source bytes = csv_read source.opts source.file source.ctx bytes
-
-abbrev pub line_fed_of : Source → List ℕ → List Event
-line_fed_of source bytes = line_fed source.opts source.file source.ctx bytes
-
-abbrev pub line_read_of : Source → List ℕ → List Event
-line_read_of source bytes = line_read source.opts source.file source.ctx bytes
-
-abbrev pub block_fed_of : Source → List ℕ → List Event
-block_fed_of source bytes = block_fed source.opts source.file source.ctx bytes
-
-abbrev pub block_read_of : Source → List ℕ → List Event
-block_read_of source bytes = block_read source.opts source.file source.ctx bytes
-
-abbrev pub json_fed_of : Source → List ℕ → List Event
-json_fed_of source bytes = json_fed source.opts source.file source.ctx bytes
-
-abbrev pub json_read_of : Source → List ℕ → List Event
-json_read_of source bytes = json_read source.opts source.file source.ctx bytes
+abbrev pub gives_by : (ReadOpts → FileRef → Ctx → List ℕ → List Event) → (ReadOpts → FileRef → Ctx → List ℕ → List Event) → Source → Gives
+gives_by fed whole source true bytes = whole source.opts source.file source.ctx bytes
+gives_by fed whole source false bytes = fed source.opts source.file source.ctx bytes
 
 -- what a source gives by the reader of a format
 abbrev pub gives_as : Format → Source → Gives
-gives_as format.Csv source = gives_by csv_fed_of csv_read_of source
-gives_as format.Tsv source = gives_by csv_fed_of csv_read_of source
-gives_as format.Dkvp source = gives_by line_fed_of line_read_of source
-gives_as format.Nidx source = gives_by line_fed_of line_read_of source
-gives_as format.Markdown source = gives_by line_fed_of line_read_of source
-gives_as format.Xtab source = gives_by block_fed_of block_read_of source
-gives_as format.Pprint source = gives_by block_fed_of block_read_of source
-gives_as format.Json source = gives_by json_fed_of json_read_of source
-gives_as format.Jsonl source = gives_by json_fed_of json_read_of source
+gives_as format.Csv source = gives_by csv_fed csv_read source
+gives_as format.Tsv source = gives_by csv_fed csv_read source
+gives_as format.Dkvp source = gives_by line_fed line_read source
+gives_as format.Nidx source = gives_by line_fed line_read source
+gives_as format.Markdown source = gives_by line_fed line_read source
+gives_as format.Xtab source = gives_by block_fed block_read source
+gives_as format.Pprint source = gives_by block_fed block_read source
+gives_as format.Json source = gives_by json_fed json_read source
+gives_as format.Jsonl source = gives_by json_fed json_read source
 
 -- before the first input
 abbrev pub zero_context : Ctx

@@ -1,5 +1,5 @@
 -- What was taken of inputs, one after another.
-use Rattle.std.specs.Prelude.{◌≡◌, ℕ, ◌+◌, ◌-◌, nat_le, Bool, true, false, if◌then◌else◌, List, [], ◌∷◌, ◌++◌, length, take, Option, Some, None, IfSome}
+use Rattle.std.specs.Prelude.{◌≡◌, ℕ, ◌+◌, ◌-◌, nat_le, true, false, if◌then◌else◌, List, [], ◌∷◌, ◌++◌, length, take, Option, Some, None, IfSome}
 use Rattle.std.specs.Option.{option_map}
 use Rattle.mlr_event.specs.declared.names.InputName.{InputName}
 use Rattle.mlr_world.specs.Inputs.{Contents}

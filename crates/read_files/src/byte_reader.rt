@@ -3,19 +3,15 @@ ghost use Rattle.std.specs.Prelude.{◌≡◌, ◌+◌, ◌<◌, ◌≤◌, ◌^
 ghost use Rattle.mlr_event.specs.declared.event.Event.{Event};
 ghost use Rattle.mlr_event.specs.declared.options.ReadOpts.{ReadOpts};
 ghost use Rattle.mlr_event.specs.Adding.{Adds};
-ghost use Rattle.read_csv.specs.Usable.{is_usable as csv_usable};
-ghost use Rattle.read_dkvp_nidx.specs.Usable.{is_usable as line_usable};
-ghost use Rattle.read_xtab_pprint.specs.Usable.{is_usable as block_usable};
 ghost use Rattle.read_json_lines.specs.Represents.{is_usable as json_usable};
-ghost use Rattle.read_files.specs.Readers.{counted, CsvRepresents, LineRepresents, BlockRepresents, JsonRepresents};
-ghost use Rattle.read_files.specs.Sources.{Source, ctx_after_events, csv_fed_of, csv_read_of, line_fed_of, line_read_of, block_fed_of, block_read_of, json_fed_of, json_read_of};
+ghost use Rattle.read_json_lines.specs.Json.{json_fed, json_read};
+ghost use Rattle.read_files.specs.Readers.{counted, JsonRepresents, LinesRepresent};
+ghost use Rattle.read_files.specs.Sources.{Source, ctx_after_events};
 
 use mlr_event::{Ctx, Events, FileRef, ReadOpts};
+use mlr_lines::{LineFormat, Reader};
 use mlr_spec::NoMemory;
-use read_csv::CsvReader;
-use read_dkvp_nidx::LineReader;
 use read_json_lines::JsonReader;
-use read_xtab_pprint::BlockReader;
 use std::alloc::Global;
 
 /// A reader of one file: its bytes come in any pieces, and the events that they fix go out.
@@ -62,71 +58,28 @@ pub(crate) trait ByteReader {
             → IfOk result (λ ctx. ctx.nr ≤ counted source (length bytes) + 1) };
 }
 
-impl ByteReader for CsvReader {
-    ghost usable = { λ opts. csv_usable opts ≡ true };
+impl<F: LineFormat> ByteReader for Reader<F> {
+    ghost use Rattle.mlr_event.specs.Reading.{events_of};
 
-    ghost represents = { λ reader source bytes. CsvRepresents reader source bytes };
+    ghost usable = { λ opts. F.usable opts ≡ true };
 
-    ghost fed = { λ source bytes. csv_fed_of source bytes };
+    ghost represents = { λ reader source bytes.
+        LinesRepresent F.begins F.after F.count reader source bytes };
 
-    ghost whole = { λ source bytes. csv_read_of source bytes };
+    ghost fed = { λ source bytes. events_of source.ctx (F.fed source.opts source.file bytes) };
+
+    ghost whole = { λ source bytes. events_of source.ctx (F.whole source.opts source.file bytes) };
 
     fn begin(alloc: Global, opts: &ReadOpts, file: FileRef, start: Ctx) -> Result<Self, NoMemory> {
-        CsvReader::new(alloc, opts, file, start)
+        Reader::new(alloc, opts, file, start)
     }
 
     fn feed(&mut self, piece: &[u8], out: &mut Events) -> Result<(), NoMemory> {
-        CsvReader::feed(self, piece, out)
+        Reader::feed(self, piece, out)
     }
 
     fn end(&mut self, out: &mut Events) -> Result<Ctx, NoMemory> {
-        CsvReader::end(self, out)?;
-        Ok(self.ctx())
-    }
-}
-
-impl ByteReader for LineReader {
-    ghost usable = { λ opts. line_usable opts ≡ true };
-
-    ghost represents = { λ reader source bytes. LineRepresents reader source bytes };
-
-    ghost fed = { λ source bytes. line_fed_of source bytes };
-
-    ghost whole = { λ source bytes. line_read_of source bytes };
-
-    fn begin(alloc: Global, opts: &ReadOpts, file: FileRef, start: Ctx) -> Result<Self, NoMemory> {
-        LineReader::new(alloc, opts, file, start)
-    }
-
-    fn feed(&mut self, piece: &[u8], out: &mut Events) -> Result<(), NoMemory> {
-        LineReader::feed(self, piece, out)
-    }
-
-    fn end(&mut self, out: &mut Events) -> Result<Ctx, NoMemory> {
-        LineReader::end(self, out)?;
-        Ok(self.ctx())
-    }
-}
-
-impl ByteReader for BlockReader {
-    ghost usable = { λ opts. block_usable opts ≡ true };
-
-    ghost represents = { λ reader source bytes. BlockRepresents reader source bytes };
-
-    ghost fed = { λ source bytes. block_fed_of source bytes };
-
-    ghost whole = { λ source bytes. block_read_of source bytes };
-
-    fn begin(alloc: Global, opts: &ReadOpts, file: FileRef, start: Ctx) -> Result<Self, NoMemory> {
-        BlockReader::new(alloc, opts, file, start)
-    }
-
-    fn feed(&mut self, piece: &[u8], out: &mut Events) -> Result<(), NoMemory> {
-        BlockReader::feed(self, piece, out)
-    }
-
-    fn end(&mut self, out: &mut Events) -> Result<Ctx, NoMemory> {
-        BlockReader::end(self, out)?;
+        Reader::end(self, out)?;
         Ok(self.ctx())
     }
 }
@@ -136,9 +89,9 @@ impl ByteReader for JsonReader {
 
     ghost represents = { λ reader source bytes. JsonRepresents reader source bytes };
 
-    ghost fed = { λ source bytes. json_fed_of source bytes };
+    ghost fed = { λ source bytes. json_fed source.opts source.file source.ctx bytes };
 
-    ghost whole = { λ source bytes. json_read_of source bytes };
+    ghost whole = { λ source bytes. json_read source.opts source.file source.ctx bytes };
 
     fn begin(alloc: Global, opts: &ReadOpts, file: FileRef, start: Ctx) -> Result<Self, NoMemory> {
         JsonReader::new(alloc, opts, file, start)

@@ -4,8 +4,8 @@ use Rattle.std.proofs.Crossing.{crosses}
 use Rattle.mlr_json.proofs.Crosses.{crosses_json}
 use Rattle.mlr_event.proofs.Crosses.{crosses_reading}
 use Rattle.read_json_lines.specs.contracts.listing.Listing
-use Rattle.read_json_lines.specs.contracts.reader.JsonReader
-use Rattle.read_json_lines.specs.contracts.reader.Stage
+use Rattle.read_json_lines.specs.contracts.json.JsonReader
+use Rattle.read_json_lines.specs.contracts.json.Stage
 use Rattle.read_json_lines.specs.contracts.record_state.RecordState
 use Rattle.read_json_lines.specs.contracts.stream.Stream
 use Rattle.read_json_lines.specs.contracts.strings.OpenText

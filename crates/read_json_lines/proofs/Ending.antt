@@ -14,7 +14,7 @@ use Rattle.read_json_lines.specs.declared.stream.Stream.{Stream}
 use Rattle.read_json_lines.specs.declared.strings.OpenText.{OpenText}
 use Rattle.read_json_lines.specs.Records as records
 use Rattle.read_json_lines.specs.Records.{State, goes, gives, fails, turn, stops, items_of, is_at_rest, end_items, ends, fault_of}
-use Rattle.read_json_lines.specs.Files.{Settled, items_in, tokens_known}
+use Rattle.read_json_lines.specs.Json.{Settled, items_in, tokens_known}
 use Rattle.read_json_lines.specs.Turns.{state_of, IsOn}
 use Rattle.read_json_lines.specs.Streams.{and_token, or_stop, outside, future, rest_items, items_at, tokens_of, text_tokens, text_after, FitsText, IsFit, Takes, Appends, HasPut}
 use Rattle.read_json_lines.proofs.Lexing.{left-begun, nothing-between}

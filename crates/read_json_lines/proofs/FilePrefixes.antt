@@ -12,7 +12,7 @@ use Rattle.mlr_event.specs.Stream.{has_fault, events_after}
 use Rattle.mlr_event.proofs.Streams.{events_of-append}
 use Rattle.read_json_lines.specs.declared.listing.Trouble.TheVariants.{Syntax}
 use Rattle.read_json_lines.specs.Records.{start_state, fault_of}
-use Rattle.read_json_lines.specs.Files.{items_in, file_items}
+use Rattle.read_json_lines.specs.Json.{items_in, file_items}
 use Rattle.read_json_lines.specs.Streams.{outside}
 use Rattle.read_json_lines.proofs.Marks.{first-other, second-other, third-other, marked}
 use Rattle.read_json_lines.proofs.Representing.{marked-nothing}

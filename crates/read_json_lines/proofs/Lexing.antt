@@ -6,7 +6,7 @@ use Rattle.mlr_spec.specs.JsonTokens.{Lexeme, blank, mark, word, quote, Scanned,
 use Rattle.mlr_json.specs.Reading.{lexemes_left}
 use Rattle.mlr_json.proofs.Left.{left-found}
 use Rattle.read_json_lines.specs.Records.{goes_on, begins, stops}
-use Rattle.read_json_lines.specs.Files.{Settled, and_settled, ending, is_begun, settled, known}
+use Rattle.read_json_lines.specs.Json.{Settled, and_settled, ending, is_begun, settled, known}
 use Rattle.read_json_lines.specs.Streams.{left}
 
 -- one lexeme and the rest, in at most n more steps

@@ -19,16 +19,5 @@ pub mod Marking
 pub mod Moving
 pub mod Stays
 pub mod FilePrefixes
-pub mod GrammarFlows
-pub mod GrammarOver
-pub mod GrammarParts
-pub mod GrammarMaps
-pub mod GrammarPositions
-pub mod GrammarTurns
-pub mod GrammarBetween
-pub mod GrammarItems
-pub mod GrammarAlong
-pub mod GrammarStreams
-pub mod GrammarUnique
-pub mod GrammarExamples
 pub mod Crosses
+pub mod Grammar

@@ -13,7 +13,7 @@ use Rattle.mlr_event.specs.Reading.{ctx_after, events_of}
 use Rattle.read_json_lines.specs.declared.listing.Trouble.TheVariants.{Syntax}
 use Rattle.read_json_lines.specs.declared.stream.Stream.{Stream}
 use Rattle.read_json_lines.specs.Records.{start_state, fault_of}
-use Rattle.read_json_lines.specs.Files.{items_in, file_items}
+use Rattle.read_json_lines.specs.Json.{items_in, file_items}
 use Rattle.read_json_lines.specs.Streams.{HasPut, Starts, outside}
 use Rattle.read_json_lines.specs.Represents.{Goes, Moves, RepresentsWith, byte_order_mark}
 use Rattle.read_json_lines.proofs.Taking.{nothing-following}

@@ -11,7 +11,7 @@ use Rattle.mlr_event.specs.Reading.{Item}
 use Rattle.read_json_lines.specs.declared.listing.Trouble.TheVariants.{Syntax}
 use Rattle.read_json_lines.specs.declared.stream.Stream.{Stream}
 use Rattle.read_json_lines.specs.Records.{start_state, fault_of}
-use Rattle.read_json_lines.specs.Files.{known, items_in, tokens_known, is_mark_begun, mark_part, file_items}
+use Rattle.read_json_lines.specs.Json.{known, items_in, tokens_known, is_mark_begun, mark_part, file_items}
 use Rattle.read_json_lines.specs.Turns.{state_of}
 use Rattle.read_json_lines.specs.Streams.{outside, future, Starts}
 use Rattle.read_json_lines.proofs.Taking.{all-following}

@@ -11,7 +11,7 @@ use Rattle.mlr_event.specs.Stream.{has_fault, events_after, ctx_after_events}
 use Rattle.mlr_event.proofs.Streams.{events_of-append, ctx_after-append, has_fault-append}
 use Rattle.mlr_event.specs.Adding.{Adds}
 use Rattle.read_json_lines.specs.declared.stream.Stream.{Stream}
-use Rattle.read_json_lines.specs.Files.{file_items, json_fed}
+use Rattle.read_json_lines.specs.Json.{file_items, json_fed}
 use Rattle.read_json_lines.specs.Streams.{IsFit, Turned, future}
 use Rattle.read_json_lines.specs.Represents.{Gave, Moves, RepresentsBy, RepresentsWith, byte_order_mark}
 use Rattle.read_json_lines.proofs.Taking.{nothing-following}

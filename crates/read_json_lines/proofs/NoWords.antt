@@ -16,7 +16,7 @@ use Rattle.read_json_lines.specs.declared.listing.Listing.{Listing}
 use Rattle.read_json_lines.specs.declared.listing.Trouble.TheVariants.{Syntax, Kind}
 use Rattle.read_json_lines.specs.Records as records
 use Rattle.read_json_lines.specs.Records.{State, goes, gives, fails, turn, turn_between, value_turn, is_after, takes_word, fault_of, items_of}
-use Rattle.read_json_lines.specs.Files.{Known, items_in}
+use Rattle.read_json_lines.specs.Json.{Known, items_in}
 use Rattle.read_json_lines.specs.Streams.{or_stop, outside}
 use Rattle.read_json_lines.proofs.Outside.{outside-word, outside-last, outside-open}
 

@@ -8,7 +8,7 @@ use Rattle.mlr_spec.specs.JsonTokens.{Piece, blank, mark, word, quote, piece, fo
 use Rattle.mlr_json.specs.Reading.{lexemes_left}
 use Rattle.mlr_json.proofs.Left.{left-found}
 use Rattle.read_json_lines.specs.Records.{Ending, begins}
-use Rattle.read_json_lines.specs.Files.{Settled, ending, known, tokens_then, tokens_known, tokens_known_inside}
+use Rattle.read_json_lines.specs.Json.{Settled, ending, known, tokens_then, tokens_known, tokens_known_inside}
 use Rattle.read_json_lines.specs.Streams.{and_token, or_stop, left, outside, inside, pieces}
 use Rattle.read_json_lines.proofs.Lexing.{left-step, left-bad, word-ends, none-left}
 

@@ -12,7 +12,7 @@ use Rattle.read_json_lines.specs.declared.stream.Stream.{Stream}
 use Rattle.read_json_lines.specs.declared.strings.OpenText.{OpenText}
 use Rattle.read_json_lines.specs.Records as records
 use Rattle.read_json_lines.specs.Records.{State, goes, gives, fails, turn, goes_on, stops, fault_of, items_of}
-use Rattle.read_json_lines.specs.Files.{ending, items_in, tokens_known}
+use Rattle.read_json_lines.specs.Json.{ending, items_in, tokens_known}
 use Rattle.read_json_lines.specs.Turns.{state_of, IsOn}
 use Rattle.read_json_lines.specs.Streams.{and_token, outside, future, items_at, tokens_of, text_tokens, text_after, FitsText, IsFit}
 use Rattle.read_json_lines.proofs.Lexing.{left-begun, stopped_at, nothing-between}

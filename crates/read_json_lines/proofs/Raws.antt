@@ -10,7 +10,7 @@ use Rattle.mlr_spec.specs.declared.infer.InferOpts.{InferOpts}
 use Rattle.mlr_spec.specs.JsonTokens.{Piece, raw, unit, Lexeme, piece, quote, Scanned, found, begun, bad, is_raw, is_hex, escape_of, lexeme_of_unit, lexeme_inside, lexeme_of_escape, decoded, lone_unit, text_token}
 use Rattle.mlr_json.specs.Decoding.{pending}
 use Rattle.mlr_json.proofs.Stable.{stays-found, escape-stays, run-stays}
-use Rattle.read_json_lines.specs.Files.{Known}
+use Rattle.read_json_lines.specs.Json.{Known}
 use Rattle.read_json_lines.specs.declared.strings.OpenText.{OpenText}
 use Rattle.read_json_lines.specs.Streams.{and_token, inside, pieces, text_tokens, is_quote}
 use Rattle.read_json_lines.proofs.Lexing.{nothing-inside}

@@ -16,7 +16,7 @@ use Rattle.mlr_event.specs.Adding.{Adds}
 use Rattle.read_json_lines.specs.declared.listing.Trouble.TheVariants.{Syntax}
 use Rattle.read_json_lines.specs.declared.stream.Stream.{Stream}
 use Rattle.read_json_lines.specs.Records.{start_state, fault_of}
-use Rattle.read_json_lines.specs.Files.{items_in, tokens_known, file_items, ctx_fed, ctx_read, json_fed, json_read}
+use Rattle.read_json_lines.specs.Json.{items_in, tokens_known, file_items, ctx_fed, ctx_read, json_fed, json_read}
 use Rattle.read_json_lines.specs.Streams.{IsFit, Appends, HasPut, future}
 use Rattle.read_json_lines.specs.Represents.{Gave, RepresentsBy, byte_order_mark}
 use Rattle.read_json_lines.proofs.Lexing.{left-begun, nothing-between}

@@ -15,7 +15,7 @@ use Rattle.read_json_lines.specs.declared.listing.Trouble.{Trouble}
 use Rattle.read_json_lines.specs.declared.listing.Trouble.TheVariants.{Syntax}
 use Rattle.read_json_lines.specs.Records as records
 use Rattle.read_json_lines.specs.Records.{State, goes, gives, fails, turn, goes_on, stops, fault_of, takes_word, end_items, items_of}
-use Rattle.read_json_lines.specs.Files.{Known, ending, items_in, tokens_known}
+use Rattle.read_json_lines.specs.Json.{Known, ending, items_in, tokens_known}
 use Rattle.read_json_lines.specs.Streams.{and_token, or_stop, outside, inside, pieces}
 use Rattle.read_json_lines.proofs.Lexing.{left-begun, left-bad, stopped_at, ending-stops, nothing-between, nothing-inside}
 use Rattle.read_json_lines.proofs.Outside.{outside-mark, outside-one-blank, outside-quote, outside-word, outside-bad, inside-quote, inside-piece, inside-stops, outside-open}

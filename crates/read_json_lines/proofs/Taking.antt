@@ -17,7 +17,7 @@ use Rattle.read_json_lines.specs.declared.record_state.Turn.TheVariants.{On, Rec
 use Rattle.read_json_lines.specs.declared.stream.Stream.{Stream}
 use Rattle.read_json_lines.specs.Records as records
 use Rattle.read_json_lines.specs.Records.{State, Ending, goes, gives, fails, turn, fault_of, items_of}
-use Rattle.read_json_lines.specs.Files.{Known, items_in}
+use Rattle.read_json_lines.specs.Json.{Known, items_in}
 use Rattle.read_json_lines.specs.Turns.{state_of, IsTurn, RefusesText}
 use Rattle.read_json_lines.specs.Streams.{and_token, Takes, Appends, Counts, HasPut, Opens, rest_items, turn_items, text_tokens, text_after}
 

@@ -27,7 +27,7 @@ use Rattle.mlr_event.proofs.Streams.{events_of-append, ctx_after-append, has_fau
 use Rattle.mlr_event.specs.Stream.{has_fault, events_after, ctx_after_events}
 use Rattle.read_json_lines.specs.declared.stream.Stream.{Stream}
 use Rattle.read_json_lines.specs.declared.strings.OpenText.{OpenText}
-use Rattle.read_json_lines.specs.Files.{Known, ending, items_in}
+use Rattle.read_json_lines.specs.Json.{Known, ending, items_in}
 use Rattle.read_json_lines.specs.Turns.{state_of, IsOn}
 use Rattle.read_json_lines.specs.Streams.{and_token, or_stop, outside, inside, pieces, text_tokens, text_after, tokens_of, IsOpen, Opens, Pushes, is_quote, HasPut, future, items_at, rest_items, IsFit, FitsText, Takes, Turned}
 use Rattle.read_json_lines.proofs.Taking.{all-following, nothing-following}

@@ -1,5 +1,5 @@
 pub mod Records
-pub mod Files
+pub mod Json
 pub mod Turns
 pub mod Streams
 pub mod Represents

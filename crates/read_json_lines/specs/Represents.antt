@@ -9,10 +9,10 @@ use Rattle.mlr_event.specs.declared.options.ReadOpts.{ReadOpts}
 use Rattle.mlr_event.specs.declared.event.Event.{Event}
 use Rattle.mlr_event.specs.Reading.{Item, ctx_after, events_of}
 use Rattle.mlr_event.specs.Stream.{has_fault}
-use Rattle.read_json_lines.specs.declared.reader.JsonReader.{JsonReader}
-use Rattle.read_json_lines.specs.declared.reader.Stage.TheVariants.{Open, Ended, Broken}
+use Rattle.read_json_lines.specs.declared.json.JsonReader.{JsonReader}
+use Rattle.read_json_lines.specs.declared.json.Stage.TheVariants.{Open, Ended, Broken}
 use Rattle.read_json_lines.specs.declared.stream.Stream.{Stream}
-use Rattle.read_json_lines.specs.Files.{ctx_read, file_items}
+use Rattle.read_json_lines.specs.Json.{ctx_read, file_items}
 use Rattle.read_json_lines.specs.Streams.{IsFit, Starts, count_of, future}
 
 -- the format is JSON or JSON Lines

@@ -19,7 +19,7 @@ use Rattle.read_json_lines.specs.declared.record_state.Turn.TheVariants.{On, Rec
 use Rattle.read_json_lines.specs.declared.stream.Stream.{Stream}
 use Rattle.read_json_lines.specs.declared.strings.OpenText.{OpenText}
 use Rattle.read_json_lines.specs.Records.{State, start_state, stops, fault_of, takes_word, turn}
-use Rattle.read_json_lines.specs.Files.{Settled, Known, known, tokens_known, tokens_known_inside, items_in}
+use Rattle.read_json_lines.specs.Json.{Settled, Known, known, tokens_known, tokens_known_inside, items_in}
 use Rattle.read_json_lines.specs.Turns.{state_of, IsOn}
 
 -- the known lexemes of the rest of the text, which begins within a string or outside

@@ -6,7 +6,7 @@ ghost use Rattle.mlr_event.specs.declared.names.FileRef.{FileRef};
 ghost use Rattle.mlr_event.specs.declared.options.ReadOpts.{ReadOpts};
 ghost use Rattle.mlr_event.specs.Reading.{Item};
 ghost use Rattle.mlr_spec.specs.JsonTokens.{Token};
-ghost use Rattle.read_json_lines.specs.Files.{json_fed, json_read};
+ghost use Rattle.read_json_lines.specs.Json.{json_fed, json_read};
 ghost use Rattle.read_json_lines.specs.Grammar.{HasItems};
 ghost use Rattle.read_json_lines.specs.Records.{Ending, items_of, start_state};
 

@@ -1,9 +1,9 @@
 //! The reader of JSON and JSON Lines.
 #![tactic(auto)]
 
+mod json;
 mod laws;
 mod listing;
-mod reader;
 mod record_state;
 mod records;
 mod stream;
@@ -11,5 +11,5 @@ mod strings;
 #[cfg(test)]
 mod tests;
 
+pub use json::{JsonReader, can_read};
 pub use laws::{prefix_laws, stream_law};
-pub use reader::{JsonReader, can_read};

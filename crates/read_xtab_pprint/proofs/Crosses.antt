@@ -1,10 +1,8 @@
--- A reader may go into a thread.
+-- The state of reading a file may go into a thread, and so may its reader.
 use denote.Param.Send.{IsSend, sendable}
 use Rattle.std.proofs.Crossing.{crosses}
-use Rattle.mlr_lines.proofs.lines.Lines.TheSendSync as lines
 use Rattle.mlr_event.proofs.Crosses.{crosses_events, crosses_reading}
 use Rattle.mlr_fields.proofs.Crosses.{crosses_fields}
-use Rattle.read_xtab_pprint.specs.contracts.reader.BlockReader
 use Rattle.read_xtab_pprint.specs.contracts.rules.BlockRules
 use Rattle.read_xtab_pprint.specs.contracts.rules.PprintRules
 use Rattle.read_xtab_pprint.specs.contracts.rules.XtabRules
@@ -15,8 +13,5 @@ PprintRules-send = search (crosses_fields, crosses_reading, crosses, sendable) d
 XtabRules-send : IsSend XtabRules.the_field.row
 XtabRules-send = search (crosses_fields, crosses_events, crosses_reading, crosses, sendable) depth 60 fits 20000
 
-BlockRules-send : IsSend BlockRules.the_field.row
+pub BlockRules-send : IsSend BlockRules.the_field.row
 BlockRules-send = search (PprintRules-send, XtabRules-send, crosses, sendable) depth 60 fits 20000
-
-pub BlockReader-field-send : IsSend BlockReader.the_field.row
-BlockReader-field-send = search (BlockRules-send, lines.the_send, crosses, sendable) depth 60 fits 20000

@@ -12,10 +12,9 @@ use Rattle.read_xtab_pprint.specs.declared.rules.BlockRules.{BlockRules}
 use Rattle.read_xtab_pprint.specs.declared.rules.BlockRules.TheVariants as by
 use Rattle.read_xtab_pprint.specs.declared.rules.PprintRules.{PprintRules}
 use Rattle.read_xtab_pprint.specs.declared.rules.XtabRules.{XtabRules}
-use Rattle.read_xtab_pprint.specs.Blocks.{block_fed, block_read, items_fixed, items_whole}
+use Rattle.read_xtab_pprint.specs.Blocks.{block_fed, block_read, ctx_fed, ctx_read, items_fixed, items_whole}
 use Rattle.read_xtab_pprint.specs.PprintRules.{pprint_after, pprint_events}
 use Rattle.read_xtab_pprint.specs.Rules.{Begins, after_last, after_line, at_of, gives_last, gives_line}
-use Rattle.read_xtab_pprint.specs.Represents.{ctx_fed, ctx_read}
 use Rattle.read_xtab_pprint.specs.XtabRules.{after_gap, gap_events, xtab_after, xtab_events}
 use Rattle.read_xtab_pprint.proofs.Pprinting.{pprint-after-last, pprint-give, pprint-gives-last, pprint-represent}
 use Rattle.read_xtab_pprint.proofs.Xtabbing.{xtab-after-last, xtab-give, xtab-gives-last, xtab-last, xtab-last-at, xtab-represent}

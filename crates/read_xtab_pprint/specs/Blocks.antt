@@ -7,7 +7,7 @@ use Rattle.mlr_event.specs.declared.names.FileRef.{FileRef}
 use Rattle.mlr_event.specs.declared.options.Format.{Format}
 use Rattle.mlr_event.specs.declared.options.Format.TheVariants as format
 use Rattle.mlr_event.specs.declared.options.ReadOpts.{ReadOpts}
-use Rattle.mlr_event.specs.Reading.{Item, events_of}
+use Rattle.mlr_event.specs.Reading.{Item, ctx_after, events_of}
 use Rattle.read_xtab_pprint.specs.Xtab.{xtab_fixed, xtab_items}
 use Rattle.read_xtab_pprint.specs.Pprint.{pprint_items}
 
@@ -29,3 +29,10 @@ block_read opts file start bytes = events_of start (items_whole opts file opts.f
 
 abbrev pub block_fed : ReadOpts → FileRef → Ctx → List ℕ → List Event
 block_fed opts file start bytes = events_of start (items_fixed opts file opts.format (fixed_lines bytes))
+
+-- the context of the last record that the bytes so far fix, and of the last record of a whole file
+abbrev pub ctx_fed : ReadOpts → FileRef → Ctx → List ℕ → Ctx
+ctx_fed opts file start bytes = ctx_after start (items_fixed opts file opts.format (fixed_lines bytes))
+
+abbrev pub ctx_read : ReadOpts → FileRef → Ctx → List ℕ → Ctx
+ctx_read opts file start bytes = ctx_after start (items_whole opts file opts.format (whole_lines bytes))

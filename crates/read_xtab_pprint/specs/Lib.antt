@@ -10,4 +10,3 @@ pub mod Usable
 pub mod Last
 pub mod Rules
 pub mod Counting
-pub mod Represents

@@ -1,15 +1,24 @@
 //! Passes each line of a file to the format's reader.
-ghost use Rattle.std.specs.Prelude.{◌≡◌};
-ghost use Rattle.read_xtab_pprint.specs.Rules.{at_of};
-
-use crate::rules::BlockRules;
-use mlr_event::{Ctx, Events};
+use crate::rules::{BlockRules, PprintRules, XtabRules};
+use mlr_event::{Ctx, Events, FileRef, Format, ReadOpts};
 use mlr_lines::{LineFormat, without_return};
 use mlr_spec::NoMemory;
+use std::alloc::Global;
 
 impl LineFormat for BlockRules {
-    ghost use Rattle.read_xtab_pprint.specs.Rules.{after_last, after_line, count_of, gives_last, gives_line};
+    ghost use Rattle.mlr_lines.specs.Lines.{fixed_lines, whole_lines};
+    ghost use Rattle.read_xtab_pprint.specs.Blocks.{items_fixed, items_whole};
     ghost use Rattle.read_xtab_pprint.specs.Counting.{count-line};
+    ghost use Rattle.read_xtab_pprint.specs.Rules.{Begins, after_last, after_line, at_of, count_of, gives_last, gives_line};
+    ghost use Rattle.read_xtab_pprint.specs.Usable.{is_usable};
+
+    ghost usable = { is_usable };
+
+    ghost fed = { λ opts file bytes. items_fixed opts file opts.format (fixed_lines bytes) };
+
+    ghost whole = { λ opts file bytes. items_whole opts file opts.format (whole_lines bytes) };
+
+    ghost begins = { Begins };
 
     ghost after = { after_line };
 
@@ -19,9 +28,32 @@ impl LineFormat for BlockRules {
 
     ghost gives_last = { gives_last };
 
+    ghost at = { at_of };
+
     ghost count = { count_of };
 
     ghost counts = { count-line };
+
+    fn begin(alloc: Global, opts: ReadOpts, file: FileRef, start: Ctx) -> Self {
+        match opts.format {
+            Format::Xtab => BlockRules::Xtab(XtabRules {
+                alloc,
+                opts,
+                passed: Events::new(alloc),
+                begun: None,
+                at: start,
+            }),
+            _ => BlockRules::Pprint(PprintRules {
+                alloc,
+                opts,
+                file,
+                number: 1,
+                header: None,
+                at: start,
+                stopped: false,
+            }),
+        }
+    }
 
     fn line(&mut self, line: &[u8], out: &mut Events) -> Result<(), NoMemory> {
         let text = without_return(line);
@@ -37,16 +69,13 @@ impl LineFormat for BlockRules {
             BlockRules::Xtab(rules) => rules.take_last(line, out),
         }
     }
-}
 
-impl BlockRules {
-    /// The context of the last record.
-    pub(crate) fn at(&self) -> Ctx
-        ensures { result ≡ at_of self.now }
-    {
+    fn ctx(&self) -> Ctx {
         match self {
             BlockRules::Pprint(rules) => rules.at,
             BlockRules::Xtab(rules) => rules.at,
         }
     }
+
+    fn laws() {}
 }

@@ -5,7 +5,7 @@ use std::alloc::Global;
 
 /// How the lines of a PPRINT file are read, and the state after the lines so far.
 #[derive(Drop)]
-pub(crate) struct PprintRules {
+pub struct PprintRules {
     pub(crate) alloc: Global,
     pub(crate) opts: ReadOpts,
     pub(crate) file: FileRef,
@@ -21,7 +21,7 @@ pub(crate) struct PprintRules {
 
 /// How the lines of an XTAB file are read, and the state after the lines so far.
 #[derive(Drop)]
-pub(crate) struct XtabRules {
+pub struct XtabRules {
     pub(crate) alloc: Global,
     pub(crate) opts: ReadOpts,
     /// The events of the comments since the last empty line.
@@ -34,7 +34,7 @@ pub(crate) struct XtabRules {
 
 /// The state for either format.
 #[derive(Drop)]
-pub(crate) enum BlockRules {
+pub enum BlockRules {
     Pprint(PprintRules),
     Xtab(XtabRules),
 }

@@ -1,4 +1,4 @@
-use Rattle.std.proofs.Common.{◌++◌, ap, sym, ◌∙◌}
+use Rattle.std.proofs.Common.{ap, sym, ◌∙◌}
 use Rattle.mlr_event.specs.Verb.{is_part}
 use Rattle.read_files.proofs.Events.{part-rest}
 use Rattle.read_files.proofs.feeding.end_file.Goals as goal

@@ -10,19 +10,19 @@ returns-clause-list c = inputs-list
 pub returns-clause-grows : goal.returns-clause-grows
 returns-clause-grows c =
     let grows : Growth = growth
-    (λ s. c.prefix_laws.ensures.fed s.opts s.file s.ctx) (λ s. c.prefix_laws.ensures.read s.opts s.file s.ctx)
-    (λ s. c.prefix_laws-2.ensures.fed s.opts s.file s.ctx) (λ s. c.prefix_laws-2.ensures.read s.opts s.file s.ctx)
-    (λ s. c.prefix_laws-3.ensures.fed s.opts s.file s.ctx) (λ s. c.prefix_laws-3.ensures.read s.opts s.file s.ctx)
-    (λ s. c.prefix_laws-4.ensures.fed s.opts s.file s.ctx) (λ s. c.prefix_laws-4.ensures.read s.opts s.file s.ctx)
+    c.prefix_laws.ensures.fed c.prefix_laws.ensures.read
+    c.prefix_laws-2.ensures.fed c.prefix_laws-2.ensures.read
+    c.prefix_laws-3.ensures.fed c.prefix_laws-3.ensures.read
+    c.prefix_laws-4.ensures.fed c.prefix_laws-4.ensures.read
     in λ opts names given longer order on. source-grows grows opts names given longer order on
 
 pub returns-clause-fixed : goal.returns-clause-fixed
 returns-clause-fixed c =
     source-fixed (growth
-    (λ s. c.prefix_laws.ensures.fed s.opts s.file s.ctx) (λ s. c.prefix_laws.ensures.read s.opts s.file s.ctx)
-    (λ s. c.prefix_laws-2.ensures.fed s.opts s.file s.ctx) (λ s. c.prefix_laws-2.ensures.read s.opts s.file s.ctx)
-    (λ s. c.prefix_laws-3.ensures.fed s.opts s.file s.ctx) (λ s. c.prefix_laws-3.ensures.read s.opts s.file s.ctx)
-    (λ s. c.prefix_laws-4.ensures.fed s.opts s.file s.ctx) (λ s. c.prefix_laws-4.ensures.read s.opts s.file s.ctx))
+    c.prefix_laws.ensures.fed c.prefix_laws.ensures.read
+    c.prefix_laws-2.ensures.fed c.prefix_laws-2.ensures.read
+    c.prefix_laws-3.ensures.fed c.prefix_laws-3.ensures.read
+    c.prefix_laws-4.ensures.fed c.prefix_laws-4.ensures.read)
 
 pub returns-clause-whole : goal.returns-clause-whole
 returns-clause-whole c = λ told names given whole order prefixes all. (inputs-whole told names given whole order prefixes all, whole-order told names whole all)

@@ -1,5 +1,5 @@
-use Rattle.read_json_lines.proofs.GrammarItems.{has-items}
-use Rattle.read_json_lines.proofs.GrammarUnique.{items-only}
+use Rattle.read_json_lines.proofs.Grammar.Items.{has-items}
+use Rattle.read_json_lines.proofs.Grammar.Unique.{items-only}
 use Rattle.read_json_lines.proofs.laws.stream_law.Goals as goal
 
 pub returns-clause-items : goal.returns-clause-items

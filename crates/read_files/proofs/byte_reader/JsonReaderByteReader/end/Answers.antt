@@ -1,6 +1,6 @@
 use Rattle.std.proofs.Common.{arith, ◌∙◌}
 use Rattle.std.proofs.Common.{true}
-use Rattle.read_json_lines.specs.Files.{file_items}
+use Rattle.read_json_lines.specs.Json.{file_items}
 use Rattle.read_files.proofs.Formats.{events-ctx}
 use Rattle.read_files.proofs.byte_reader.JsonReaderByteReader.end.Goals as goal
 

@@ -1,6 +1,5 @@
-use Rattle.std.proofs.Common.{◌≡◌, true, false, ◌++◌, sym, subst}
+use Rattle.std.proofs.Common.{◌≡◌, true, false, sym, subst}
 use Rattle.std.specs.Result.{IfOk, OnOk}
-use Rattle.std.proofs.lemmas.Result.{on_ok_weaker}
 use Rattle.mlr_event.specs.Adding.{Adds}
 use Rattle.read_files.specs.Readers.{FileRepresents}
 use Rattle.read_files.specs.Sources.{ctx_after_events}

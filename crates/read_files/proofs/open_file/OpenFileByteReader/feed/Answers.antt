@@ -1,9 +1,8 @@
-use Rattle.std.proofs.Common.{◌≡◌, true, false, ◌++◌, sym, subst}
-use Rattle.std.specs.Result.{IfOk, OnOk}
+use Rattle.std.proofs.Common.{false, ◌++◌, sym, subst}
+use Rattle.std.specs.Result.{OnOk}
 use Rattle.std.proofs.lemmas.Result.{on_ok_weaker}
 use Rattle.mlr_event.specs.Adding.{Adds}
 use Rattle.read_files.specs.Readers.{FileRepresents}
-use Rattle.read_files.specs.Sources.{ctx_after_events}
 use Rattle.read_files.proofs.open_file.OpenFileByteReader.feed.Goals as goal
 
 pub returns-in-Csv-clause-represents : goal.returns-in-Csv-clause-represents

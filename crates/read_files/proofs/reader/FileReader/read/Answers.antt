@@ -1,9 +1,8 @@
-use Rattle.std.proofs.Common.{◌≡◌, ◌∷◌, [], false, true, Some, None, refl, ap, arith, length, subst, sym, ◌∙◌, length-append}
+use Rattle.std.proofs.Common.{◌≡◌, ap, arith, length, subst, sym, length-append}
 use Rattle.std.specs.Prelude.{IfSome}
-use Rattle.mlr_world.specs.Inputs.{MeetsEnd, TakesPiece}
 use Rattle.mlr_world.specs.Taken.{entry_of}
 use Rattle.read_files.specs.Takes.{last_place}
-use Rattle.read_files.specs.declared.reader.ReadTurn.TheVariants.{Failed, NoMemory}
+use Rattle.read_files.specs.declared.reader.ReadTurn.TheVariants.{Failed}
 use Rattle.read_files.specs.Represents.{Turned, TurnCause}
 use Rattle.read_files.proofs.Reading.{name-so, no-failure, some-so, represents-piece, stops-so, turned-end, turned-failed, turned-none, turned-piece}
 use Rattle.read_files.proofs.Stepping.{in-place}

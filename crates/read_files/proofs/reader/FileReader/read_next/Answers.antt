@@ -1,10 +1,9 @@
-use Rattle.std.proofs.Common.{◌≡◌, ◌∷◌, ◌++◌, [], Some, None, refl, ap, arith, subst, sym, ◌∙◌}
+use Rattle.std.proofs.Common.{◌≡◌, ◌∷◌, ◌++◌, [], arith}
 use Rattle.std.proofs.lemmas.List.{nil_from_length}
 use Rattle.mlr_world.specs.Taken.{begun}
-use Rattle.read_files.specs.Represents.{Represents}
 use Rattle.read_files.proofs.Opening.{next-represents, order-opened, read-so, stops-next, stops-opened, turned-all, turned-opened, turned-opened-none}
 use Rattle.read_files.proofs.Reading.{turned-failed, turned-none}
-use Rattle.read_files.proofs.Taking.{following-closed, following-opened, following-same}
+use Rattle.read_files.proofs.Taking.{following-closed, following-opened}
 use Rattle.read_files.proofs.reader.FileReader.read_next.Goals as goal
 
 pub begin-requires : goal.begin-requires

@@ -1,4 +1,4 @@
-use Rattle.std.proofs.Common.{◌≡◌, true, Some, arith}
+use Rattle.std.proofs.Common.{true, arith}
 use Rattle.read_files.proofs.Stepping.{bytes_so, end-closes, end-faulty, end-none, in-place, part-so, source_so, total-so}
 use Rattle.read_files.proofs.reader.FileReader.take_end.Goals as goal
 

@@ -1,4 +1,4 @@
-use Rattle.std.proofs.Common.{◌≡◌, ◌++◌, false, Some, ap, arith, length, sym, subst, ◌∙◌}
+use Rattle.std.proofs.Common.{◌≡◌, ◌++◌, false, ap, arith, length, sym, subst, ◌∙◌}
 use Rattle.read_files.specs.Feeding.{FedSays}
 use Rattle.read_files.specs.Readers.{FileRepresents}
 use Rattle.read_files.specs.declared.feeding.Fed.TheVariants as fed

@@ -1,7 +1,7 @@
 use Rattle.std.proofs.Common.{Option, ℕ, List, [], ap, sym, subst, ◌∙◌}
 use Rattle.std.proofs.lemmas.Result.{on_ok_weaker}
 use Rattle.mlr_spec.specs.JsonTokens.{text_token}
-use Rattle.read_json_lines.specs.Files.{Known}
+use Rattle.read_json_lines.specs.Json.{Known}
 use Rattle.read_json_lines.specs.declared.stream.Stream.{Stream}
 use Rattle.read_json_lines.specs.declared.strings.OpenText.{OpenText}
 use Rattle.read_json_lines.specs.Records.{turn}

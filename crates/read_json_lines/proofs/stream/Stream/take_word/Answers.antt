@@ -1,7 +1,7 @@
 use Rattle.std.proofs.Common.{Option, ap, subst}
 use Rattle.std.proofs.lemmas.Result.{on_ok_weaker}
 use Rattle.mlr_spec.specs.JsonTokens.{Token}
-use Rattle.read_json_lines.specs.Files.{Known}
+use Rattle.read_json_lines.specs.Json.{Known}
 use Rattle.read_json_lines.specs.Streams.{or_stop, Takes}
 use Rattle.read_json_lines.proofs.Words.{word-token}
 use Rattle.read_json_lines.proofs.stream.Stream.take_word.Goals as goal

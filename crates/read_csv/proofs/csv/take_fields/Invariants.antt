@@ -1,0 +1,13 @@
+use Rattle.std.proofs.Common.{◌≡◌, None, length}
+use Rattle.read_csv.specs.OpenRow.{csv_reading, row_with}
+use Rattle.read_csv.proofs.csv.take_fields.Given as goal
+
+-- reading the remaining text gives the same row as reading the whole text
+abbrev pub invariant-loop-rest : goal.invariant-loop-rest
+invariant-loop-rest l = record {
+  row : row_with l.opts.infer l.row (csv_reading l.opts.ifs l.left) ≡ row_with l.opts.infer l.initial.row (csv_reading l.opts.ifs l.initial.left);
+  closed : l.row.quotes ≡ None;
+}
+
+abbrev pub decreases-loop-rest : goal.decreases-loop-rest
+decreases-loop-rest l = length l.left

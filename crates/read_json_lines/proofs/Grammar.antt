@@ -1,0 +1,12 @@
+pub mod Flows
+pub mod Over
+pub mod Parts
+pub mod Maps
+pub mod Positions
+pub mod Turns
+pub mod Between
+pub mod Items
+pub mod Along
+pub mod Streams
+pub mod Unique
+pub mod Examples
