@@ -243,6 +243,7 @@ fn give_row(
 }
 
 /// The header that the first row gives: its texts, or positions if the header is implicit.
+#[inline(never)]
 fn first_header(alloc: Global, implicit: bool, row: &Row) -> Result<Heading, NoMemory>
     ensures { IfOk result (λ header. header ≡ header_of implicit row.now.values) }
 {

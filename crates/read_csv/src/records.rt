@@ -35,6 +35,24 @@ pub(crate) fn record_of_row(
     if distinct && fields.len() == names.len() {
         return full_record(alloc, names, fields);
     }
+    other_record(alloc, dedupe, header, fields)
+}
+
+/// The record of a row that has fewer or more values than the header, or names that repeat.
+#[inline(never)]
+fn other_record(
+    alloc: Global,
+    dedupe: bool,
+    header: &Heading,
+    fields: &mut Vec<Field>,
+) -> Result<Record, NoMemory>
+    requires { vec_len fields.old < 2 ^ 62 }
+    ensures made { IfOk result (λ made. made ≡ record_of dedupe
+        (row_keys header.now (vec_len fields.old)) (values_in fields.old.items)) }
+    ensures empty { OnOk result (fields.new.items ≡ []) }
+{
+    let names = header.header();
+    let distinct = dedupe | header.is_distinct();
     let mut record = Fields::new(Record::new(alloc)?);
     let named = fields.len().min(names.len());
     put_named(alloc, distinct, names, fields, named, &mut record)?;

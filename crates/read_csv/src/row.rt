@@ -75,7 +75,7 @@ impl Row {
     }
 
     /// Appends an unquoted field of this text.
-    #[inline]
+    #[inline(always)]
     pub(crate) fn push_plain(&mut self, text: &[u8], infer: InferOpts) -> Result<(), NoMemory>
         requires { self.old.quotes ≡ None }
         ensures { OnOk result (self.new ≡ with_value self.old (tree_of_data infer text.now)) }

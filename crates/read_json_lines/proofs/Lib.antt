@@ -11,6 +11,7 @@ pub mod Blanks
 pub mod Begun
 pub mod Raws
 pub mod Turning
+pub mod Plain
 pub mod Ending
 pub mod Prefixes
 pub mod Representing

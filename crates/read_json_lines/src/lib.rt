@@ -10,6 +10,7 @@ mod stream;
 mod strings;
 #[cfg(test)]
 mod tests;
+mod text;
 
 pub use json::{JsonReader, can_read};
 pub use laws::{prefix_laws, stream_law};

@@ -116,6 +116,8 @@ impl RecordState {
         Ok(Turn::Fault(other_value(self.list)))
     }
 
+    /// Reads a mark outside records.
+    #[inline(never)]
     fn mark_between(&mut self, mark: JsonMark) -> Result<Turn, NoMemory>
         ensures { IfOk result (λ made. IsTurn (turn_between (state_of self.old) (sign mark)) made
             (state_of self.new)) }
@@ -175,7 +177,8 @@ impl RecordState {
         Turn::On
     }
 
-    /// The outcome of a step within a record.
+    /// The outcome of a step within a record. Most steps continue the record, so this match is inlined.
+    #[inline(always)]
     fn value_turn(&mut self, went: Went) -> Result<Turn, NoMemory>
         ensures { IfOk result (λ made. (step : Step) → IsStep step went self.old.machine
             → IsTurn (value_turn self.old.list step) made (state_of self.new)) }
@@ -189,6 +192,7 @@ impl RecordState {
     }
 
     /// Completes a record with this value, or returns a fault unless the value is a map.
+    #[inline(never)]
     fn end_record(&mut self, value: Value) -> Result<Turn, NoMemory>
         ensures turn { IfOk result (λ made. Represents self.old.machine [] Phase.Value
             → IsTurn (record_turn self.old.list (tree_of value)) made (state_of self.new)) }

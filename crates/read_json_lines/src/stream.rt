@@ -5,18 +5,18 @@ ghost use Rattle.mlr_spec.specs.JsonTokens as lexeme;
 ghost use Rattle.mlr_json.specs.Seen.{lexeme_seen};
 ghost use Rattle.mlr_event.specs.Reading as item;
 ghost use Rattle.read_json_lines.specs.Records.{fault_of};
-ghost use Rattle.read_json_lines.specs.Streams.{HasPut, IsFit, Opens, Pushes, Appends, Starts, Takes, Turned, and_token, count_of, future, is_between, is_quote, or_stop, text_tokens, token_of_value, turn_items, waits};
+ghost use Rattle.read_json_lines.specs.Streams.{HasPut, IsFit, Appends, Starts, Takes, Turned, and_token, count_of, future, is_between, or_stop, token_of_value, turn_items, waits};
 
 use crate::listing::Trouble;
 use crate::record_state::{RecordState, Turn};
 use crate::strings::OpenText;
 use mlr_event::rows::next_ctx;
 use mlr_event::{Ctx, Event, Events, Fault, FileRef};
-use mlr_json::{Lexeme, Scanned, StringBuilder, first_lexeme, word_len, word_value};
+use mlr_json::{Lexeme, Scanned, first_lexeme, word_len, word_value};
+use mlr_record::Record;
 use mlr_spec::{InferOpts, JsonMark, NoMemory};
 use mlr_value::Value;
 use std::alloc::Global;
-use std::mem::replace;
 
 /// A file after its byte order mark, as far as it has been read.
 #[derive(Drop)]
@@ -174,7 +174,7 @@ impl Stream {
             out.new) }
         ensures room { IfOk result (λ left. count_of self.new + length left.now
             ≤ count_of self.old + length text.now) }
-        ensures left { IfOk result (λ left. left.now ≡ drop len text.now) }
+        ensures shorter { IfOk result (λ left. length left.now < length text.now) }
     {
         match lexeme {
             Lexeme::Word(word) => self.turn_word(word, len, text, out),
@@ -183,11 +183,7 @@ impl Stream {
                 self.place += len as u64;
                 Ok(following(text, len))
             }
-            Lexeme::Quote => {
-                self.open_text(out)?;
-                self.place += len as u64;
-                Ok(following(text, len))
-            }
+            Lexeme::Quote => self.turn_quote(len, text, out),
             Lexeme::Blank => {
                 self.place += len as u64;
                 Ok(following(text, len))
@@ -345,136 +341,9 @@ impl Stream {
         self.put(turn, place, out)
     }
 
-    /// Reads the opening quote of a string.
-    fn open_text(&mut self, out: &mut Events) -> Result<(), NoMemory>
-        requires goes_on { self.old.stopped ≡ false }
-        ensures opens { OnOk result (Opens self.old self.new out.old out.new) }
-        ensures same { OnOk result (self.new ≡ record
-            self.old { text = self.new.text; stopped = self.new.stopped }) }
-    {
-        if let Some(trouble) = self.record_state.refused_text() {
-            return self.fail(trouble, self.place, out);
-        }
-        self.text = Some(OpenText {
-            builder: StringBuilder::new(self.alloc),
-            place: self.place,
-        });
-        Ok(())
-    }
-
-    /// Reads one lexeme within a string.
-    fn turn_inside<'a>(&mut self, text: &'a [u8], out: &mut Events) -> Result<&'a [u8], NoMemory>
-        requires bytes { 0 < length text.now }
-        requires goes_on { self.old.stopped ≡ false }
-        requires room { count_of self.old + length text.now < 2 ^ 63 }
-        requires text { is_some self.old.text ≡ true }
-        requires begun { self.old.begun.items ≡ [] }
-        ensures turned { IfOk result (λ left. IsFit self.old
-            → Turned self.old self.new text.now left.now out.old out.new) }
-        ensures room { IfOk result (λ left. count_of self.new + length left.now
-            ≤ count_of self.old + length text.now) }
-        ensures shorter { IfOk result (λ left. length left.now < length text.now) }
-    {
-        match first_lexeme(true, text) {
-            Scanned::Found(lexeme, len) => {
-                if is_quote(lexeme) {
-                    self.close_text(out)?;
-                    self.place += len as u64;
-                    return Ok(following(text, len));
-                }
-                self.push_piece(lexeme)?;
-                self.place += len as u64;
-                Ok(following(text, len))
-            }
-            Scanned::Begun => {
-                self.begun.extend_from_slice(text)?;
-                Ok(following(text, text.len()))
-            }
-            Scanned::Bad(offset) => {
-                self.fail(Trouble::Syntax, self.place + offset as u64, out)?;
-                Ok(following(text, text.len()))
-            }
-        }
-    }
-
-    /// Reads one more byte of the escape that has begun.
-    fn end_escape<'a>(&mut self, text: &'a [u8], out: &mut Events) -> Result<&'a [u8], NoMemory>
-        requires bytes { 0 < length text.now }
-        requires goes_on { self.old.stopped ≡ false }
-        requires room { count_of self.old + length text.now < 2 ^ 63 }
-        requires text { is_some self.old.text ≡ true }
-        requires begun { 0 < length self.old.begun.items }
-        ensures turned { IfOk result (λ left. IsFit self.old
-            → Turned self.old self.new text.now left.now out.old out.new) }
-        ensures room { IfOk result (λ left. count_of self.new + length left.now
-            ≤ count_of self.old + length text.now) }
-        ensures shorter { IfOk result (λ left. length left.now < length text.now) }
-    {
-        let mut escape = replace(&mut self.begun, Vec::new(self.alloc));
-        escape.extend_from_slice(prefix(text, 1))?;
-        match first_lexeme(true, escape.as_slice()) {
-            Scanned::Found(lexeme, len) => {
-                self.push_piece(lexeme)?;
-                self.place += len as u64;
-                Ok(following(text, 1))
-            }
-            Scanned::Begun => {
-                self.begun.extend_from_slice(escape.as_slice())?;
-                Ok(following(text, 1))
-            }
-            Scanned::Bad(offset) => {
-                self.fail(Trouble::Syntax, self.place + offset as u64, out)?;
-                Ok(following(text, 1))
-            }
-        }
-    }
-
-    /// Appends a piece to the current string.
-    fn push_piece(&mut self, lexeme: Lexeme<'_>) -> Result<(), NoMemory>
-        requires text { is_some self.old.text ≡ true }
-        ensures pushes { OnOk result (Pushes self.old.text self.new.text
-            (lexeme_seen lexeme.entry)) }
-        ensures open { OnOk result (is_some self.new.text ≡ true) }
-        ensures same { OnOk result (self.new ≡ record self.old { text = self.new.text }) }
-    {
-        if let Some(open) = &mut self.text {
-            match lexeme {
-                Lexeme::Raw(bytes) => open.builder.push_raw(bytes)?,
-                Lexeme::Unit(code) => open.builder.push_unit(code)?,
-                Lexeme::Quote | Lexeme::Blank | Lexeme::Mark(_) | Lexeme::Word(_) => {}
-            }
-        }
-        Ok(())
-    }
-
-    /// Reads the closing quote of the current string.
-    fn close_text(&mut self, out: &mut Events) -> Result<(), NoMemory>
-        requires text { is_some self.old.text ≡ true }
-        requires goes_on { self.old.stopped ≡ false }
-        requires nr { self.old.at.nr < 2 ^ 63 }
-        requires fnr { self.old.at.fnr < 2 ^ 63 }
-        ensures takes { OnOk result (Takes self.old self.new out.old out.new
-            (λ rest. text_tokens self.old.text [] rest)) }
-        ensures closed { OnOk result (self.new.text ≡ None) }
-        ensures same { OnOk result (self.new ≡ record
-            self.old {
-              text = self.new.text;
-              record_state = self.new.record_state;
-              at =
-                  self.new.at;
-              stopped = self.new.stopped;
-            }) }
-    {
-        let Some(open) = self.text.take() else {
-            return Ok(());
-        };
-        let text = open.builder.finish()?;
-        let turn = self.record_state.text(text)?;
-        self.put(turn, open.place, out)
-    }
-
-    /// Appends the outcome of a token to `out`.
-    fn put(&mut self, turn: Turn, place: u64, out: &mut Events) -> Result<(), NoMemory>
+    /// Appends the outcome of a token to `out`. Most tokens continue a record, so this match is inlined.
+    #[inline(always)]
+    pub(crate) fn put(&mut self, turn: Turn, place: u64, out: &mut Events) -> Result<(), NoMemory>
         requires goes_on { self.old.stopped ≡ false }
         requires nr { self.old.at.nr < 2 ^ 63 }
         requires fnr { self.old.at.fnr < 2 ^ 63 }
@@ -483,14 +352,25 @@ impl Stream {
     {
         match turn {
             Turn::On => Ok(()),
-            Turn::Record(record) => {
-                self.at = next_ctx(self.at);
-                out.push(Event::Rec(record, self.at))
-            }
+            Turn::Record(record) => self.put_record(record, out),
             Turn::Fault(trouble) => self.fail(trouble, place, out),
         }
     }
 
+    /// Appends a record to `out`.
+    #[inline(never)]
+    fn put_record(&mut self, made: Record, out: &mut Events) -> Result<(), NoMemory>
+        requires goes_on { self.old.stopped ≡ false }
+        requires nr { self.old.at.nr < 2 ^ 63 }
+        requires fnr { self.old.at.fnr < 2 ^ 63 }
+        ensures { OnOk result (HasPut self.old self.new out.old out.new (item.fields made ∷ [])) }
+    {
+        self.at = next_ctx(self.at);
+        out.push(Event::Rec(made, self.at))
+    }
+
+    /// Appends a fault to `out`, after which nothing follows.
+    #[inline(never)]
     pub(crate) fn fail(
         &mut self,
         trouble: Trouble,
@@ -517,7 +397,7 @@ fn fault_of(trouble: Trouble, file: FileRef, byte: u64) -> Fault
 
 /// The text after its first `len` bytes.
 #[inline(always)]
-fn following(text: &[u8], len: usize) -> &[u8]
+pub(crate) fn following(text: &[u8], len: usize) -> &[u8]
     requires { len ≤ length text.now }
     ensures { result.now ≡ drop len text.now }
 {
@@ -526,15 +406,9 @@ fn following(text: &[u8], len: usize) -> &[u8]
 
 /// The first `len` bytes of the text.
 #[inline(always)]
-fn prefix(text: &[u8], len: usize) -> &[u8]
+pub(crate) fn prefix(text: &[u8], len: usize) -> &[u8]
     requires { len ≤ length text.now }
     ensures { result.now ≡ take len text.now }
 {
     &text[..len]
-}
-
-fn is_quote(lexeme: Lexeme<'_>) -> bool
-    ensures { result ≡ is_quote (lexeme_seen lexeme.entry) }
-{
-    matches!(lexeme, Lexeme::Quote)
 }
