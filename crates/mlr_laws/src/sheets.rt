@@ -16,17 +16,17 @@ ghost use Rattle.mlr_laws.specs.Sheets.{IsSheet, as_data, csv_text, csv_value, f
 
 use writers::table_laws;
 
-/// Records with the same keys, as many as CSV or TSV carries: what is written of them is read as these records. Each value is
-/// what data of its text is; in CSV, a text in quotes stays a text. It does nothing.
+/// Records with the same keys, which CSV or TSV can carry: what is written of them is read as these records.
+/// Each value is what data of its text is; in CSV, a text in quotes stays a text. It does nothing.
 pub fn sheet_laws()
-    ensures csv { (opts : WriteOpts) (rs : List Record) (ended : Bool) (file : FileRef) (start : Ctx)
-        → opts.format ≡ Csv → opts.ofs ≡ comma ∷ [] → opts.headerless ≡ false
+    ensures csv { (opts : WriteOpts) (rs : List Record) (ended : Bool) (file : FileRef)
+        (start : Ctx) → opts.format ≡ Csv → opts.ofs ≡ comma ∷ [] → opts.headerless ≡ false
         → IsSheet fits_csv (csv_text opts) (map (shaped opts) rs)
         → csv_read (default_read Csv) file start (written opts (map Rec rs) ended)
         ≡ events_of start (map (λ r. fields (read_again (csv_value opts) r))
         (map (shaped opts) rs)) }
-    ensures tsv { (opts : WriteOpts) (rs : List Record) (ended : Bool) (file : FileRef) (start : Ctx)
-        → opts.format ≡ Tsv → opts.ofs ≡ tab ∷ [] → opts.headerless ≡ false
+    ensures tsv { (opts : WriteOpts) (rs : List Record) (ended : Bool) (file : FileRef)
+        (start : Ctx) → opts.format ≡ Tsv → opts.ofs ≡ tab ∷ [] → opts.headerless ≡ false
         → IsSheet fits_tsv tsv_text (map (shaped opts) rs)
         → csv_read (default_read Tsv) file start (written opts (map Rec rs) ended)
         ≡ events_of start (map (λ r. fields (read_again as_data r)) (map (shaped opts) rs)) }

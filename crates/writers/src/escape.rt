@@ -12,7 +12,7 @@ use mlr_spec::NoMemory;
 use mlr_value::Bytes;
 
 /// Appends a key or a value, as it is written in this style.
-#[inline]
+#[inline(always)]
 pub(crate) fn append_field(
     style: RowStyle,
     opts: &WriteOpts,
@@ -28,7 +28,8 @@ pub(crate) fn append_field(
     }
 }
 
-#[inline]
+/// Appends a field of CSV, in quotes if it needs them.
+#[inline(never)]
 fn append_csv(opts: &WriteOpts, text: &[u8], out: &mut Bytes) -> Result<(), NoMemory>
     ensures { OnOk result (out.new ≡ out.old ++ csv_field opts.now text.now) }
 {
@@ -82,6 +83,8 @@ fn holds(separator: &[u8], text: &[u8]) -> bool
     separator_place(separator, text).is_some()
 }
 
+/// Appends a text in quotes.
+#[inline(never)]
 fn append_quoted(text: &[u8], out: &mut Bytes) -> Result<(), NoMemory>
     ensures { OnOk result (out.new ≡ out.old ++ quoted text.now) }
 {
@@ -91,7 +94,7 @@ fn append_quoted(text: &[u8], out: &mut Bytes) -> Result<(), NoMemory>
 }
 
 /// Appends the text with its escapes: at once, if it has none.
-#[inline]
+#[inline(never)]
 fn append_escaped(style: RowStyle, text: &[u8], out: &mut Bytes) -> Result<(), NoMemory>
     ensures { OnOk result (out.new ≡ out.old ++ flat_map (escaped_in style) text.now) }
 {

@@ -64,7 +64,7 @@ pub(crate) fn append_mark(mark: &[u8], out: &mut Bytes) -> Result<(), NoMemory>
 }
 
 /// The separator, if there is a text before.
-#[inline]
+#[inline(always)]
 pub(crate) fn append_separator(separator: &[u8], any: bool, out: &mut Bytes) -> Result<(), NoMemory>
     ensures { OnOk result (out.new ≡ out.old ++ separated separator.now any) }
 {
@@ -75,6 +75,7 @@ pub(crate) fn append_separator(separator: &[u8], any: bool, out: &mut Bytes) -> 
     }
 }
 
+/// Appends one field in this form.
 #[inline]
 fn append_form(
     form: FieldForm,
@@ -97,6 +98,7 @@ fn append_form(
     }
 }
 
+/// Appends a name and its value, with OPS between them.
 fn append_pair(opts: &WriteOpts, key: &[u8], value: &Value, out: &mut Bytes) -> Result<(), NoMemory>
     ensures { OnOk result (out.new ≡ out.old
         ++ pair_text opts.now.ops (key.now, tree_of value.now)) }
@@ -106,7 +108,7 @@ fn append_pair(opts: &WriteOpts, key: &[u8], value: &Value, out: &mut Bytes) -> 
     append_shown(value, out)
 }
 
-/// A value in a row: the text that it holds, or what it prints, which is written to a buffer that is kept.
+/// A value in a row. Most values hold their text.
 #[inline]
 fn append_value(
     style: RowStyle,
@@ -120,10 +122,23 @@ fn append_value(
 {
     match held_text(value) {
         Some(text) => append_field(style, opts, text, out),
-        None => {
-            scratch.clear();
-            append_shown(value, scratch)?;
-            append_field(style, opts, scratch.as_slice(), out)
-        }
+        None => append_printed(style, opts, value, scratch, out),
     }
+}
+
+/// What a value prints, which is written to a buffer that is kept.
+#[inline(never)]
+fn append_printed(
+    style: RowStyle,
+    opts: &WriteOpts,
+    value: &Value,
+    scratch: &mut Bytes,
+    out: &mut Bytes,
+) -> Result<(), NoMemory>
+    ensures { OnOk result (out.new ≡ out.old
+        ++ field_in style opts.now (shown (tree_of value.now))) }
+{
+    scratch.clear();
+    append_shown(value, scratch)?;
+    append_field(style, opts, scratch.as_slice(), out)
 }
