@@ -4,7 +4,8 @@ use Rattle.std.proofs.lemmas.Bool.{le-ltb, lt-leb, ltb-false, or_parts, eqb-true
 use Rattle.std.specs.List.{list_all}
 use Rattle.mlr_spec.specs.declared.infer.Kind.{Kind}
 use Rattle.mlr_spec.specs.declared.infer.Kind.TheVariants.{Str, Int, Frac, Wide}
-use Rattle.mlr_spec.specs.Infer.{digit, are_digits, number, base_of, base_of_letter, is_octal, is_fraction, is_e, whole, word, kind_after_sign}
+use Rattle.mlr_spec.specs.declared.infer.InferOpts.{InferOpts}
+use Rattle.mlr_spec.specs.Infer.{digit, are_digits, number, base_of, base_of_letter, is_negative, is_octal, is_fraction, is_e, kind_after_sign, kind_of, unsigned, whole, word}
 use Rattle.mlr_infer.specs.declared.inference.Magnitude.{Magnitude}
 use Rattle.mlr_infer.specs.declared.inference.Magnitude.TheVariants.{Word, Large}
 use Rattle.mlr_infer.specs.Magnitude.{bounded, magnitude_of, octal_of, whole_of, word_of, after_digits}
@@ -134,3 +135,9 @@ no_number octal negative (b ∷ text) e =
     (and_left (nat_lt (digit b) 10) _ first.0)
     (ap (λ base. are_digits base (drop 2 (b ∷ text))) (base_of-no_zero b text zero) ∙ are_digits-zero (drop 2 (b ∷ text)))
     (no_fraction b text first.0 first.1)
+
+pub kind_of-some : (opts : InferOpts) (text : List ℕ) → (length text == 0) ≡ false → opts.none ≡ false
+    → kind_of opts text ≡ kind_after_sign opts.octal (is_negative text) (unsigned text)
+kind_of-some opts [] some inferred = absurd (true≢false some)
+kind_of-some opts (b ∷ text) some inferred =
+    ap (λ t. cond t Str (kind_after_sign opts.octal (is_negative (b ∷ text)) (unsigned (b ∷ text)))) inferred

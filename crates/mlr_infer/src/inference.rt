@@ -28,7 +28,9 @@ enum Digits {
 /// The magnitude of the least int. Without its sign it is no int.
 const TWO_TO_63: u64 = 0x8000_0000_0000_0000;
 
-/// What a text from data is. It looks at the whole text, and takes no memory.
+/// What a text from data is. It looks at the whole text, and takes no memory. Most texts that are no numbers end at their first
+/// byte, which is looked at without a call.
+#[inline(always)]
 pub fn infer(text: &[u8], opts: InferOpts) -> Kind
     ensures { result ≡ kind_of opts text.now }
 {
@@ -38,7 +40,26 @@ pub fn infer(text: &[u8], opts: InferOpts) -> Kind
     if opts.none {
         return Kind::Str;
     }
-    after_sign(opts.octal, is_negative(text), unsigned(text))
+    if !may_begin_number(text) {
+        return Kind::Str;
+    }
+    signed(opts.octal, text)
+}
+
+/// Whether the first byte is a sign or one that a number without its sign may begin with.
+#[inline(always)]
+fn may_begin_number(text: &[u8]) -> bool
+    ensures { result ≡ false → may_be_number (unsigned text.now) ≡ false }
+{
+    matches!(text, [b'0'..=b'9' | b'.' | b'+' | b'-', ..])
+}
+
+/// The kind of a text that may have a sign.
+#[inline(never)]
+fn signed(octal: bool, text: &[u8]) -> Kind
+    ensures { result ≡ kind_after_sign octal (is_negative text.now) (unsigned text.now) }
+{
+    after_sign(octal, is_negative(text), unsigned(text))
 }
 
 /// The rows in their order. Most texts that are no numbers end at the first test.

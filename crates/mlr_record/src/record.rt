@@ -32,7 +32,27 @@ impl Drop for Record {
     #[inline]
     fn drop(self) {
         let Record { alloc: _, fields } = self;
-        drop(fields);
+        drop_fields(fields);
+    }
+}
+
+/// Drops the fields. Most hold no memory of their own, which a look at each shows without moving it.
+fn drop_fields(fields: Vec<Field>) {
+    for field in fields {
+        let Field { name, value } = field;
+        drop(name);
+        drop_value(value);
+    }
+}
+
+#[inline(always)]
+fn drop_value(value: Value) {
+    match value {
+        Value::Absent | Value::Empty | Value::Bool(_) | Value::Error => {}
+        Value::Str(text) | Value::Frac(text) | Value::Wide(text) => drop(text),
+        Value::Int(int) => drop(int),
+        Value::Map(map) => drop(map),
+        Value::Array(array) => drop(array),
     }
 }
 
