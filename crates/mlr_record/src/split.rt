@@ -1,11 +1,13 @@
 //! Texts split at a separator.
-ghost use Rattle.std.specs.Prelude.{◌≡◌, ◌+◌, ◌<◌, ◌≤◌, ◌∷◌, ℕ, length, IfSome};
+ghost use Rattle.std.specs.Prelude.{◌≡◌, ◌+◌, ◌<◌, ◌≤◌, ◌∷◌, ℕ, length, map, IfSome};
+ghost use Rattle.std.specs.Simd.Lanes.{mask_l};
 ghost use Rattle.std.specs.Option.{option_map};
 ghost use Rattle.memchr.specs.Find.{IsFirstByte, Passes, is_byte};
 ghost use Rattle.mlr_spec.specs.Split.{place_in, split_by};
 ghost use Rattle.mlr_record.specs.Parts.{first_part, after_first, parts_of_rest};
 
 use memchr::{memchr, memmem};
+use std::simd::prelude::*;
 
 /// The place of the first separator in the text. It takes no memory.
 #[inline(always)]
@@ -21,21 +23,44 @@ pub fn separator_place(separator: &[u8], text: &[u8]) -> Option<usize>
     }
 }
 
-/// How many bytes are looked at one by one.
-const NEAR: usize = 24;
+/// How many bytes are looked at in one step.
+const LANES: usize = 16;
 
-/// The place of the first such byte. Most parts are short: so the first bytes are looked at one by one, without a call.
+/// The place of the first such byte. Most parts are short: so the first bytes are looked at without a call, in one step where there
+/// are enough of them.
 #[inline(always)]
 fn byte_place(byte: u8, text: &[u8]) -> Option<usize>
     ensures { IsFirstByte (is_byte byte) text.now result }
 {
-    let near = text.len().min(NEAR);
-    for place in 0..near {
+    if text.len() < LANES {
+        return near_place(byte, text);
+    }
+    let found = equal_bits(byte, u8x16::from_slice(text));
+    if found != 0 {
+        return Some(found.trailing_zeros() as usize);
+    }
+    far_place(byte, text, LANES)
+}
+
+/// Bit k is set where lane k is this byte.
+#[inline(always)]
+fn equal_bits(byte: u8, lanes: u8x16) -> u64
+    ensures { result ≡ mask_l (map (is_byte byte) lanes) }
+{
+    lanes.simd_eq(u8x16::splat(byte)).to_bitmask()
+}
+
+/// The place of the first such byte in a text of few bytes, which are looked at one by one.
+#[inline(always)]
+fn near_place(byte: u8, text: &[u8]) -> Option<usize>
+    ensures { IsFirstByte (is_byte byte) text.now result }
+{
+    for place in 0..text.len() {
         if text[place] == byte {
             return Some(place);
         }
     }
-    far_place(byte, text, near)
+    None
 }
 
 /// The place of the first such byte, of which there is none before `from`.
