@@ -81,11 +81,10 @@ after_digits-from negative text in_base fraction b f =
     ∙ ap (λ (r : Bool). first_row negative None None (magnitude_of (base_of text) (drop 2 text)) r) f
     ∙ sym (first_row-after_digits negative text)
 
-pub has_first : (text : List ℕ) → may_be_number text ≡ true → 0 < length text
-has_first [] e = absurd (true≢false (sym e))
-has_first (b ∷ text) e = omega arith
+pub some_bytes : (text : List ℕ) → (length text == 0) ≡ false → 0 < length text
+some_bytes [] some = absurd (true≢false some)
+some_bytes (b ∷ text) some = omega arith
 
--- no digits of base 0
 pub magnitude_of-zero : (text : List ℕ) → magnitude_of 0 text ≡ None
 unfolding magnitude_of
 magnitude_of-zero [] = refl
@@ -141,3 +140,7 @@ pub kind_of-some : (opts : InferOpts) (text : List ℕ) → (length text == 0) �
 kind_of-some opts [] some inferred = absurd (true≢false some)
 kind_of-some opts (b ∷ text) some inferred =
     ap (λ t. cond t Str (kind_after_sign opts.octal (is_negative (b ∷ text)) (unsigned (b ∷ text)))) inferred
+
+pub no_bytes : (octal negative : Bool) (text : List ℕ) → (length text == 0) ≡ true → kind_after_sign octal negative text ≡ Str
+no_bytes octal negative [] none = no_number octal negative [] refl
+no_bytes octal negative (b ∷ text) none = absurd (omega (arith, eqb-true (length (b ∷ text)) 0 none))

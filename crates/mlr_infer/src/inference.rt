@@ -46,12 +46,13 @@ pub fn infer(text: &[u8], opts: InferOpts) -> Kind
     signed(opts.octal, text)
 }
 
-/// Whether the first byte is a sign or one that a number without its sign may begin with.
+/// Whether the first byte is among those from `+` to `9`, which are the signs, the point, the decimal digits and two bytes that
+/// begin no number.
 #[inline(always)]
 fn may_begin_number(text: &[u8]) -> bool
     ensures { result ≡ false → may_be_number (unsigned text.now) ≡ false }
 {
-    matches!(text, [b'0'..=b'9' | b'.' | b'+' | b'-', ..])
+    matches!(text, [b'+'..=b'9', ..])
 }
 
 /// The kind of a text that may have a sign.
@@ -62,11 +63,11 @@ fn signed(octal: bool, text: &[u8]) -> Kind
     after_sign(octal, is_negative(text), unsigned(text))
 }
 
-/// The rows in their order. Most texts that are no numbers end at the first test.
+/// The rows in their order.
 fn after_sign(octal: bool, negative: bool, text: &[u8]) -> Kind
     ensures { result ≡ kind_after_sign octal negative text.now }
 {
-    if !may_be_number(text) {
+    if text.is_empty() {
         return Kind::Str;
     }
     if let Some(magnitude) = octal_of(octal, text) {
@@ -107,13 +108,6 @@ fn unsigned(text: &[u8]) -> &[u8]
         [b'+' | b'-', following @ ..] => following,
         _ => text,
     }
-}
-
-/// Whether the first byte is one that a number without its sign may begin with.
-fn may_be_number(text: &[u8]) -> bool
-    ensures { result ≡ may_be_number text.now }
-{
-    matches!(text, [b'0'..=b'9' | b'.', ..])
 }
 
 /// The worth of a digit, and 16 for a byte that is none. Decimal digits come first, since most are.

@@ -40,8 +40,8 @@ impl Drop for Record {
 fn drop_fields(fields: Vec<Field>) {
     for field in fields {
         let Field { name, value } = field;
-        drop(name);
         drop_value(value);
+        drop(name);
     }
 }
 
