@@ -4,3 +4,4 @@ pub mod Depth
 mod Prefixes
 mod Overlaps
 pub mod Crosses
+mod Stopping

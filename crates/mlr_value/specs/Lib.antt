@@ -3,3 +3,4 @@ pub mod Collections
 pub mod Depth
 pub mod Falls
 pub mod Bytes
+pub mod Stops

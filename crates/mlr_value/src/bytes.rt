@@ -1,7 +1,9 @@
 //! Byte texts, of which the short ones are stored without an allocation.
-ghost use Rattle.std.specs.Prelude.{◌≡◌, ◌≤◌, ◌↔◌, [], ◌∷◌, ◌++◌, length, if◌then◌else◌, is_ok, OnOk, IfOk, IsOk, IsTrue, ◌+◌, vec_len, vec_capacity};
+ghost use Rattle.std.specs.Prelude.{◌≡◌, ◌≤◌, ◌↔◌, [], ◌∷◌, ◌++◌, length, not, take, ◌&&◌, if◌then◌else◌, is_ok, OnOk, IfOk, IsOk, IsTrue, ◌+◌, vec_len, vec_capacity};
+ghost use Rattle.mlr_value.specs.Stops.{has_stop};
 
-use crate::short::{CAPACITY, Short, put};
+use crate::short::{CAPACITY, Short, cells_of};
+use crate::stops::{has_stop, has_stop_in};
 use mlr_spec::NoMemory;
 use std::alloc::Global;
 use std::fmt;
@@ -161,6 +163,40 @@ impl Bytes {
         Ok(())
     }
 
+    /// Appends the text unless it contains one of the stops, and returns whether it did.
+    #[inline(always)]
+    pub fn append_plain(&mut self, text: &[u8], stops: [u8; 4]) -> Result<bool, NoMemory>
+        ensures plain { IfOk result (λ plain. plain ≡ not (has_stop stops text.now)) }
+        ensures appended { self.new ≡ (if is_ok result && not (has_stop stops text.now)
+            then self.old ++ text.now else self.old) }
+    {
+        if let Room::Heap(heap) = &mut self.room
+            && text.len() <= CAPACITY
+            && heap.capacity() - heap.len() >= CAPACITY
+        {
+            let cells = cells_of(text);
+            if !has_stop_in(&cells, stops) {
+                append_cells(heap, &cells, text.len())?;
+                return Ok(true);
+            }
+        }
+        self.append_plain_any(text, stops)
+    }
+
+    /// Appends a text of any length, unless it contains one of the stops, to a text stored in either way.
+    #[inline(never)]
+    fn append_plain_any(&mut self, text: &[u8], stops: [u8; 4]) -> Result<bool, NoMemory>
+        ensures plain { IfOk result (λ plain. plain ≡ not (has_stop stops text.now)) }
+        ensures appended { self.new ≡ (if is_ok result && not (has_stop stops text.now)
+            then self.old ++ text.now else self.old) }
+    {
+        if has_stop(text, stops) {
+            return Ok(false);
+        }
+        self.append_any(text)?;
+        Ok(true)
+    }
+
     /// Takes all bytes out, and keeps the room.
     #[inline]
     pub fn clear(&mut self)
@@ -211,11 +247,20 @@ fn append_short(heap: &mut Vec<u8>, text: &[u8]) -> Result<(), NoMemory>
         else heap.old.items) }
     ensures room { CAPACITY + vec_len heap.old ≤ vec_capacity heap.old → IsOk result }
 {
+    append_cells(heap, &cells_of(text), text.len())
+}
+
+/// Appends the first bytes of the cells.
+#[inline(always)]
+fn append_cells(heap: &mut Vec<u8>, cells: &[u8; CAPACITY], count: usize) -> Result<(), NoMemory>
+    requires { count ≤ CAPACITY }
+    ensures appended { heap.new.items ≡ (if is_ok result then heap.old.items ++ take count cells.now
+        else heap.old.items) }
+    ensures room { CAPACITY + vec_len heap.old ≤ vec_capacity heap.old → IsOk result }
+{
     let len = heap.len();
-    let mut cells = [0; CAPACITY];
-    put(&mut cells, 0, text);
-    heap.extend_from_slice(&cells)?;
-    heap.truncate(len + text.len());
+    heap.extend_from_slice(cells)?;
+    heap.truncate(len + count);
     Ok(())
 }
 

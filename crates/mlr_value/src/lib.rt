@@ -8,6 +8,7 @@ mod bytes;
 mod map_value;
 mod order;
 mod short;
+mod stops;
 #[cfg(test)]
 mod tests;
 mod value;

@@ -42,10 +42,8 @@ impl Short {
         requires { length text.now ≤ CAPACITY }
         ensures { result ≡ text.now }
     {
-        let mut cells = [0; CAPACITY];
-        put(&mut cells, 0, text);
         Short {
-            cells,
+            cells: cells_of(text),
             len: text.len(),
         }
     }
@@ -109,10 +107,22 @@ impl Short {
     }
 }
 
+/// Cells that begin with the text.
+#[inline(always)]
+pub(crate) fn cells_of(text: &[u8]) -> [u8; CAPACITY]
+    requires { length text.now ≤ CAPACITY }
+    ensures prefix { take (length text.now) result ≡ text.now }
+    ensures len { length result ≡ CAPACITY }
+{
+    let mut cells = [0; CAPACITY];
+    put(&mut cells, 0, text);
+    cells
+}
+
 /// Writes the text over the cells from `start` on. Its ends, of one width, cover it, so no copy is of a width that is
 /// known only at run time.
 #[inline(always)]
-pub(crate) fn put(cells: &mut [u8; CAPACITY], start: usize, text: &[u8])
+fn put(cells: &mut [u8; CAPACITY], start: usize, text: &[u8])
     requires { start + length text.now ≤ CAPACITY }
     ensures prefix { take (start + length text.now) cells.new ≡ take start cells.old ++ text.now }
     ensures len { length cells.new ≡ CAPACITY }

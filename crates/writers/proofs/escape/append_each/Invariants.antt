@@ -1,7 +1,0 @@
-use Rattle.std.proofs.Common.{◌≡◌, ◌++◌, drop}
-use Rattle.std.specs.List.{flat_map}
-use Rattle.writers.specs.Rows.{escaped_in}
-use Rattle.writers.proofs.escape.append_each.Given as goal
-
-abbrev pub invariant-loop-byte : goal.invariant-loop-byte
-invariant-loop-byte l = l.out ++ flat_map (escaped_in l.style) (drop l.byte-index l.text) ≡ l.initial.out ++ flat_map (escaped_in l.style) l.text
