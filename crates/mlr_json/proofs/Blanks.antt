@@ -13,7 +13,7 @@ blank-unmarked b h = rw (other 123 refl, other 125 refl, other 91 refl, other 93
     other : (k : ℕ) → is_blank k ≡ false → (b == k) ≡ false
     other k apart = ne_eqb b k (λ e. true≢false (sym h ∙ ap is_blank e ∙ apart))
 
-blank-lexeme : (b : ℕ) (text : List ℕ) → is_blank b ≡ true → lexeme_outside (b ∷ text) ≡ found blank (prefix_len is_blank (b ∷ text))
+pub blank-lexeme : (b : ℕ) (text : List ℕ) → is_blank b ≡ true → lexeme_outside (b ∷ text) ≡ found blank (prefix_len is_blank (b ∷ text))
 unfolding lexeme_outside
 blank-lexeme b text h =
     ap (λ m. elim m [ Some k ↦ found (mark k) 1 | None ↦ lexeme_unmarked (b ∷ text) ]) (blank-unmarked b h)

@@ -1,5 +1,6 @@
 -- The types of the code as the definitions have them: lexemes, and the start of a text.
-use Rattle.std.specs.Prelude.{◌≡◌, ℕ, ◌<◌, ◌≤◌, List, [], ◌∷◌, Option, MatchOption}
+use Rattle.std.specs.Prelude.{◌≡◌, ℕ, ◌<◌, ◌≤◌, Bool, ◌||◌, ◌==◌, List, [], ◌∷◌, Option, MatchOption}
+use Rattle.mlr_spec.specs.Ascii.{quote_mark, backslash}
 use Rattle.std.specs.Borrow.{Bor}
 use Rattle.mlr_spec.specs.JsonTokens as text
 use Rattle.mlr_spec.specs.JsonTokens.{raw, unit, escape_of}
@@ -30,3 +31,7 @@ IsWithin n (Bad offset) = offset < n
 -- the byte of an escape, or none where its letter represents none
 abbrev pub EscapeIs : ℕ → Option (Bor (List ℕ)) → Type 0
 EscapeIs letter byte = MatchOption byte (escape_of letter ≡ 0) (λ b. (b.now ≡ escape_of letter ∷ []) × (1 ≤ escape_of letter))
+
+-- a byte that ends raw bytes of a string
+abbrev pub ends_raw : ℕ → Bool
+ends_raw b = b == quote_mark || b == backslash

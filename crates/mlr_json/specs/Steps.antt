@@ -27,6 +27,11 @@ IsStep (whole tree) (Whole value) machine = (tree_of value ≡ tree) × Represen
 IsStep wrong Wrong machine = Unit {0}
 IsStep _ _ machine = ⊥
 
+-- what a token led to that completes no value
+abbrev pub went : Bool → Went
+went true = On
+went false = Wrong
+
 -- whether a text may come: a key of the map that is open, or a value
 abbrev pub is_in_map : List Frame → Bool
 is_in_map [] = false

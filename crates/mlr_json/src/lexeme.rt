@@ -1,12 +1,14 @@
 //! The lexemes of a JSON text, byte by byte.
-ghost use Rattle.std.specs.Prelude.{◌≡◌, ◌+◌, ◌*◌, ◌<◌, ◌≤◌, ◌==◌, ◌&&◌, not, nat_lt, length, take};
+ghost use Rattle.std.specs.Prelude.{◌≡◌, ◌+◌, ◌*◌, ◌<◌, ◌≤◌, ◌==◌, ◌&&◌, not, nat_lt, length, map, take};
 ghost use Rattle.std.specs.List.{prefix_len};
+ghost use Rattle.std.specs.Simd.Lanes.{mask_l};
 ghost use Rattle.mlr_spec.specs.Infer.{digit, number};
 ghost use Rattle.mlr_spec.specs.JsonTokens.{is_blank, is_word_byte, is_raw, is_hex, mark_of, escape_of, lexeme_unmarked, lexeme_outside, lexeme_inside, lexeme_of_escape, lexeme_of_unit, first_lexeme};
-ghost use Rattle.mlr_json.specs.Seen.{scan_seen, IsWithin, EscapeIs};
+ghost use Rattle.mlr_json.specs.Seen.{scan_seen, IsWithin, EscapeIs, ends_raw};
 
 use memchr::memchr2;
 use mlr_spec::JsonMark;
+use std::simd::prelude::*;
 
 /// What a JSON text is read as, byte by byte. It borrows from the text.
 #[derive(Clone, Copy, Debug, PartialEq, Eq)]
@@ -117,7 +119,7 @@ fn is_word_byte(byte: u8) -> bool
 
 /// How many blanks a text begins with.
 #[inline(always)]
-pub(crate) fn blank_len(text: &[u8]) -> usize
+pub fn blank_len(text: &[u8]) -> usize
     ensures { result ≡ prefix_len is_blank text.now }
 {
     for (place, byte) in text.iter().enumerate() {
@@ -141,15 +143,29 @@ pub fn word_len(text: &[u8]) -> usize
     text.len()
 }
 
-/// How many bytes come before the first quote or backslash.
+/// How many bytes come before the first quote or backslash. Most strings are short, so it looks at 16 bytes at once.
 #[inline(always)]
 pub(crate) fn raw_len(text: &[u8]) -> usize
     ensures { result ≡ prefix_len is_raw text.now }
 {
+    if text.len() >= 16 {
+        let place = raw_ends(u8x16::from_slice(text)).trailing_zeros() as usize;
+        if place < 16 {
+            return place;
+        }
+    }
     match memchr2(b'"', b'\\', text) {
         Some(place) => place,
         None => text.len(),
     }
+}
+
+/// A bit for each byte, which is set for a quote or a backslash.
+#[inline(always)]
+fn raw_ends(bytes: u8x16) -> u64
+    ensures { result ≡ mask_l (map ends_raw bytes) }
+{
+    (bytes.simd_eq(u8x16::splat(b'"')) | bytes.simd_eq(u8x16::splat(b'\\'))).to_bitmask()
 }
 
 #[inline(always)]

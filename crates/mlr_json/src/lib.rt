@@ -19,7 +19,7 @@ mod write;
 pub use escape::append_json_string;
 pub use frame::{Frame, Phase};
 pub use laws::{found_stays, one_outcome, written_is_read};
-pub use lexeme::{Lexeme, Scanned, first_lexeme, word_len};
+pub use lexeme::{Lexeme, Scanned, blank_len, first_lexeme, word_len};
 pub use machine::{Machine, Went};
 pub use read::{JsonRead, read_json_value};
 pub use string::StringBuilder;

@@ -1,11 +1,13 @@
 //! The steps of the machine: one for each token.
-ghost use Rattle.std.specs.Prelude.{◌≡◌, ◌∷◌, [], List, if◌then◌else◌, IfOk, OnOk};
+ghost use Rattle.std.specs.Prelude.{◌≡◌, ◌∷◌, [], List, true, if◌then◌else◌, IfOk, OnOk};
 ghost use Rattle.mlr_spec.specs.JsonTokens.{sign, text_token, word_token};
 ghost use Rattle.mlr_spec.specs.JsonGrammar.{text_value};
 ghost use Rattle.mlr_value.specs.Value.{tree_of};
+ghost use Rattle.mlr_spec.specs.declared.json.JsonMark.TheVariants as JsonMark;
 ghost use Rattle.mlr_json.specs.declared.frame.Frame.{Frame};
-ghost use Rattle.mlr_json.specs.Machine.{step, on, wrong, with_value, with_key, map_ended, array_ended, comma_read, colon_read, takes_value, takes_key};
-ghost use Rattle.mlr_json.specs.Steps.{frames_of, Represents, IsStep, is_in_map, is_within, takes_text};
+ghost use Rattle.mlr_json.specs.declared.machine.Went.TheVariants as Went;
+ghost use Rattle.mlr_json.specs.Machine.{step, on, wrong, with_value, with_key, map_ended, array_ended, takes_value, takes_key};
+ghost use Rattle.mlr_json.specs.Steps.{frames_of, Represents, IsStep, went, is_in_map, is_within, takes_text};
 
 use crate::{Frame, Machine, Phase, Went};
 use mlr_spec::{JsonMark, NoMemory};
@@ -60,8 +62,8 @@ impl Machine {
             ),
             JsonMark::EndMap => self.end_map(),
             JsonMark::EndArray => self.end_array(),
-            JsonMark::Colon => Ok(self.colon()),
-            JsonMark::Comma => Ok(self.comma()),
+            JsonMark::Colon => Ok(went(self.colon())),
+            JsonMark::Comma => Ok(went(self.comma())),
         }
     }
 
@@ -87,12 +89,45 @@ impl Machine {
             (text_token text)) went self.new) }
     {
         if self.takes_key() {
-            self.key(text)
+            Ok(went(self.key(text)))
         } else if self.takes_value() {
             self.value(text_value(text))
         } else {
             Ok(Went::Wrong)
         }
+    }
+
+    /// Reads a word that has this value, within a bracket, and says whether it may come there.
+    #[inline(always)]
+    #[tactic(auto, unfolding(crate::specs::Machine::step))]
+    pub fn word_within(&mut self, value: Value) -> Result<bool, NoMemory>
+        requires { is_within (frames_of self.old) ≡ true }
+        ensures { IfOk result (λ goes_on. IsStep (step (frames_of self.old) self.old.phase
+            (word_token (tree_of value))) (went goes_on) self.new) }
+    {
+        if !self.takes_value() {
+            return Ok(false);
+        }
+        self.add(value)?;
+        Ok(true)
+    }
+
+    /// Reads a string that has this text, within a bracket, and says whether it may come there.
+    #[inline(always)]
+    #[tactic(auto, unfolding(crate::specs::Machine::step))]
+    pub fn text_within(&mut self, text: Bytes) -> Result<bool, NoMemory>
+        requires { is_within (frames_of self.old) ≡ true }
+        ensures { IfOk result (λ goes_on. IsStep (step (frames_of self.old) self.old.phase
+            (text_token text)) (went goes_on) self.new) }
+    {
+        if self.takes_key() {
+            return Ok(self.key(text));
+        }
+        if !self.takes_value() {
+            return Ok(false);
+        }
+        self.add(text_value(text))?;
+        Ok(true)
     }
 
     /// Whether a value may come next.
@@ -124,32 +159,41 @@ impl Machine {
         ensures { IfOk result (λ went. IsStep (with_value (tree_of value) (frames_of self.old)) went
             self.new) }
     {
-        match self.frames.last_mut() {
-            None => {
-                self.phase = Phase::Value;
-                Ok(Went::Whole(value))
-            }
-            Some(frame) => {
-                add_value(frame, value)?;
-                self.phase = Phase::Later;
-                Ok(Went::On)
-            }
+        if !self.is_within() {
+            self.phase = Phase::Value;
+            return Ok(Went::Whole(value));
         }
+        self.add(value)?;
+        Ok(Went::On)
     }
 
-    /// Takes the key of the next pair.
+    /// Adds a value to the innermost bracket.
     #[inline(always)]
-    fn key(&mut self, key: Bytes) -> Result<Went, NoMemory>
-        ensures { IfOk result (λ went. IsStep (with_key key (frames_of self.old)) went self.new) }
+    fn add(&mut self, value: Value) -> Result<(), NoMemory>
+        requires { is_within (frames_of self.old) ≡ true }
+        ensures { OnOk result (IsStep (with_value (tree_of value) (frames_of self.old)) Went.On
+            self.new) }
+    {
+        if let Some(frame) = self.frames.last_mut() {
+            add_value(frame, value)?;
+            self.phase = Phase::Later;
+        }
+        Ok(())
+    }
+
+    /// Takes the key of the next pair, and says whether it may come here.
+    #[inline(always)]
+    fn key(&mut self, key: Bytes) -> bool
+        ensures { IsStep (with_key key (frames_of self.old)) (went result) self.new }
     {
         let Some(frame) = self.frames.last_mut() else {
-            return Ok(Went::Wrong);
+            return false;
         };
         if !give_key(frame, key) {
-            return Ok(Went::Wrong);
+            return false;
         }
         self.phase = Phase::Colon;
-        Ok(Went::On)
+        true
     }
 
     #[inline(always)]
@@ -196,31 +240,45 @@ impl Machine {
         }
     }
 
+    /// Reads a colon, and says whether it may come here.
     #[inline(always)]
-    fn colon(&mut self) -> Went
-        ensures { IsStep (colon_read (frames_of self.old) self.old.phase) result self.new }
+    #[tactic(auto, unfolding(crate::specs::Machine::step))]
+    pub fn colon(&mut self) -> bool
+        ensures { IsStep (step (frames_of self.old) self.old.phase (sign JsonMark.Colon))
+            (went result) self.new }
     {
         if self.phase != Phase::Colon {
-            return Went::Wrong;
+            return false;
         }
         self.phase = Phase::Value;
-        Went::On
+        true
     }
 
+    /// Reads a comma, and says whether it may come here.
     #[inline(always)]
-    fn comma(&mut self) -> Went
-        ensures { IsStep (comma_read (frames_of self.old) self.old.phase) result self.new }
+    #[tactic(auto, unfolding(crate::specs::Machine::step))]
+    pub fn comma(&mut self) -> bool
+        ensures { IsStep (step (frames_of self.old) self.old.phase (sign JsonMark.Comma))
+            (went result) self.new }
     {
         if self.phase != Phase::Later || self.frames.is_empty() {
-            return Went::Wrong;
+            return false;
         }
         self.phase = if self.is_in_map() {
             Phase::Key
         } else {
             Phase::Value
         };
-        Went::On
+        true
     }
+}
+
+/// What a token led to that completes no value.
+#[inline(always)]
+fn went(goes_on: bool) -> Went
+    ensures { result ≡ went goes_on }
+{
+    if goes_on { Went::On } else { Went::Wrong }
 }
 
 /// Adds a value to an open bracket: as the next item, or as the value of the key before it.
@@ -231,7 +289,7 @@ fn add_value(frame: &mut Frame, value: Value) -> Result<(), NoMemory>
 {
     match frame {
         Frame::Array(items) => items.push(value),
-        Frame::Map(pairs, key) => pairs.put(key.as_slice(), value),
+        Frame::Map(pairs, key) => pairs.put_owned(key.copy()?, value),
     }
 }
 

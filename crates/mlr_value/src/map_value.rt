@@ -1,5 +1,5 @@
 //! Maps of values, with their keys in order.
-ghost use Rattle.std.specs.Prelude.{◌≡◌, ◌<◌, ◌++◌, ◌∷◌, [], true, length, if◌then◌else◌, is_ok, is_some, IfOk, OnOk, None, Some, slice_get};
+ghost use Rattle.std.specs.Prelude.{◌≡◌, ◌<◌, ◌++◌, ◌∷◌, [], true, length, if◌then◌else◌, is_ok, is_some, IfOk, OnOk, None, Some, slice_get, vec_len, vec_capacity};
 ghost use Rattle.std.specs.Option.{option_map};
 ghost use Rattle.mlr_spec.specs.Pairs.{value_at, put_at, remove_at, keys_of, are_distinct};
 ghost use Rattle.mlr_value.specs.Value.{tree_of};
@@ -123,7 +123,17 @@ impl MapValue {
         ensures { self.new ≡ (if is_ok result then put_at key.now (tree_of value) self.old
             else self.old) }
     {
-        match place_of(&self.columns, key) {
+        let key = Bytes::copy_of(self.alloc, key)?;
+        self.put_owned(key, value)
+    }
+
+    /// Gives the key, which it moves, this value: in its place if it is there, else last.
+    #[inline(never)]
+    pub fn put_owned(&mut self, key: Bytes, value: Value) -> Result<(), NoMemory>
+        ensures { self.new ≡ (if is_ok result then put_at key (tree_of value) self.old
+            else self.old) }
+    {
+        match place_of(&self.columns, key.as_slice()) {
             Some(place) => {
                 self.columns.pairs[place].value = value;
                 Ok(())
@@ -156,6 +166,7 @@ impl MapValue {
         ensures { self.new ≡ (if is_ok result then self.old ++ (key.now, tree_of value) ∷ []
             else self.old) }
     {
+        let key = Bytes::copy_of(self.alloc, key)?;
         push_pair(&mut self.columns, self.alloc, key, value)
     }
 
@@ -202,20 +213,34 @@ fn place_of(columns: &Columns, key: &[u8]) -> Option<usize>
     columns.index.place_of(&columns.pairs, key)
 }
 
+/// How many pairs the first one takes room for.
+const FIRST_ROOM: usize = 8;
+
 /// Appends a key and a value, where the key isn't there.
-fn push_pair(columns: &mut Columns, alloc: Global, key: &[u8], value: Value) -> Result<(), NoMemory>
+#[inline(always)]
+fn push_pair(columns: &mut Columns, alloc: Global, key: Bytes, value: Value) -> Result<(), NoMemory>
     requires index { IsIndex columns.old }
     requires distinct { are_distinct (keys_of (pairs_of columns.old.pairs.items)) ≡ true }
-    requires absent { value_at key.now (pairs_of columns.old.pairs.items) ≡ None }
+    requires absent { value_at key (pairs_of columns.old.pairs.items) ≡ None }
     ensures index { IsIndex columns.new }
     ensures pairs { pairs_of columns.new.pairs.items
-        ≡ (if is_ok result then pairs_of columns.old.pairs.items ++ (key.now, tree_of value) ∷ []
+        ≡ (if is_ok result then pairs_of columns.old.pairs.items ++ (key, tree_of value) ∷ []
         else pairs_of columns.old.pairs.items) }
 {
-    let name = Bytes::copy_of(alloc, key)?;
-    columns.pairs.reserve(1)?;
-    columns.index.add(alloc, &columns.pairs, key)?;
-    columns.pairs.push_reserved(Pair { key: name, value });
+    reserve_pair(&mut columns.pairs)?;
+    columns.index.add(alloc, &columns.pairs, key.as_slice())?;
+    columns.pairs.push_reserved(Pair { key, value });
+    Ok(())
+}
+
+/// Takes room for one more pair.
+#[inline(always)]
+fn reserve_pair(pairs: &mut Vec<Pair>) -> Result<(), NoMemory>
+    ensures same { pairs.new.items ≡ pairs.old.items }
+    ensures room { OnOk result (vec_len pairs.new < vec_capacity pairs.new) }
+{
+    let more = if pairs.is_empty() { FIRST_ROOM } else { 1 };
+    pairs.reserve(more)?;
     Ok(())
 }
 
