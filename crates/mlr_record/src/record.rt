@@ -12,7 +12,7 @@ use mlr_spec::NoMemory;
 use mlr_value::{Bytes, MapValue, Pair, Value};
 use std::alloc::Global;
 use std::marker::Model;
-use std::mem::replace;
+use std::mem::{forget, replace};
 
 /// A name and its value.
 #[derive(Drop)]
@@ -36,24 +36,20 @@ impl Drop for Record {
     }
 }
 
-/// Drops the fields. Most hold no memory of their own, which a look at each shows without moving it.
+/// Drops the fields. Most hold no memory, which a look at each shows, and are forgotten.
 fn drop_fields(fields: Vec<Field>) {
     for field in fields {
-        let Field { name, value } = field;
-        drop_value(value);
-        drop(name);
+        if field.name.holds_memory() || field.value.holds_memory() {
+            drop_field(field);
+        } else {
+            forget(field);
+        }
     }
 }
 
-#[inline(always)]
-fn drop_value(value: Value) {
-    match value {
-        Value::Absent | Value::Empty | Value::Bool(_) | Value::Error => {}
-        Value::Str(text) | Value::Frac(text) | Value::Wide(text) => drop(text),
-        Value::Int(int) => drop(int),
-        Value::Map(map) => drop(map),
-        Value::Array(array) => drop(array),
-    }
+#[inline(never)]
+fn drop_field(field: Field) {
+    drop(field);
 }
 
 impl Model for Record {

@@ -1,5 +1,5 @@
 //! Byte texts, of which the short ones are stored without an allocation.
-ghost use Rattle.std.specs.Prelude.{◌≡◌, ◌≤◌, ◌↔◌, [], ◌∷◌, ◌++◌, length, not, take, ◌&&◌, if◌then◌else◌, is_ok, OnOk, IfOk, IsOk, IsTrue, ◌+◌, vec_len, vec_capacity};
+ghost use Rattle.std.specs.Prelude.{◌≡◌, ◌≤◌, ◌↔◌, [], ◌∷◌, ◌++◌, length, false, not, take, ◌&&◌, if◌then◌else◌, is_ok, OnOk, IfOk, IsOk, IsTrue, ◌+◌, vec_len, vec_capacity};
 ghost use Rattle.mlr_value.specs.Stops.{has_stop};
 
 use crate::short::{CAPACITY, Short, cells_of};
@@ -80,7 +80,7 @@ impl Bytes {
                 room: Room::Inline(short.copy()),
                 alloc: self.alloc,
             }),
-            Room::Heap(heap) => Bytes::copy_of(self.alloc, heap.as_slice()),
+            Room::Heap(heap) => heap_copy(self.alloc, heap.as_slice()),
         }
     }
 
@@ -230,6 +230,21 @@ impl Bytes {
         }
     }
 
+    /// Whether it holds memory, as each text of more than 16 bytes does.
+    #[inline(always)]
+    pub fn holds_memory(&self) -> bool
+        ensures { result ≡ false → length self.now ≤ 16 }
+    {
+        match &self.room {
+            Room::Inline(short) => {
+                let len = short.len();
+                prove!(len <= CAPACITY);
+                false
+            }
+            Room::Heap(_) => true,
+        }
+    }
+
     /// Whether it has no bytes.
     #[inline(always)]
     pub fn is_empty(&self) -> bool
@@ -237,6 +252,15 @@ impl Bytes {
     {
         self.len() == 0
     }
+}
+
+/// A copy of a text that lies in memory. It is out of line, so that the copy of one that doesn't is a few moves.
+#[inline(never)]
+fn heap_copy(alloc: Global, text: &[u8]) -> Result<Bytes, NoMemory>
+    ensures copied { IfOk result (λ copy. copy ≡ text.now) }
+    ensures short { length text.now ≤ 16 → IsOk result }
+{
+    Bytes::copy_of(alloc, text)
 }
 
 /// Appends a short text. A copy of a fixed width, cut to the text, needs no call of `memcpy`.

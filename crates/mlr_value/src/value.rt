@@ -78,6 +78,19 @@ impl Value {
         matches!(self, Value::Map(_) | Value::Array(_))
     }
 
+    /// Whether it holds memory, as maps, arrays and long texts do.
+    #[inline(always)]
+    pub fn holds_memory(&self) -> bool
+        ensures { result ≡ false → is_collection (tree_of self.now) ≡ false }
+    {
+        match self {
+            Value::Absent | Value::Empty | Value::Bool(_) | Value::Error => false,
+            Value::Str(text) | Value::Frac(text) | Value::Wide(text) => text.holds_memory(),
+            Value::Int(int) => int.spelling.holds_memory(),
+            Value::Map(_) | Value::Array(_) => true,
+        }
+    }
+
     /// A copy. It takes memory for maps, arrays and texts of more than 16 bytes.
     #[cycle(copy)]
     pub fn copy(&self, alloc: Global) -> Result<Value, NoMemory>
