@@ -4,8 +4,9 @@ ghost use Rattle.mlr_spec.specs.Infer.{tree_of_data};
 ghost use Rattle.mlr_spec.specs.Pairs.{are_distinct, keys_of, value_at};
 ghost use Rattle.mlr_value.specs.Value.{tree_of};
 ghost use Rattle.mlr_event.specs.Rows.{with_field};
+ghost use Rattle.mlr_fields.specs.Marks.{mark_of};
 
-use crate::marks::NameMarks;
+use crate::marks::{NameMarks, mark_of};
 use crate::name_index::NameIndex;
 use crate::suffixes::{FIRST, first_free};
 use mlr_event::ReadOpts;
@@ -109,8 +110,19 @@ impl Fields {
         requires { value_at name.now self.old ≡ None }
         ensures { OnOk result (self.new ≡ self.old ++ (name.now, tree_of value) ∷ []) }
     {
+        self.push_marked(name, mark_of(name), value)
+    }
+
+    /// Appends a field whose name isn't there and has this mark.
+    #[inline(always)]
+    fn push_marked(&mut self, name: &[u8], mark: usize, value: Value) -> Result<(), NoMemory>
+        requires new { value_at name.now self.old ≡ None }
+        requires mark { mark ≡ mark_of name.now }
+        requires few { mark < 64 }
+        ensures { OnOk result (self.new ≡ self.old ++ (name.now, tree_of value) ∷ []) }
+    {
         self.record.push(name, value)?;
-        self.marks.add(name);
+        self.marks.add(mark);
         Ok(())
     }
 
@@ -126,8 +138,9 @@ impl Fields {
         requires { length self.old < 2 ^ 63 }
         ensures { OnOk result (self.new ≡ with_field dedupe name.now (tree_of value) self.old) }
     {
-        if self.marks.lack(name) {
-            self.push(name, value)
+        let mark = mark_of(name);
+        if self.marks.lack(mark) {
+            self.push_marked(name, mark, value)
         } else {
             self.put_searched(alloc, name, value, dedupe)
         }
@@ -146,11 +159,12 @@ impl Fields {
         ensures { OnOk result (self.new ≡ with_field opts.now.dedupe name.now
             (tree_of_data opts.now.infer text.now) self.old) }
     {
-        if !self.marks.lack(name) {
+        let mark = mark_of(name);
+        if !self.marks.lack(mark) {
             return self.put_text_searched(alloc, opts, name, text);
         }
         let value = from_data(alloc, text, opts.infer)?;
-        self.push(name, value)
+        self.push_marked(name, mark, value)
     }
 
     /// Sets a field of this text, whose name is searched for.

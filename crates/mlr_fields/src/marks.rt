@@ -27,28 +27,30 @@ impl NameMarks {
         NameMarks { bits: u64::MAX }
     }
 
-    /// Whether the name has no mark, so that it is none of the marked names.
+    /// Whether there is no mark of this number, so that no marked name has it.
     #[inline(always)]
-    pub(crate) fn lack(&self, name: &[u8]) -> bool
-        ensures { IsTrue result → (names : List (List ℕ)) → AreMarked self.now names
-            → is_among names name.now ≡ false }
+    pub(crate) fn lack(&self, mark: usize) -> bool
+        requires { mark < 64 }
+        ensures { IsTrue result → (names : List (List ℕ)) (name : List ℕ)
+            → AreMarked self.now names → mark ≡ mark_of name → is_among names name ≡ false }
     {
-        (self.bits >> mark_of(name)) & 1 == 0
+        (self.bits >> mark) & 1 == 0
     }
 
-    /// Marks a name that is appended to the names.
+    /// Adds the mark of a name that is appended to the names.
     #[inline(always)]
-    pub(crate) fn add(&mut self, name: &[u8])
-        ensures { (names : List (List ℕ)) → AreMarked self.old names
-            → AreMarked self.new (names ++ name.now ∷ []) }
+    pub(crate) fn add(&mut self, mark: usize)
+        requires { mark < 64 }
+        ensures { (names : List (List ℕ)) (name : List ℕ) → AreMarked self.old names
+            → mark ≡ mark_of name → AreMarked self.new (names ++ name ∷ []) }
     {
-        self.bits |= 1 << mark_of(name);
+        self.bits |= 1 << mark;
     }
 }
 
 /// The number of a name's mark.
 #[inline(always)]
-fn mark_of(name: &[u8]) -> usize
+pub(crate) fn mark_of(name: &[u8]) -> usize
     ensures mark { result ≡ mark_of name.now }
     ensures few { result < 64 }
 {

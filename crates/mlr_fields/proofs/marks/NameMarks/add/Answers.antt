@@ -6,6 +6,6 @@ use Rattle.mlr_fields.proofs.Marking.{marked-pushed}
 use Rattle.mlr_fields.proofs.marks.NameMarks.add.Goals as goal
 
 pub returns : goal.returns
-returns c = λ names marked name there.
-    ap (λ mark. bit_at (bit_or c.args.self.now.bits (1 * 2 ^ mark % 2 ^ 64)) (mark_of name)) c.mark_of.ensures.mark
-    ∙ marked-pushed c.args.self.now.bits names c.args.name.now name marked there
+returns c = λ names new marked is name there.
+    ap (λ mark. bit_at (bit_or c.args.self.now.bits (1 * 2 ^ mark % 2 ^ 64)) (mark_of name)) is
+    ∙ marked-pushed c.args.self.now.bits names new name marked there
