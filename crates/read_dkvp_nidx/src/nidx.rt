@@ -16,6 +16,7 @@ use mlr_value::from_data;
 use std::alloc::Global;
 
 /// The record of a line; nothing if the line has no value.
+#[inline(never)]
 pub(crate) fn nidx_row(alloc: Global, opts: &ReadOpts, line: &[u8]) -> Result<Row, NoMemory>
     requires ifs { 0 < length opts.now.ifs }
     requires length { length line.now < 2 ^ 63 }
