@@ -1,14 +1,15 @@
 -- Records built field by field, and the index of their names.
-use Rattle.std.proofs.Common.{◌≡◌, ℕ, zero, suc, ◌+◌, ◌<◌, ◌≤◌, Bool, true, false, not, ◌||◌, List, [], ◌∷◌, ◌++◌, length, take, get_or, set, Some, None, slice_get, Option, Result, Ok, Err, OnOk, IfSome, is_ok, if◌then◌else◌, refl, ap, sym, ◌∙◌, inl, inr, add-one, append_assoc, arith}
+use Rattle.std.proofs.Common.{◌≡◌, ℕ, zero, suc, ◌+◌, ◌≤◌, Bool, true, false, not, ◌||◌, List, [], ◌∷◌, ◌++◌, length, take, get_or, set, Some, None, slice_get, Option, Result, Ok, Err, OnOk, IfSome, is_ok, if◌then◌else◌, refl, ap, sym, ◌∙◌, inl, inr, add-one, append_assoc}
 use Rattle.std.specs.List.{list_any}
 use Rattle.std.specs.Str.{bytes_eq}
 use Rattle.std.proofs.lemmas.Bool.{and_parts, cases_Bool, not-true, or_from, true≢false}
-use Rattle.std.proofs.lemmas.List.{append-nil, length-append, map-append}
+use Rattle.std.proofs.lemmas.List.{append-nil, map-append}
 use Rattle.std.proofs.lemmas.Slice.Eq.{bytes_eq-Decides}
 use Rattle.mlr_spec.specs.Tree.{Tree}
 use Rattle.mlr_spec.specs.Pairs.{are_distinct, keys_of, put_at}
 use Rattle.mlr_spec.proofs.Pairs.{put_at-none}
-use Rattle.mlr_event.proofs.Putting.{length-keys, value_at-free}
+use Rattle.mlr_event.proofs.Distinct.{bytes_eq-swap, free_name-untaken}
+use Rattle.mlr_event.proofs.Putting.{value_at-free}
 use Rattle.mlr_event.specs.Reading.{free_name, is_among}
 use Rattle.mlr_event.specs.Rows.{with_field}
 use Rattle.mlr_fields.specs.Prefixes.{IsPrefix}
@@ -98,7 +99,7 @@ prefix-taken prefix xs is = sym (ap (take (length prefix)) is.1 ∙ take-append 
     take-append [] ys = refl
     take-append (x ∷ xs) ys = ap (λ rest. x ∷ rest) (take-append xs ys)
 
--- an index that has enough of the first names keeps them when a field is appended, and a record of few fields has none
+-- an index that has enough of the first names keeps them when a field is appended
 abbrev HasMany : ℕ → Pairs → List (List ℕ) → Type 0
 HasMany few pairs index = IsPrefix index (keys_of pairs) × (few ≤ length index)
 
@@ -108,10 +109,6 @@ many-pushed few None old new ok name value is many = many
 many-pushed few (Some index) old new true name value is many =
     ((many.0.0 ++ name ∷ [], ap keys_of is ∙ keys-pushed old name value ∙ ap (λ keys. keys ++ name ∷ []) many.0.1 ∙ append_assoc index many.0.0 (name ∷ [])), many.1)
 many-pushed few (Some index) old new false name value is many = ((many.0.0, ap keys_of is ∙ many.0.1), many.1)
-
-pub few-unindexed : (few : ℕ) (index : Option (List (List ℕ))) (old new : Pairs) → length old < few → IfSome index (HasMany few old) → IfSome index (HasMany few new)
-few-unindexed few None old new low many = many
-few-unindexed few (Some index) old new low many = absurd (omega (arith, length-keys old, ap length many.0.1, length-append index many.0.0, many.1))
 
 -- a record after a field that may have been set
 pub set-on-ok : {T E : Type 0} (result : Result T E) (old new with other : Pairs) → new ≡ (if is_ok result then with else old) → with ≡ other → OnOk result (new ≡ other)
@@ -128,3 +125,32 @@ with_field-new dedupe is pairs name value new = sym (put_at-none name value pair
 pub with_field-set : (dedupe : Bool) → dedupe ≡ false → (pairs : Pairs) (place : ℕ) (name : List ℕ) (value : Tree) (d : List ℕ × Tree) → are_distinct (keys_of pairs) ≡ true → slice_get (keys_of pairs) place ≡ Some name
     → set pairs place ((get_or pairs place d).0, value) ≡ with_field dedupe name value pairs
 with_field-set dedupe is pairs place name value d distinct at = put-at-place pairs place name value d distinct at ∙ ap (λ d. with_field d name value pairs) (sym is)
+
+pub with_field-lacked : (dedupe : Bool) (pairs : Pairs) (name : List ℕ) (value : Tree) → is_among (keys_of pairs) name ≡ false → pairs ++ (name, value) ∷ [] ≡ with_field dedupe name value pairs
+with_field-lacked true pairs name value new = with_field-free true refl pairs name name value (sym (free_name-untaken (keys_of pairs) name new))
+with_field-lacked false pairs name value new = with_field-new false refl pairs name value new
+
+-- a field under a name that isn't there, appended where there is memory
+pub put-lacked : {T E : Type 0} (result : Result T E) (old new : Pairs) (dedupe : Bool) (name : List ℕ) (value tree : Tree) → is_among (keys_of old) name ≡ false → value ≡ tree
+    → OnOk result (new ≡ old ++ (name, value) ∷ []) → OnOk result (new ≡ with_field dedupe name tree old)
+put-lacked (Ok t) old new dedupe name value tree lacked same is = is ∙ with_field-lacked dedupe old name value lacked ∙ ap (λ v. with_field dedupe name v old) same
+put-lacked (Err e) old new dedupe name value tree lacked same is = tt
+
+pub put-free : {T E : Type 0} (result : Result T E) (old new with other : Pairs) → OnOk result (new ≡ with) → with ≡ other → OnOk result (new ≡ other)
+put-free (Ok t) old new with other is same = is ∙ same
+put-free (Err e) old new with other is same = tt
+
+-- a value that is set under a name that is there changes no name
+keys-set : (name : List ℕ) (value : Tree) (pairs : Pairs) → is_among (keys_of pairs) name ≡ true → keys_of (put_at name value pairs) ≡ keys_of pairs
+keys-set name value [] there = absurd (true≢false (sym there))
+keys-set name value (pair ∷ pairs) there =
+    elim (cases_Bool (bytes_eq pair.0 name)) as (λ _. keys_of (put_at name value (pair ∷ pairs)) ≡ keys_of (pair ∷ pairs)) [
+      | inl here ↦ rw here refl
+      | inr other ↦
+          let rest : is_among (keys_of pairs) name ≡ true = sym (ap (λ t. t || is_among (keys_of pairs) name) (bytes_eq-swap name pair.0 ∙ other)) ∙ there in
+          rw other (ap (λ keys. pair.0 ∷ keys) (keys-set name value pairs rest))
+    ]
+
+pub keys-set-ok : (ok : Bool) (name : List ℕ) (value : Tree) (old new : Pairs) → is_among (keys_of old) name ≡ true → new ≡ (if ok then put_at name value old else old) → keys_of new ≡ keys_of old
+keys-set-ok true name value old new there is = ap keys_of is ∙ keys-set name value old there
+keys-set-ok false name value old new there is = ap keys_of is

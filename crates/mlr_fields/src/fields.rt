@@ -4,7 +4,9 @@ ghost use Rattle.mlr_spec.specs.Infer.{tree_of_data};
 ghost use Rattle.mlr_spec.specs.Pairs.{are_distinct, keys_of, value_at};
 ghost use Rattle.mlr_value.specs.Value.{tree_of};
 ghost use Rattle.mlr_event.specs.Rows.{with_field};
+ghost use Rattle.mlr_fields.specs.Marks.{mark_of};
 
+use crate::marks::{NameMarks, mark_of};
 use crate::name_index::NameIndex;
 use crate::suffixes::{FIRST, first_free};
 use mlr_event::ReadOpts;
@@ -23,6 +25,8 @@ pub(crate) const FEW: usize = 64;
 /// proportional to the count of fields.
 pub struct Fields {
     record: Record,
+    /// The marks of its names.
+    marks: NameMarks,
     /// The names of the first fields, where there are many.
     index: Option<NameIndex>,
 }
@@ -31,7 +35,11 @@ pub struct Fields {
 impl Drop for Fields {
     #[inline]
     fn drop(self) {
-        let Fields { record, index } = self;
+        let Fields {
+            record,
+            marks: _,
+            index,
+        } = self;
         drop(record);
         drop(index);
     }
@@ -42,6 +50,7 @@ impl Model for Fields {
     ghost use Rattle.mlr_spec.specs.Tree.{Tree};
     ghost use Rattle.mlr_spec.specs.TreeCode.{coded_pairs};
     ghost use Rattle.mlr_spec.specs.Pairs.{keys_of};
+    ghost use Rattle.mlr_fields.specs.Marks.{AreMarked};
     ghost use Rattle.mlr_fields.specs.Prefixes.{IsPrefix};
     ghost use Rattle.mlr_fields.specs.declared.fields.TheConstants.{FEW};
 
@@ -51,7 +60,8 @@ impl Model for Fields {
 
     ghost view = { λ fields. fields.record };
 
-    ghost invariant = { λ fields. IfSome fields.index (λ index.
+    ghost invariant = { λ fields. AreMarked fields.marks (keys_of fields.record)
+        × IfSome fields.index (λ index.
         IsPrefix index (keys_of fields.record) × (FEW ≤ length index)) };
 }
 
@@ -61,8 +71,14 @@ impl Fields {
     pub fn new(from: Record) -> Self
         ensures { result ≡ from }
     {
+        let marks = if from.len() == 0 {
+            NameMarks::none()
+        } else {
+            NameMarks::all()
+        };
         Fields {
             record: from,
+            marks,
             index: None,
         }
     }
@@ -80,17 +96,34 @@ impl Fields {
     pub fn into_record(self) -> Record
         ensures { result ≡ self }
     {
-        let Fields { record, index: _ } = self;
+        let Fields {
+            record,
+            marks: _,
+            index: _,
+        } = self;
         record
     }
 
     /// Appends a field whose name isn't there. It makes no search.
-    #[inline]
+    #[inline(always)]
     pub fn push(&mut self, name: &[u8], value: Value) -> Result<(), NoMemory>
         requires { value_at name.now self.old ≡ None }
         ensures { OnOk result (self.new ≡ self.old ++ (name.now, tree_of value) ∷ []) }
     {
-        self.record.push(name, value)
+        self.push_marked(name, mark_of(name), value)
+    }
+
+    /// Appends a field whose name isn't there and has this mark.
+    #[inline(always)]
+    fn push_marked(&mut self, name: &[u8], mark: usize, value: Value) -> Result<(), NoMemory>
+        requires new { value_at name.now self.old ≡ None }
+        requires mark { mark ≡ mark_of name.now }
+        requires few { mark < 64 }
+        ensures { OnOk result (self.new ≡ self.old ++ (name.now, tree_of value) ∷ []) }
+    {
+        self.record.push(name, value)?;
+        self.marks.add(mark);
+        Ok(())
     }
 
     /// Sets a field. A name that is there gets a suffix, or its value is replaced.
@@ -105,10 +138,11 @@ impl Fields {
         requires { length self.old < 2 ^ 63 }
         ensures { OnOk result (self.new ≡ with_field dedupe name.now (tree_of value) self.old) }
     {
-        if self.record.len() < FEW {
-            put_few(alloc, &mut self.record, name, value, dedupe)
+        let mark = mark_of(name);
+        if self.marks.lack(mark) {
+            self.push_marked(name, mark, value)
         } else {
-            self.put_many(alloc, name, value, dedupe)
+            self.put_searched(alloc, name, value, dedupe)
         }
     }
 
@@ -125,31 +159,70 @@ impl Fields {
         ensures { OnOk result (self.new ≡ with_field opts.now.dedupe name.now
             (tree_of_data opts.now.infer text.now) self.old) }
     {
-        if self.record.len() < FEW {
-            let value = from_data(alloc, text, opts.infer)?;
-            put_few(alloc, &mut self.record, name, value, opts.dedupe)
-        } else {
-            self.put_text_to_many(alloc, opts, name, text)
+        let mark = mark_of(name);
+        if !self.marks.lack(mark) {
+            return self.put_text_searched(alloc, opts, name, text);
         }
+        let value = from_data(alloc, text, opts.infer)?;
+        self.push_marked(name, mark, value)
     }
 
-    /// Sets a field of this text in a record of many fields.
-    #[cold]
+    /// Sets a field of this text, whose name is searched for.
     #[inline(never)]
-    fn put_text_to_many(
+    fn put_text_searched(
         &mut self,
         alloc: Global,
         opts: &ReadOpts,
         name: &[u8],
         text: &[u8],
     ) -> Result<(), NoMemory>
-        requires many { FEW ≤ length self.old }
-        requires few { length self.old < 2 ^ 63 }
+        requires { length self.old < 2 ^ 63 }
         ensures { OnOk result (self.new ≡ with_field opts.now.dedupe name.now
             (tree_of_data opts.now.infer text.now) self.old) }
     {
         let value = from_data(alloc, text, opts.infer)?;
-        self.put_many(alloc, name, value, opts.dedupe)
+        self.put_searched(alloc, name, value, opts.dedupe)
+    }
+
+    /// Sets a field, whose name is searched for.
+    #[inline(never)]
+    fn put_searched(
+        &mut self,
+        alloc: Global,
+        name: &[u8],
+        value: Value,
+        dedupe: bool,
+    ) -> Result<(), NoMemory>
+        requires { length self.old < 2 ^ 63 }
+        ensures { OnOk result (self.new ≡ with_field dedupe name.now (tree_of value) self.old) }
+    {
+        if self.record.len() < FEW {
+            self.put_few(alloc, name, value, dedupe)
+        } else {
+            self.put_many(alloc, name, value, dedupe)
+        }
+    }
+
+    /// Sets a field of a record of few fields.
+    #[inline]
+    fn put_few(
+        &mut self,
+        alloc: Global,
+        name: &[u8],
+        value: Value,
+        dedupe: bool,
+    ) -> Result<(), NoMemory>
+        requires { length self.old < 2 ^ 63 }
+        ensures { OnOk result (self.new ≡ with_field dedupe name.now (tree_of value) self.old) }
+    {
+        if !self.record.has(name) {
+            self.push(name, value)
+        } else if dedupe {
+            let (_, free) = first_free(alloc, &self.record, name, FIRST)?;
+            self.push(free.as_slice(), value)
+        } else {
+            self.record.put(name, value)
+        }
     }
 
     /// Sets a field of a record of many fields.
@@ -171,31 +244,10 @@ impl Fields {
             None => NameIndex::new(alloc, 2 * FEW)?,
         };
         index.add_names(&self.record)?;
+        self.marks = NameMarks::all();
         put_indexed(&mut self.record, &mut index, name, value, dedupe)?;
         self.index = Some(index);
         Ok(())
-    }
-}
-
-/// Sets a field in a record of few fields.
-#[inline]
-fn put_few(
-    alloc: Global,
-    record: &mut Record,
-    name: &[u8],
-    value: Value,
-    dedupe: bool,
-) -> Result<(), NoMemory>
-    requires { length record.old < 2 ^ 63 }
-    ensures { OnOk result (record.new ≡ with_field dedupe name.now (tree_of value) record.old) }
-{
-    if !dedupe {
-        record.put(name, value)
-    } else if record.has(name) {
-        let (_, free) = first_free(alloc, record, name, FIRST)?;
-        record.push(free.as_slice(), value)
-    } else {
-        record.push(name, value)
     }
 }
 

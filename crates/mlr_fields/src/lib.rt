@@ -4,6 +4,7 @@
 mod distinct;
 mod fields;
 mod header;
+mod marks;
 mod name_index;
 mod room;
 mod suffixes;

@@ -8,7 +8,7 @@ use std::alloc::Global;
 
 /// Names and how often each comes, how they end when they are made distinct, with a semicolon after each, and how
 /// many names differ.
-const NAMES: [(&[(&str, usize)], &str, usize); 9] = [
+const NAMES: [(&[(&str, usize)], &str, usize); 10] = [
     (&[], "", 0),
     (&[("a", 1), ("b", 1)], "a;b;", 2),
     (&[("a", 3)], "a;a_2;a_3;", 1),
@@ -19,6 +19,7 @@ const NAMES: [(&[(&str, usize)], &str, usize); 9] = [
         ";_2;more than 16 bytes;more than 16 bytes_2;",
         2,
     ),
+    (&[("b", 1), ("ca", 2), ("b", 1)], "b;ca;ca_2;b_2;", 2),
     (&[("a", 64), ("b", 2)], ";a_63;a_64;b;b_2;", 2),
     (
         &[("a", 65), ("a_2", 2), ("a_67", 1), ("a", 2)],

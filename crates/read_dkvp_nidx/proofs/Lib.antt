@@ -1,4 +1,5 @@
 pub mod Piecewise
+mod Near
 mod Rowing
 pub mod Whole
 pub mod Tables

@@ -8,6 +8,7 @@ mod laws;
 mod line_step;
 mod markdown;
 mod nidx;
+mod pieces;
 mod reader;
 mod row;
 mod rules;

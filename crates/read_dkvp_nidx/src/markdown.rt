@@ -28,6 +28,7 @@ pub(crate) struct Place {
 }
 
 /// The outcome of a line; sets `block` to the place of the next line.
+#[inline(never)]
 pub(crate) fn markdown_row(
     alloc: Global,
     opts: &ReadOpts,

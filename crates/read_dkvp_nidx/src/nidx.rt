@@ -6,16 +6,17 @@ ghost use Rattle.read_dkvp_nidx.specs.Nidx.{nidx_record, by_position, words_of};
 ghost use Rattle.read_dkvp_nidx.specs.Pieces.{with_word, position_after};
 ghost use Rattle.read_dkvp_nidx.specs.Row.{row_items};
 
+use crate::pieces::next_piece;
 use crate::row::Row;
 use itoa::Buffer;
 use mlr_event::ReadOpts;
 use mlr_record::Record;
-use mlr_record::split::next_part;
 use mlr_spec::NoMemory;
 use mlr_value::from_data;
 use std::alloc::Global;
 
 /// The record of a line; nothing if the line has no value.
+#[inline(never)]
 pub(crate) fn nidx_row(alloc: Global, opts: &ReadOpts, line: &[u8]) -> Result<Row, NoMemory>
     requires ifs { 0 < length opts.now.ifs }
     requires length { length line.now < 2 ^ 63 }
@@ -45,7 +46,7 @@ fn put_words(
     let mut position = 1;
     let mut left = line;
     loop {
-        let (word, rest) = next_part(opts.ifs.as_slice(), left);
+        let (word, rest) = next_piece(opts.ifs.as_slice(), left);
         position = put_word(alloc, opts, position, word, record)?;
         match rest {
             None => return Ok(()),

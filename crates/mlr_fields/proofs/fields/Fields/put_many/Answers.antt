@@ -13,7 +13,7 @@ add_names-requires c =
     elim c.match-replace.branch [
       | in-Some w ↦
           subst (λ index. IsPrefix index keys) (sym w.index-is)
-          (subst (λ index. IfSome index (λ names. IsPrefix names keys × (64 ≤ length names))) (sym c.replace.ensures.value ∙ w.in-Some.is) c.self.invariant).0
+          (subst (λ index. IfSome index (λ names. IsPrefix names keys × (64 ≤ length names))) (sym c.replace.ensures.value ∙ w.in-Some.is) c.self.invariant.1).0
       | in-None+in_ok-index-in-None w ↦ (keys, sym (ap (λ index. index ++ keys) (w.index-is ∙ w.in_ok-index-in-None.ensures)))
     ]
 
@@ -22,6 +22,9 @@ invariant_of-self-2 c =
     let put = c.in_ok-put_indexed.ensures in
     let following = keys-with_field c.args.dedupe c.args.name.now (tree_of c.args.value) c.self.inside.record in
     let names = put.index ∙ c.in_ok-add_names.ensures.names in (
-      (following.0, ap keys_of put.record ∙ following.1 ∙ ap (λ index. index ++ following.0) (sym names)),
-      omega (arith, ap length names, length-keys c.self.inside.record, ap length c.self.view_is, c.requires.many),
+      c.all-self-inside.ensures (keys_of c.put_indexed.new.record),
+      (
+        (following.0, ap keys_of put.record ∙ following.1 ∙ ap (λ index. index ++ following.0) (sym names)),
+        omega (arith, ap length names, length-keys c.self.inside.record, ap length c.self.view_is, c.requires.many),
+      ),
     )
