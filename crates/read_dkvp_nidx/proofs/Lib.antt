@@ -1,5 +1,4 @@
 pub mod Piecewise
-mod Near
 mod Rowing
 pub mod Whole
 pub mod Tables

@@ -9,13 +9,12 @@ ghost use Rattle.read_dkvp_nidx.specs.Dkvp.{dkvp_record, keys_from, values_from}
 ghost use Rattle.read_dkvp_nidx.specs.Pieces.{with_piece};
 ghost use Rattle.read_dkvp_nidx.specs.Row.{row_items};
 
-use crate::pieces::next_piece;
 use crate::row::Row;
 use itoa::Buffer;
 use mlr_event::ReadOpts;
 use mlr_fields::Fields;
 use mlr_record::Record;
-use mlr_record::split::separator_place;
+use mlr_record::split::{next_part, separator_place};
 use mlr_spec::NoMemory;
 use std::alloc::Global;
 
@@ -54,7 +53,7 @@ fn put_pieces(
     let mut position = 1;
     let mut left = line;
     loop {
-        let (piece, rest) = next_piece(ifs, left);
+        let (piece, rest) = next_part(ifs, left);
         put_piece(alloc, opts, ips, position, piece, record)?;
         match rest {
             None => return Ok(()),

@@ -8,7 +8,6 @@ mod laws;
 mod line_step;
 mod markdown;
 mod nidx;
-mod pieces;
 mod reader;
 mod row;
 mod rules;

@@ -6,11 +6,11 @@ ghost use Rattle.read_dkvp_nidx.specs.Nidx.{nidx_record, by_position, words_of};
 ghost use Rattle.read_dkvp_nidx.specs.Pieces.{with_word, position_after};
 ghost use Rattle.read_dkvp_nidx.specs.Row.{row_items};
 
-use crate::pieces::next_piece;
 use crate::row::Row;
 use itoa::Buffer;
 use mlr_event::ReadOpts;
 use mlr_record::Record;
+use mlr_record::split::next_part;
 use mlr_spec::NoMemory;
 use mlr_value::from_data;
 use std::alloc::Global;
@@ -46,7 +46,7 @@ fn put_words(
     let mut position = 1;
     let mut left = line;
     loop {
-        let (word, rest) = next_piece(opts.ifs.as_slice(), left);
+        let (word, rest) = next_part(opts.ifs.as_slice(), left);
         position = put_word(alloc, opts, position, word, record)?;
         match rest {
             None => return Ok(()),

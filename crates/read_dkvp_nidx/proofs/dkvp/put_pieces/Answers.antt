@@ -11,12 +11,12 @@ loop-rest-preserved c =
     let record_now = c.loop-rest.record in
     let position = c.loop-rest.position in
     let left = c.loop-rest.left.now in
-    let piece = c.next_piece.result.0.now in
+    let piece = c.next_part.result.0.now in
     let rest = c.in-Some.rest in
     let parts : split_by opts.ifs left ≡ piece ∷ split_by opts.ifs rest.now =
-    ap (λ s. split_by s left) (sym c.as_slice-ifs.ensures) ∙ parts-more c.as_slice-ifs.result.now left piece c.next_piece.result.1 rest c.in-Some.is c.next_piece.ensures.parts
+    ap (λ s. split_by s left) (sym c.as_slice-ifs.ensures) ∙ parts-more c.as_slice-ifs.result.now left piece c.next_part.result.1 rest c.in-Some.is c.next_part.ensures.parts
     ∙ ap (λ s. piece ∷ split_by s rest.now) c.as_slice-ifs.ensures in
-    let shorter : length rest.now < length left = rest-shorter left c.next_piece.result.1 rest c.in-Some.is c.next_piece.ensures.shorter in
+    let shorter : length rest.now < length left = rest-shorter left c.next_part.result.1 rest c.in-Some.is c.next_part.ensures.shorter in
     record {
       fields = ap (λ pairs. with_fields opts.dedupe pairs (keys_from opts.ips (position + 1) (split_by opts.ifs rest.now)) (values_from opts (split_by opts.ifs rest.now))) c.in_ok-put_piece.ensures
           ∙ with_piece-more opts position piece (split_by opts.ifs rest.now) record_now

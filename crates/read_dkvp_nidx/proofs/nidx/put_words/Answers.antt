@@ -16,12 +16,12 @@ loop-position-preserved c =
     let record_now = c.loop-position.record in
     let position = c.loop-position.position in
     let left = c.loop-position.left.now in
-    let word = c.next_piece.result.0.now in
+    let word = c.next_part.result.0.now in
     let rest = c.in-Some.rest in
     let parts : split_by opts.ifs left ≡ word ∷ split_by opts.ifs rest.now =
-    ap (λ s. split_by s left) (sym c.as_slice.ensures) ∙ parts-more c.as_slice.result.now left word c.next_piece.result.1 rest c.in-Some.is c.next_piece.ensures.parts
+    ap (λ s. split_by s left) (sym c.as_slice.ensures) ∙ parts-more c.as_slice.result.now left word c.next_part.result.1 rest c.in-Some.is c.next_part.ensures.parts
     ∙ ap (λ s. word ∷ split_by s rest.now) c.as_slice.ensures in
-    let shorter : length rest.now < length left = rest-shorter left c.next_piece.result.1 rest c.in-Some.is c.next_piece.ensures.shorter in
+    let shorter : length rest.now < length left = rest-shorter left c.next_part.result.1 rest c.in-Some.is c.next_part.ensures.shorter in
     let put = c.in_ok-position.ensures.record in
     let next = c.in_ok-position.ensures.position in
     record {
