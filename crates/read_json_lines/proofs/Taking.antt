@@ -12,6 +12,7 @@ use Rattle.mlr_event.specs.declared.names.FileRef.{FileRef}
 use Rattle.mlr_event.specs.Reading.{Item, fields}
 use Rattle.mlr_event.specs.Reading as reading
 use Rattle.mlr_event.specs.Stream.{has_fault}
+use Rattle.read_json_lines.specs.declared.record_state.RecordState.{RecordState}
 use Rattle.read_json_lines.specs.declared.record_state.Turn.{Turn}
 use Rattle.read_json_lines.specs.declared.record_state.Turn.TheVariants.{On, Record, Fault}
 use Rattle.read_json_lines.specs.declared.stream.Stream.{Stream}
@@ -58,6 +59,17 @@ takes-token old new before after place token made is file appends counts = recor
       token-taken old.file (state_of new.record_state) place rest.tokens rest.ending (state_of old.record_state) token made is
       ∙ ap₂ (λ stop f. turn_items old.file made place ++ cond stop [] (items_in f (state_of new.record_state) rest)) (sym appends.stopped) (sym file);
 }
+
+-- the same, from the state after the token and what was put of its outcome
+pub takes-put : (old new : Stream) (state : RecordState) (before after : List Event) (place : ℕ) (token : Token) (made : Turn)
+    → IsTurn (turn (state_of old.record_state) token) made (state_of state) → HasPut (record old { record_state = state }) new before after (turn_items old.file made place)
+    → Takes old new before after (λ rest. and_token place token rest)
+takes-put old new state before after place token made is put =
+    takes-token old new before after place token made
+    (subst (IsTurn (turn (state_of old.record_state) token) made) (ap (λ (s : Stream). state_of s.record_state) (sym put.same)) is)
+    (ap (λ (s : Stream). s.file) put.same)
+    (record { events = put.appends.events; at = put.appends.at; stopped = put.appends.stopped })
+    (record { nr = put.counts.nr; fnr = put.counts.fnr })
 
 -- after a fault there are no items
 pub nothing-following : (s : Stream) (rest : Known) → s.stopped ≡ true → rest_items s rest ≡ []

@@ -3,10 +3,12 @@ use Rattle.std.proofs.Common.{◌≡◌, ℕ, ◌+◌, ◌-◌, ◌<◌, ◌≤�
 use Rattle.std.proofs.lemmas.Bool.{true≢false, cases_Bool}
 use Rattle.std.proofs.lemmas.List.{append-nil, length-append}
 use Rattle.std.proofs.lemmas.List.{length-drop, drop-append-le}
+use Rattle.std.proofs.lemmas.List.Sums.{prefix_len-le-length}
 use Rattle.std.proofs.Math.Seq.{take-length}
-use Rattle.mlr_spec.specs.JsonTokens.{Lexeme, Piece, piece, token_of_word, is_word_byte, word, mark, blank, quote, found, begun, bad, lexeme_outside, lexeme_inside, sign, text_token, decoded}
+use Rattle.mlr_spec.specs.JsonTokens.{Lexeme, Piece, piece, token_of_word, is_blank, is_word_byte, word, mark, blank, quote, found, begun, bad, lexeme_outside, lexeme_inside, sign, text_token, decoded}
 use Rattle.mlr_spec.specs.declared.json.JsonMark.{JsonMark}
 use Rattle.mlr_json.specs.Reading.{is_of_string}
+use Rattle.mlr_json.proofs.Blanks.{blank-lexeme}
 use Rattle.mlr_json.proofs.Stable.{stays-found}
 use Rattle.mlr_event.specs.declared.names.FileRef.{FileRef}
 use Rattle.mlr_event.specs.Reading as reading
@@ -449,6 +451,27 @@ turned-both old mid new text left rest before between after running first second
       items = λ whole bytes. first.items whole bytes ∙ ap (λ x. first.more ++ x) (second.items whole bytes) ∙ sym (append_assoc first.more second.more (future new whole (rest ++ bytes)));
       fit = second.fit;
     }
+
+no-blank : (old : Stream) (before : List Event) (text : List ℕ) (len : ℕ) → len ≡ 0 → old.stopped ≡ false → is_some old.text ≡ false → old.begun.items ≡ []
+    → Turned old (record old { place = old.place + len }) text (drop len text) before before
+no-blank old before text len zero_is running text_is none =
+    let place_is : old.place ≡ old.place + len = omega (arith, zero_is) in
+    subst (λ p. Turned old (record old { place = p }) text (drop len text) before before) place_is
+    (subst (λ n. Turned old old text (drop n text) before before) (sym zero_is) (turned-none old before text running (fit-outside old text_is none)))
+
+-- the blanks at the start of a text, if there are any
+pub turned-blanks : (old : Stream) (before : List Event) (text : List ℕ) → old.stopped ≡ false → is_some old.text ≡ false → old.begun.items ≡ []
+    → Turned old (record old { place = old.place + prefix_len is_blank text }) text (drop (prefix_len is_blank text) text) before before
+turned-blanks old before [] running text_is none = no-blank old before [] 0 refl running text_is none
+turned-blanks old before (b ∷ t) running text_is none =
+    let len = prefix_len is_blank (b ∷ t) in
+    elim (cases_Bool (is_blank b)) as (λ _. Turned old (record old { place = old.place + len }) (b ∷ t) (drop len (b ∷ t)) before before) [
+      | inl y ↦ turned-blank old before (b ∷ t) (drop len (b ∷ t)) len running text_is none (omega arith) (prefix_len-le-length is_blank (b ∷ t)) (blank-lexeme b t y) refl
+      | inr n ↦ no-blank old before (b ∷ t) len (first-other b t n) running text_is none
+    ]
+  where
+    first-other : (b : ℕ) (t : List ℕ) → is_blank b ≡ false → prefix_len is_blank (b ∷ t) ≡ 0
+    first-other b t n = rw n refl
 
 -- after a fault the rest of the text doesn't matter, and may be taken as empty
 pub turned-all : (old new : Stream) (text left : List ℕ) (before after : List Event) → (new.stopped ≡ true) ⊎ (left ≡ []) → Turned old new text left before after → Turned old new text [] before after

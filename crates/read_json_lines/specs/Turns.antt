@@ -25,6 +25,11 @@ IsTurn (gives pairs next) (Record made) s = (made ≡ pairs) × (s ≡ next)
 IsTurn (fails trouble) (Fault seen) s = seen ≡ trouble
 IsTurn _ _ s = ⊥
 
+-- the outcome of a token that completes no record
+abbrev pub turn_of : Option Trouble → Turn
+turn_of None = On
+turn_of (Some trouble) = Fault trouble
+
 -- the stream continues; `RefusesText` says whether every string continues it, or every string is this fault
 abbrev pub IsOn : records.Turn → Type 0
 IsOn (goes next) = Unit {0}

@@ -1,12 +1,13 @@
 //! Reads the tokens of records and of lists of records.
 ghost use Rattle.std.specs.Prelude.{◌≡◌, [], IfOk};
 ghost use Rattle.mlr_spec.specs.JsonTokens.{sign, text_token, word_token};
+ghost use Rattle.mlr_spec.specs.declared.json.JsonMark.TheVariants as JsonMark;
 ghost use Rattle.mlr_json.specs.Machine.{Step};
 ghost use Rattle.mlr_json.specs.Steps.{IsStep, Represents};
 ghost use Rattle.mlr_json.specs.declared.frame.Phase.{Phase};
 ghost use Rattle.mlr_value.specs.Value.{tree_of};
 ghost use Rattle.read_json_lines.specs.Records.{after_record, comma_turn, is_at_rest, list_begun, list_ended, map_begun, other_value, record_turn, start_state, takes_word, turn, turn_between, value_turn};
-ghost use Rattle.read_json_lines.specs.Turns.{IsTurn, RefusesText, state_of};
+ghost use Rattle.read_json_lines.specs.Turns.{IsTurn, RefusesText, state_of, turn_of};
 
 use crate::listing::{Listing, Trouble};
 use crate::records::record_of;
@@ -92,28 +93,59 @@ impl RecordState {
         self.mark_between(mark)
     }
 
-    /// Reads a word with this value.
-    pub(crate) fn word(&mut self, value: Value) -> Result<Turn, NoMemory>
-        ensures { IfOk result (λ made. IsTurn (turn (state_of self.old)
-            (word_token (tree_of value))) made (state_of self.new)) }
+    /// Reads a colon, and returns the fault if it may not come here.
+    #[inline(always)]
+    pub(crate) fn colon(&mut self) -> Option<Trouble>
+        ensures { IsTurn (turn (state_of self.old) (sign JsonMark.Colon)) (turn_of result)
+            (state_of self.new) }
     {
-        if self.machine.is_within() {
-            let went = self.machine.word(value)?;
-            return self.value_turn(went);
+        if self.machine.is_within() && self.machine.colon() {
+            None
+        } else {
+            Some(Trouble::Syntax)
         }
-        Ok(Turn::Fault(other_value(self.list)))
     }
 
-    /// Reads a string with this text.
-    pub(crate) fn text(&mut self, text: Bytes) -> Result<Turn, NoMemory>
-        ensures { IfOk result
-            (λ made. IsTurn (turn (state_of self.old) (text_token text)) made (state_of self.new)) }
+    /// Reads a comma, and returns the fault if it may not come here.
+    #[inline(always)]
+    pub(crate) fn comma(&mut self) -> Option<Trouble>
+        ensures { IsTurn (turn (state_of self.old) (sign JsonMark.Comma)) (turn_of result)
+            (state_of self.new) }
     {
-        if self.machine.is_within() {
-            let went = self.machine.text(text)?;
-            return self.value_turn(went);
+        if !self.machine.is_within() {
+            return self.comma_between();
         }
-        Ok(Turn::Fault(other_value(self.list)))
+        if self.machine.comma() {
+            None
+        } else {
+            Some(Trouble::Syntax)
+        }
+    }
+
+    /// Reads a word with this value, and returns the fault if it may not come here.
+    #[inline(always)]
+    pub(crate) fn word(&mut self, value: Value) -> Result<Option<Trouble>, NoMemory>
+        ensures { IfOk result (λ fault. IsTurn (turn (state_of self.old)
+            (word_token (tree_of value))) (turn_of fault) (state_of self.new)) }
+    {
+        if !self.machine.is_within() {
+            return Ok(Some(other_value(self.list)));
+        }
+        let goes_on = self.machine.word_within(value)?;
+        Ok(if goes_on { None } else { Some(Trouble::Syntax) })
+    }
+
+    /// Reads a string with this text, and returns the fault if it may not come here.
+    #[inline(always)]
+    pub(crate) fn text(&mut self, text: Bytes) -> Result<Option<Trouble>, NoMemory>
+        ensures { IfOk result (λ fault. IsTurn (turn (state_of self.old) (text_token text))
+            (turn_of fault) (state_of self.new)) }
+    {
+        if !self.machine.is_within() {
+            return Ok(Some(other_value(self.list)));
+        }
+        let goes_on = self.machine.text_within(text)?;
+        Ok(if goes_on { None } else { Some(Trouble::Syntax) })
     }
 
     /// Reads a mark outside records.
@@ -126,7 +158,7 @@ impl RecordState {
             JsonMark::BeginMap => self.begin_map(),
             JsonMark::BeginArray => Ok(self.begin_list()),
             JsonMark::EndArray => Ok(self.end_list()),
-            JsonMark::Comma => Ok(self.comma()),
+            JsonMark::Comma => Ok(turn_of(self.comma_between())),
             JsonMark::EndMap | JsonMark::Colon => Ok(Turn::Fault(Trouble::Syntax)),
         }
     }
@@ -167,14 +199,15 @@ impl RecordState {
         }
     }
 
-    fn comma(&mut self) -> Turn
-        ensures { IsTurn (comma_turn (state_of self.old) self.old.list) result (state_of self.new) }
+    fn comma_between(&mut self) -> Option<Trouble>
+        ensures { IsTurn (comma_turn (state_of self.old) self.old.list) (turn_of result)
+            (state_of self.new) }
     {
         if self.list != Listing::After {
-            return Turn::Fault(Trouble::Syntax);
+            return Some(Trouble::Syntax);
         }
         self.list = Listing::Next;
-        Turn::On
+        None
     }
 
     /// The outcome of a step within a record. Most steps continue the record, so this match is inlined.
@@ -204,6 +237,16 @@ impl RecordState {
                 Ok(Turn::Record(record))
             }
         }
+    }
+}
+
+/// The outcome of a token that completes no record.
+fn turn_of(fault: Option<Trouble>) -> Turn
+    ensures { result ≡ turn_of fault }
+{
+    match fault {
+        None => Turn::On,
+        Some(trouble) => Turn::Fault(trouble),
     }
 }
 

@@ -1,10 +1,12 @@
 //! Reads the bytes of a file after its byte order mark.
-ghost use Rattle.std.specs.Prelude.{ℕ, ◌≡◌, ◌+◌, ◌^◌, ◌<◌, ◌≤◌, ◌++◌, ◌∷◌, [], true, false, length, drop, take, IfOk, OnOk, is_some, None};
+ghost use Rattle.std.specs.Prelude.{ℕ, List, ◌≡◌, ◌+◌, ◌^◌, ◌<◌, ◌≤◌, ◌++◌, ◌∷◌, [], true, false, length, drop, take, IfOk, OnOk, is_some, None};
 ghost use Rattle.mlr_spec.specs.JsonTokens.{lexeme_outside, found, sign, token_of_word};
 ghost use Rattle.mlr_spec.specs.JsonTokens as lexeme;
 ghost use Rattle.mlr_json.specs.Seen.{lexeme_seen};
+ghost use Rattle.mlr_event.specs.declared.event.Event.{Event};
 ghost use Rattle.mlr_event.specs.Reading as item;
 ghost use Rattle.read_json_lines.specs.Records.{fault_of};
+ghost use Rattle.read_json_lines.specs.Turns.{turn_of};
 ghost use Rattle.read_json_lines.specs.Streams.{HasPut, IsFit, Appends, Starts, Takes, Turned, and_token, count_of, future, is_between, or_stop, token_of_value, turn_items, waits};
 
 use crate::listing::Trouble;
@@ -12,7 +14,7 @@ use crate::record_state::{RecordState, Turn};
 use crate::strings::OpenText;
 use mlr_event::rows::next_ctx;
 use mlr_event::{Ctx, Event, Events, Fault, FileRef};
-use mlr_json::{Lexeme, Scanned, first_lexeme, word_len, word_value};
+use mlr_json::{Lexeme, Scanned, blank_len, first_lexeme, word_len, word_value};
 use mlr_record::Record;
 use mlr_spec::{InferOpts, JsonMark, NoMemory};
 use mlr_value::Value;
@@ -181,7 +183,11 @@ impl Stream {
             Lexeme::Mark(mark) => {
                 self.take_mark(mark, out)?;
                 self.place += len as u64;
-                Ok(following(text, len))
+                let left = following(text, len);
+                if self.stopped {
+                    return Ok(left);
+                }
+                Ok(self.pass_blanks(left))
             }
             Lexeme::Quote => self.turn_quote(len, text, out),
             Lexeme::Blank => {
@@ -190,6 +196,23 @@ impl Stream {
             }
             Lexeme::Raw(_) | Lexeme::Unit(_) => unreachable!(),
         }
+    }
+
+    /// Reads the blanks at the start of a text, and returns the rest of it.
+    #[inline(always)]
+    fn pass_blanks<'a>(&mut self, text: &'a [u8]) -> &'a [u8]
+        requires goes_on { self.old.stopped ≡ false }
+        requires room { self.old.place + length text.now < 2 ^ 63 }
+        requires text { is_some self.old.text ≡ false }
+        requires begun { self.old.begun.items ≡ [] }
+        ensures turned { (out : List Event) → Turned self.old self.new text.now result.now out out }
+        ensures place { self.new ≡ record self.old { place = self.new.place } }
+        ensures room { self.new.place + length result.now ≡ self.old.place + length text.now }
+        ensures shorter { length result.now ≤ length text.now }
+    {
+        let len = blank_len(text);
+        self.place += len as u64;
+        following(text, len)
     }
 
     /// Reads a word at the start of a text, or keeps it if the next piece may continue it. If no word is
@@ -292,6 +315,35 @@ impl Stream {
                   self.new.stopped;
             }) }
     {
+        match mark {
+            JsonMark::Colon => {
+                let fault = self.record_state.colon();
+                self.put_fault(fault, self.place, out)
+            }
+            JsonMark::Comma => {
+                let fault = self.record_state.comma();
+                self.put_fault(fault, self.place, out)
+            }
+            _ => self.take_bracket(mark, out),
+        }
+    }
+
+    /// Reads a bracket, which may end a record.
+    #[inline(never)]
+    fn take_bracket(&mut self, mark: JsonMark, out: &mut Events) -> Result<(), NoMemory>
+        requires goes_on { self.old.stopped ≡ false }
+        requires nr { self.old.at.nr < 2 ^ 63 }
+        requires fnr { self.old.at.fnr < 2 ^ 63 }
+        ensures takes { OnOk result (Takes self.old self.new out.old out.new
+            (λ rest. and_token self.old.place (sign mark) rest)) }
+        ensures same { OnOk result (self.new ≡ record
+            self.old {
+              record_state = self.new.record_state;
+              at = self.new.at;
+              stopped =
+                  self.new.stopped;
+            }) }
+    {
         let turn = self.record_state.mark(mark)?;
         self.put(turn, self.place, out)
     }
@@ -334,16 +386,33 @@ impl Stream {
                   self.new.stopped;
             }) }
     {
-        let turn = match value {
-            None => Turn::Fault(Trouble::Syntax),
+        let fault = match value {
+            None => Some(Trouble::Syntax),
             Some(value) => self.record_state.word(value)?,
         };
-        self.put(turn, place, out)
+        self.put_fault(fault, place, out)
     }
 
-    /// Appends the outcome of a token to `out`. Most tokens continue a record, so this match is inlined.
+    /// Appends the fault of a token to `out`, if it has one.
     #[inline(always)]
-    pub(crate) fn put(&mut self, turn: Turn, place: u64, out: &mut Events) -> Result<(), NoMemory>
+    pub(crate) fn put_fault(
+        &mut self,
+        fault: Option<Trouble>,
+        place: u64,
+        out: &mut Events,
+    ) -> Result<(), NoMemory>
+        requires goes_on { self.old.stopped ≡ false }
+        ensures { OnOk result (HasPut self.old self.new out.old out.new
+            (turn_items self.old.file (turn_of fault) place)) }
+    {
+        match fault {
+            None => Ok(()),
+            Some(trouble) => self.fail(trouble, place, out),
+        }
+    }
+
+    /// Appends the outcome of a token to `out`.
+    fn put(&mut self, turn: Turn, place: u64, out: &mut Events) -> Result<(), NoMemory>
         requires goes_on { self.old.stopped ≡ false }
         requires nr { self.old.at.nr < 2 ^ 63 }
         requires fnr { self.old.at.fnr < 2 ^ 63 }

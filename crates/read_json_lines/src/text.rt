@@ -63,8 +63,8 @@ impl Stream {
             }) }
     {
         let text = Bytes::copy_of(self.alloc, text)?;
-        let turn = self.record_state.text(text)?;
-        self.put(turn, self.place, out)
+        let fault = self.record_state.text(text)?;
+        self.put_fault(fault, self.place, out)
     }
 
     /// Reads the opening quote of a string.
@@ -199,8 +199,8 @@ impl Stream {
             return Ok(());
         };
         let text = open.builder.finish()?;
-        let turn = self.record_state.text(text)?;
-        self.put(turn, open.place, out)
+        let fault = self.record_state.text(text)?;
+        self.put_fault(fault, open.place, out)
     }
 }
 
