@@ -10,12 +10,8 @@ use Rattle.mlr_spec.specs.Tree.{Tree}
 use Rattle.mlr_spec.proofs.Flattening.{drop-more}
 use Rattle.writers.specs.declared.form.Part.{Part}
 use Rattle.writers.specs.declared.form.Part.TheVariants.{Keys}
-use Rattle.writers.specs.declared.form.RowStyle.{RowStyle}
-use Rattle.writers.specs.declared.form.FieldForm.TheVariants as form
-use Rattle.writers.specs.declared.options.WriteOpts.{WriteOpts}
 use Rattle.writers.specs.Cells.{part_text, same_texts, texts}
 use Rattle.writers.specs.Csv.{never_empty}
-use Rattle.writers.specs.Rows.{field_in, field_text}
 
 -- texts of another number are others
 pub other-length : (xs ys : List (List ℕ)) → (length xs ≡ length ys → ⊥) → false ≡ same_texts xs ys
@@ -62,10 +58,11 @@ pub line-some : (into line before : List ℕ) → before ≡ into ++ line → (l
 line-some into [] before is some = absurd (some (ap length (is ∙ append-nil into)))
 line-some into (b ∷ line) before is some = is
 
-pub row-fields : (style : RowStyle) (part : Part) (opts : WriteOpts) (r : List (List ℕ × Tree)) → map (field_text (form.Row style part) opts) r ≡ map (field_in style opts) (texts part r)
-row-fields style part opts [] = refl
-row-fields style part opts (field ∷ r) = ap (λ more. field_in style opts (part_text part field) ∷ more) (row-fields style part opts r)
+-- the cells of a record
+pub row-cells : (cell : List ℕ → List ℕ) (part : Part) (r : List (List ℕ × Tree)) → map (λ field. cell (part_text part field)) r ≡ map cell (texts part r)
+row-cells cell part [] = refl
+row-cells cell part (field ∷ r) = ap (λ more. cell (part_text part field) ∷ more) (row-cells cell part r)
 
-pub dashes-fields : (opts : WriteOpts) (r : List (List ℕ × Tree)) → map (field_text form.Dashes opts) r ≡ map (λ key. codes "---") (texts Keys r)
-dashes-fields opts [] = refl
-dashes-fields opts (field ∷ r) = ap (λ more. codes "---" ∷ more) (dashes-fields opts r)
+pub dashes-cells : (r : List (List ℕ × Tree)) → map (λ field. codes "---") r ≡ map (λ key. codes "---") (texts Keys r)
+dashes-cells [] = refl
+dashes-cells (field ∷ r) = ap (λ more. codes "---" ∷ more) (dashes-cells r)

@@ -13,7 +13,6 @@ pub mod Xtab
 pub mod Pprint
 pub mod Written
 pub mod Joined
-pub mod Rows
 pub mod Columns
 pub mod Represents
 pub mod Runs

@@ -5,12 +5,12 @@ ghost use Rattle.writers.specs.Json.{json_after, json_end, json_written, line_en
 ghost use Rattle.writers.specs.Represents.{run_of};
 
 use crate::WriteOpts;
-use crate::fields::append_fields;
-use crate::form::FieldForm;
+use crate::fields::{FieldText, append_fields};
 use crate::state::State;
+use mlr_json::append_json_field;
 use mlr_record::Record;
 use mlr_spec::{JsonStyle, NoMemory};
-use mlr_value::Bytes;
+use mlr_value::{Bytes, Value};
 
 /// Appends a record: in a list, or on lines of its own.
 pub(crate) fn append_json(
@@ -27,9 +27,9 @@ pub(crate) fn append_json(
     let style = style_of(opts);
     if opts.listwrap {
         append_lead(state, out)?;
-        append_record(style, opts, fields, scratch, out)?;
+        append_record(style, fields, scratch, out)?;
     } else {
-        append_record(style, opts, fields, scratch, out)?;
+        append_record(style, fields, scratch, out)?;
         out.push(b'\n')?;
     }
     state.any = true;
@@ -87,7 +87,6 @@ fn style_of(opts: &WriteOpts) -> JsonStyle
 /// Appends a record as a map at the first level.
 pub(crate) fn append_record(
     style: JsonStyle,
-    opts: &WriteOpts,
     fields: &Record,
     scratch: &mut Bytes,
     out: &mut Bytes,
@@ -95,41 +94,58 @@ pub(crate) fn append_record(
     ensures { OnOk result (out.new ≡ out.old ++ json_record style fields.now) }
 {
     match style {
-        JsonStyle::Stacked => append_stacked(opts, fields, scratch, out),
-        JsonStyle::Single => append_single(opts, fields, scratch, out),
+        JsonStyle::Stacked => append_stacked(fields, scratch, out),
+        JsonStyle::Single => append_single(fields, scratch, out),
     }
 }
 
-fn append_stacked(
-    opts: &WriteOpts,
-    fields: &Record,
-    scratch: &mut Bytes,
-    out: &mut Bytes,
-) -> Result<(), NoMemory>
+fn append_stacked(fields: &Record, scratch: &mut Bytes, out: &mut Bytes) -> Result<(), NoMemory>
     ensures { OnOk result (out.new ≡ out.old ++ json_record JsonStyle.Stacked fields.now) }
 {
     if fields.len() == 0 {
         return out.append(b"{}");
     }
-    let form = FieldForm::Json(JsonStyle::Stacked);
+    let form = JsonFields {
+        style: JsonStyle::Stacked,
+    };
     out.append(b"{\n  ")?;
-    append_fields(form, opts, b",\n  ", fields, scratch, out)?;
+    append_fields(&form, b",\n  ", fields, scratch, out)?;
     out.append(b"\n}")
 }
 
-fn append_single(
-    opts: &WriteOpts,
-    fields: &Record,
-    scratch: &mut Bytes,
-    out: &mut Bytes,
-) -> Result<(), NoMemory>
+fn append_single(fields: &Record, scratch: &mut Bytes, out: &mut Bytes) -> Result<(), NoMemory>
     ensures { OnOk result (out.new ≡ out.old ++ json_record JsonStyle.Single fields.now) }
 {
     if fields.len() == 0 {
         return out.append(b"{}");
     }
-    let form = FieldForm::Json(JsonStyle::Single);
+    let form = JsonFields {
+        style: JsonStyle::Single,
+    };
     out.append(b"{")?;
-    append_fields(form, opts, b", ", fields, scratch, out)?;
+    append_fields(&form, b", ", fields, scratch, out)?;
     out.append(b"}")
+}
+
+/// Each field as in a map.
+#[derive(Drop)]
+struct JsonFields {
+    style: JsonStyle,
+}
+
+impl FieldText for JsonFields {
+    ghost use Rattle.mlr_spec.specs.Json.{json_field};
+
+    ghost text = { λ form field. json_field form.style 1 field };
+
+    #[inline(always)]
+    fn append_field(
+        &self,
+        key: &[u8],
+        value: &Value,
+        _scratch: &mut Bytes,
+        out: &mut Bytes,
+    ) -> Result<(), NoMemory> {
+        append_json_field(key, value, self.style, out)
+    }
 }

@@ -3,13 +3,19 @@
 #![tactic(auto)]
 
 mod block;
+mod cell;
 mod cells;
+mod csv;
+mod dkvp;
 mod escape;
 mod fields;
 mod form;
 mod json;
+mod jsonl;
 mod keys;
 mod laws;
+mod markdown;
+mod nidx;
 mod options;
 mod pprint;
 mod rows;
@@ -17,6 +23,7 @@ mod stage;
 mod state;
 #[cfg(test)]
 mod tests;
+mod tsv;
 mod width;
 mod writer;
 mod xtab;

@@ -4,23 +4,25 @@ ghost use Rattle.mlr_event.specs.declared.event.Body.{Body};
 ghost use Rattle.writers.specs.declared.options.WriteOpts.{WriteOpts};
 ghost use Rattle.mlr_event.specs.Adding.{Adds};
 ghost use Rattle.writers.specs.Represents.{HasEnded, IsBroken, IsOpen, Represents, run_of};
-ghost use Rattle.writers.specs.Headed.{headed_after};
-ghost use Rattle.writers.specs.Rows.{row_text};
 ghost use Rattle.writers.specs.Written.{after, end_text, gives, record_after, record_text, written};
 
 use crate::WriteOpts;
 use crate::cells::shaped;
-use crate::fields::append_line;
-use crate::form::{FieldForm, RowStyle};
-use crate::json::{append_json, append_json_end, append_line_end, append_record};
+use crate::csv::CsvRows;
+use crate::dkvp::append_dkvp;
+use crate::json::{append_json, append_json_end, append_line_end};
+use crate::jsonl::append_jsonl;
+use crate::markdown::MarkdownRows;
+use crate::nidx::append_nidx;
 use crate::pprint::{append_pprint, end_block};
 use crate::rows::append_row;
 use crate::stage::Stage;
 use crate::state::State;
+use crate::tsv::TsvRows;
 use crate::xtab::append_xtab;
 use mlr_event::{Body, Format};
 use mlr_record::Record;
-use mlr_spec::{JsonStyle, NoMemory};
+use mlr_spec::NoMemory;
 use mlr_value::Bytes;
 use std::alloc::Global;
 
@@ -142,9 +144,30 @@ impl Writer {
         ensures stage { self.new.stage ≡ self.old.stage }
     {
         match self.opts.format {
-            Format::Csv => self.take_row(RowStyle::Csv, &fields, out),
-            Format::Tsv => self.take_row(RowStyle::Tsv, &fields, out),
-            Format::Markdown => self.take_row(RowStyle::Markdown, &fields, out),
+            Format::Csv => append_row(
+                &CsvRows::of(&self.opts),
+                &mut self.state,
+                &fields,
+                self.alloc,
+                &mut self.scratch,
+                out,
+            ),
+            Format::Tsv => append_row(
+                &TsvRows { opts: &self.opts },
+                &mut self.state,
+                &fields,
+                self.alloc,
+                &mut self.scratch,
+                out,
+            ),
+            Format::Markdown => append_row(
+                &MarkdownRows,
+                &mut self.state,
+                &fields,
+                self.alloc,
+                &mut self.scratch,
+                out,
+            ),
             Format::Json => append_json(
                 &self.opts,
                 &mut self.state,
@@ -152,30 +175,9 @@ impl Writer {
                 &mut self.scratch,
                 out,
             ),
-            Format::Jsonl => {
-                append_record(
-                    JsonStyle::Single,
-                    &self.opts,
-                    &fields,
-                    &mut self.scratch,
-                    out,
-                )?;
-                out.push(b'\n')
-            }
-            Format::Dkvp => append_line(
-                FieldForm::Pair,
-                &self.opts,
-                &fields,
-                &mut self.scratch,
-                out,
-            ),
-            Format::Nidx => append_line(
-                FieldForm::Value,
-                &self.opts,
-                &fields,
-                &mut self.scratch,
-                out,
-            ),
+            Format::Jsonl => append_jsonl(&fields, &mut self.scratch, out),
+            Format::Dkvp => append_dkvp(&self.opts, &fields, &mut self.scratch, out),
+            Format::Nidx => append_nidx(&self.opts, &fields, &mut self.scratch, out),
             Format::Xtab => append_xtab(&mut self.state, &fields, out),
             Format::Pprint => append_pprint(
                 &self.opts,
@@ -186,31 +188,6 @@ impl Writer {
                 out,
             ),
         }
-    }
-
-    /// Takes a record of a format with headers.
-    fn take_row(
-        &mut self,
-        style: RowStyle,
-        fields: &Record,
-        out: &mut Bytes,
-    ) -> Result<(), NoMemory>
-        ensures run { OnOk result (run_of self.new.state
-            ≡ headed_after (run_of self.old.state) fields.now) }
-        ensures text { OnOk result (out.new ≡ out.old
-            ++ row_text style self.old.opts (run_of self.old.state) fields.now) }
-        ensures opts { self.new.opts ≡ self.old.opts }
-        ensures stage { self.new.stage ≡ self.old.stage }
-    {
-        append_row(
-            style,
-            &self.opts,
-            &mut self.state,
-            fields,
-            self.alloc,
-            &mut self.scratch,
-            out,
-        )
     }
 
     fn take_end(&mut self, out: &mut Bytes) -> Result<(), NoMemory>

@@ -1,0 +1,43 @@
+//! NIDX: a line of values for each record.
+ghost use Rattle.std.specs.Prelude.{◌≡◌, ◌++◌, OnOk};
+ghost use Rattle.writers.specs.Nidx.{nidx_record};
+
+use crate::WriteOpts;
+use crate::fields::{FieldText, append_line};
+use mlr_record::Record;
+use mlr_spec::NoMemory;
+use mlr_value::{Bytes, Value};
+use text_forms::append_shown;
+
+/// Appends a record as a line of values.
+pub(crate) fn append_nidx(
+    opts: &WriteOpts,
+    fields: &Record,
+    scratch: &mut Bytes,
+    out: &mut Bytes,
+) -> Result<(), NoMemory>
+    ensures { OnOk result (out.new ≡ out.old ++ nidx_record opts.now fields.now) }
+{
+    append_line(&ValuesAlone, opts.ofs.as_slice(), fields, scratch, out)
+}
+
+/// The value of each field as it is.
+#[derive(Drop)]
+struct ValuesAlone;
+
+impl FieldText for ValuesAlone {
+    ghost use Rattle.text_forms.specs.Shown.{shown};
+
+    ghost text = { λ form field. shown field.1 };
+
+    #[inline(always)]
+    fn append_field(
+        &self,
+        _key: &[u8],
+        value: &Value,
+        _scratch: &mut Bytes,
+        out: &mut Bytes,
+    ) -> Result<(), NoMemory> {
+        append_shown(value, out)
+    }
+}
