@@ -58,6 +58,7 @@ impl Stream {
     }
 
     /// Reads a piece of the file, and appends the events of the records that it ends to `out`.
+    #[inline(never)]
     pub(crate) fn feed(&mut self, piece: &[u8], out: &mut Events) -> Result<(), NoMemory>
         requires goes_on { self.old.stopped ≡ false }
         requires room { count_of self.old + length piece.now < 2 ^ 63 }
@@ -251,6 +252,7 @@ impl Stream {
     }
 
     /// Continues the word that has begun, or ends it.
+    #[inline(never)]
     fn go_on<'a>(&mut self, text: &'a [u8], out: &mut Events) -> Result<&'a [u8], NoMemory>
         requires bytes { 0 < length text.now }
         requires goes_on { self.old.stopped ≡ false }
@@ -274,6 +276,7 @@ impl Stream {
     }
 
     /// Ends the word that has begun.
+    #[inline(never)]
     fn end_word(&mut self, out: &mut Events) -> Result<(), NoMemory>
         requires goes_on { self.old.stopped ≡ false }
         requires nr { self.old.at.nr < 2 ^ 63 }
@@ -367,6 +370,7 @@ impl Stream {
     }
 
     /// Reads a word with this value; a word without value is a fault.
+    #[inline(always)]
     fn take_value(
         &mut self,
         value: Option<Value>,

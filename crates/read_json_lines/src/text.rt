@@ -85,6 +85,7 @@ impl Stream {
     }
 
     /// Reads one lexeme within a string.
+    #[inline(never)]
     pub(crate) fn turn_inside<'a>(
         &mut self,
         text: &'a [u8],
@@ -124,6 +125,7 @@ impl Stream {
     }
 
     /// Reads one more byte of the escape that has begun.
+    #[inline(never)]
     pub(crate) fn end_escape<'a>(
         &mut self,
         text: &'a [u8],
