@@ -16,3 +16,4 @@ pub mod Joined
 pub mod Columns
 pub mod Represents
 pub mod Runs
+pub mod Style

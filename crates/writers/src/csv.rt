@@ -115,7 +115,8 @@ fn append_csv_line(
     scratch: &mut Bytes,
     out: &mut Bytes,
 ) -> Result<(), NoMemory>
-    ensures { OnOk result (out.new ≡ out.old ++ csv_line rows.now.opts.now (texts part fields.now)) }
+    ensures { OnOk result (out.new ≡ out.old
+        ++ csv_line rows.now.opts.now (texts part fields.now)) }
 {
     let before = out.len();
     let form = InCells { cells: rows, part };

@@ -1,5 +1,6 @@
 //! How records are written: the format, its separators and its flags.
 ghost use Rattle.std.specs.Prelude.{◌≡◌, ◌≤◌, length, IfOk, IsOk};
+ghost use Rattle.writers.specs.Style.{default_write, is_nested};
 
 use mlr_event::Format;
 use mlr_spec::NoMemory;
@@ -55,6 +56,27 @@ impl Drop for WriteOpts {
 }
 
 impl WriteOpts {
+    /// How a format is written where no flag says otherwise: flattened, if values can't be nested in it. It takes no
+    /// memory.
+    pub fn of(alloc: Global, format: Format) -> Result<WriteOpts, NoMemory>
+        ensures same { IfOk result (λ opts. opts ≡ default_write format) }
+        ensures sure { IsOk result }
+    {
+        Ok(WriteOpts {
+            format,
+            ofs: Bytes::copy_of(alloc, format.separator())?,
+            ops: Bytes::copy_of(alloc, b"=")?,
+            headerless: false,
+            quote_all: false,
+            barred: false,
+            stacked: true,
+            listwrap: true,
+            flatten: !is_nested(format),
+            unflatten: false,
+            flatsep: Bytes::copy_of(alloc, b".")?,
+        })
+    }
+
     /// A copy. It takes memory for texts of more than 16 bytes.
     pub fn copy(&self, alloc: Global) -> Result<WriteOpts, NoMemory>
         ensures same { IfOk result (λ copy. copy ≡ self.now) }
@@ -75,4 +97,11 @@ impl WriteOpts {
             flatsep: Bytes::copy_of(alloc, self.flatsep.as_slice())?,
         })
     }
+}
+
+/// Whether values can be nested in a format.
+fn is_nested(format: Format) -> bool
+    ensures { result ≡ is_nested format }
+{
+    matches!(format, Format::Json | Format::Jsonl)
 }

@@ -62,7 +62,8 @@ pub(crate) fn append_row<F: RowFormat>(
     ensures run { OnOk result (run_of state.new ≡ headed_after (run_of state.old) fields.now) }
     ensures text { OnOk result (out.new ≡ out.old
         ++ headed (F.headerless format.now) (run_of state.old) fields.now
-        (F.header_of format.now (texts Keys fields.now)) (F.row_of format.now (texts Values fields.now))) }
+        (F.header_of format.now (texts Keys fields.now))
+        (F.row_of format.now (texts Values fields.now))) }
 {
     if fields.len() == 0 {
         state.keys.clear();

@@ -20,26 +20,11 @@ enum Flag {
     Unflatten,
 }
 
-/// The options of a format where no flag is given.
+/// The options of a format where no flag is given, and nothing is flattened.
 fn plain(alloc: Global, format: Format) -> Result<WriteOpts, NoMemory> {
-    let ofs: &[u8] = match format {
-        Format::Tsv => b"\t",
-        Format::Nidx => b" ",
-        _ => b",",
-    };
-    Ok(WriteOpts {
-        format,
-        ofs: Bytes::copy_of(alloc, ofs)?,
-        ops: Bytes::copy_of(alloc, b"=")?,
-        headerless: false,
-        quote_all: false,
-        barred: false,
-        stacked: true,
-        listwrap: true,
-        flatten: false,
-        unflatten: false,
-        flatsep: Bytes::copy_of(alloc, b".")?,
-    })
+    let mut opts = WriteOpts::of(alloc, format)?;
+    opts.flatten = false;
+    Ok(opts)
 }
 
 fn set(opts: &mut WriteOpts, flag: Flag) {

@@ -68,7 +68,8 @@ fn append_tsv_line(
     scratch: &mut Bytes,
     out: &mut Bytes,
 ) -> Result<(), NoMemory>
-    ensures { OnOk result (out.new ≡ out.old ++ tsv_line rows.now.opts.now (texts part fields.now)) }
+    ensures { OnOk result (out.new ≡ out.old
+        ++ tsv_line rows.now.opts.now (texts part fields.now)) }
 {
     let form = InCells { cells: rows, part };
     append_line(&form, rows.opts.ofs.as_slice(), fields, scratch, out)
