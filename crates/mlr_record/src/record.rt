@@ -36,20 +36,30 @@ impl Drop for Record {
     }
 }
 
-/// Drops the fields. Most hold no memory, which a look at each shows, and are forgotten.
+/// Drops the fields. Where none holds memory, which a look at each shows, nothing is left to do.
 fn drop_fields(fields: Vec<Field>) {
-    for field in fields {
-        if field.name.holds_memory() || field.value.holds_memory() {
-            drop_field(field);
-        } else {
+    if hold_memory(&fields) {
+        drop_each(fields);
+    } else {
+        for field in fields {
             forget(field);
         }
     }
 }
 
+/// Whether any of the fields holds memory.
+fn hold_memory(fields: &[Field]) -> bool {
+    for field in fields {
+        if field.name.holds_memory() || field.value.holds_memory() {
+            return true;
+        }
+    }
+    false
+}
+
 #[inline(never)]
-fn drop_field(field: Field) {
-    drop(field);
+fn drop_each(fields: Vec<Field>) {
+    drop(fields);
 }
 
 impl Model for Record {

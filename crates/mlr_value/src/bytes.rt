@@ -80,7 +80,7 @@ impl Bytes {
                 room: Room::Inline(short.copy()),
                 alloc: self.alloc,
             }),
-            Room::Heap(heap) => heap_copy(self.alloc, heap.as_slice()),
+            Room::Heap(heap) => Bytes::copy_of(self.alloc, heap.as_slice()),
         }
     }
 
@@ -252,15 +252,6 @@ impl Bytes {
     {
         self.len() == 0
     }
-}
-
-/// A copy of a text that lies in memory. It is out of line, so that the copy of one that doesn't is a few moves.
-#[inline(never)]
-fn heap_copy(alloc: Global, text: &[u8]) -> Result<Bytes, NoMemory>
-    ensures copied { IfOk result (λ copy. copy ≡ text.now) }
-    ensures short { length text.now ≤ 16 → IsOk result }
-{
-    Bytes::copy_of(alloc, text)
 }
 
 /// Appends a short text. A copy of a fixed width, cut to the text, needs no call of `memcpy`.

@@ -1,4 +1,4 @@
-use Rattle.std.proofs.Common.{◌≡◌, ◌++◌, if◌then◌else◌, length, take, not, false, ap, sym, ◌∙◌, rules}
+use Rattle.std.proofs.Common.{◌≡◌, ◌++◌, if◌then◌else◌, length, not, false, ap, sym, ◌∙◌, rules}
 use Rattle.mlr_value.specs.Stops.{has_stop}
 use Rattle.mlr_value.proofs.Stopping.{begins-plain}
 use Rattle.mlr_value.proofs.bytes.Bytes.append_plain.Goals as goal
