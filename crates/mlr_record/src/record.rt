@@ -124,6 +124,14 @@ impl Record {
         (field.name.as_slice(), &field.value)
     }
 
+    /// The fields in their order. It takes no memory.
+    #[inline(always)]
+    pub fn fields(&self) -> &[Field]
+        ensures { pairs_of result.now ≡ self.now }
+    {
+        &self.fields
+    }
+
     /// The place of this name, which counts from 0. It takes no memory.
     pub fn position(&self, key: &[u8]) -> Option<usize>
         ensures { result ≡ place_at key.now self.now }

@@ -352,6 +352,7 @@ fn records_of_maps_of_fields_and_copies_have_the_same_fields(rt: HostRuntime) ->
 
     let mut record = record_of(alloc, ABC)?;
     assert!(rt; make(alloc, &mut record, &Empty(1))?);
+    assert_eq!(rt; record.fields().len(), record.len());
     let fields = record.into_fields();
     assert_eq!(rt; fields.len(), 3);
     let record = Record::of_fields(alloc, fields);

@@ -5,3 +5,4 @@ mod Prefixes
 mod Overlaps
 pub mod Crosses
 mod Stopping
+mod Equal

@@ -1,5 +1,7 @@
 //! Byte texts, of which the short ones are stored without an allocation.
 ghost use Rattle.std.specs.Prelude.{◌≡◌, ◌≤◌, ◌↔◌, [], ◌∷◌, ◌++◌, length, false, not, take, ◌&&◌, if◌then◌else◌, is_ok, OnOk, IfOk, IsOk, IsTrue, ◌+◌, vec_len, vec_capacity};
+ghost use Rattle.std.specs.Option.{option_to_list};
+ghost use Rattle.std.specs.Str.{bytes_eq};
 ghost use Rattle.mlr_value.specs.Stops.{has_stop};
 
 use crate::short::{CAPACITY, Short, cells_of};
@@ -82,6 +84,23 @@ impl Bytes {
             }),
             Room::Heap(heap) => Bytes::copy_of(self.alloc, heap.as_slice()),
         }
+    }
+
+    /// A copy of the first `len` bytes of the text. It takes memory where they are more than 16. Where the text itself
+    /// has 16 bytes, a copy takes the same few moves whatever `len` is.
+    #[inline(always)]
+    pub fn copy_of_first(alloc: Global, text: &[u8], len: usize) -> Result<Self, NoMemory>
+        requires { len ≤ length text.now }
+        ensures copied { IfOk result (λ copy. copy ≡ take len text.now) }
+        ensures short { len ≤ 16 → IsOk result }
+    {
+        if len <= CAPACITY && text.len() >= CAPACITY {
+            return Ok(Bytes {
+                room: Room::Inline(Short::copy_of_first(text, len)),
+                alloc,
+            });
+        }
+        Bytes::copy_of(alloc, &text[..len])
     }
 
     /// Becomes the text, which lies in memory.
@@ -197,6 +216,77 @@ impl Bytes {
         Ok(true)
     }
 
+    /// Appends the text, and then the byte, if there is one. The capacity at least doubles where it grows. Where memory
+    /// runs out, the text may have been appended.
+    #[inline(always)]
+    pub fn append_then(&mut self, text: &Bytes, next: Option<u8>) -> Result<(), NoMemory>
+        ensures { OnOk result (self.new ≡ self.old ++ text.now ++ option_to_list next) }
+    {
+        if let Room::Inline(short) = &text.room
+            && let Room::Heap(heap) = &mut self.room
+            && heap.capacity() - heap.len() >= CAPACITY
+        {
+            return append_cells_then(heap, short.cells(), short.len(), next);
+        }
+        self.append_any_then(text.as_slice(), next)
+    }
+
+    /// Appends a text of any length, and then the byte, to a text stored in either way.
+    #[inline(never)]
+    fn append_any_then(&mut self, text: &[u8], next: Option<u8>) -> Result<(), NoMemory>
+        ensures { OnOk result (self.new ≡ self.old ++ text.now ++ option_to_list next) }
+    {
+        self.append_any(text)?;
+        match next {
+            None => Ok(()),
+            Some(byte) => self.push(byte),
+        }
+    }
+
+    /// Appends the text, and then the byte, if there is one, unless the text contains one of the stops. Returns whether it
+    /// did. Where memory runs out, the text may have been appended.
+    #[inline(always)]
+    pub fn append_plain_then(
+        &mut self,
+        text: &Bytes,
+        next: Option<u8>,
+        stops: [u8; 4],
+    ) -> Result<bool, NoMemory>
+        ensures plain { IfOk result (λ plain. plain ≡ not (has_stop stops text.now)) }
+        ensures appended { OnOk result (self.new ≡ (if has_stop stops text.now then self.old
+            else self.old ++ text.now ++ option_to_list next)) }
+    {
+        if let Room::Inline(short) = &text.room
+            && let Room::Heap(heap) = &mut self.room
+            && heap.capacity() - heap.len() >= CAPACITY
+            && !has_stop_in(short.cells(), stops)
+        {
+            append_cells_then(heap, short.cells(), short.len(), next)?;
+            return Ok(true);
+        }
+        self.append_plain_any_then(text.as_slice(), next, stops)
+    }
+
+    /// Appends a text of any length, and then the byte, unless the text contains one of the stops, to a text stored in
+    /// either way.
+    #[inline(never)]
+    fn append_plain_any_then(
+        &mut self,
+        text: &[u8],
+        next: Option<u8>,
+        stops: [u8; 4],
+    ) -> Result<bool, NoMemory>
+        ensures plain { IfOk result (λ plain. plain ≡ not (has_stop stops text.now)) }
+        ensures appended { OnOk result (self.new ≡ (if has_stop stops text.now then self.old
+            else self.old ++ text.now ++ option_to_list next)) }
+    {
+        if has_stop(text, stops) {
+            return Ok(false);
+        }
+        self.append_any_then(text, next)?;
+        Ok(true)
+    }
+
     /// Takes all bytes out, and keeps the room.
     #[inline]
     pub fn clear(&mut self)
@@ -228,6 +318,19 @@ impl Bytes {
             Room::Inline(short) => short.len(),
             Room::Heap(heap) => heap.len(),
         }
+    }
+
+    /// Whether it is the same text. Two texts of up to 16 bytes are compared in one step.
+    #[inline(always)]
+    pub fn is(&self, other: &Bytes) -> bool
+        ensures { result ≡ bytes_eq self.now other.now }
+    {
+        if let Room::Inline(short) = &self.room
+            && let Room::Inline(other) = &other.room
+        {
+            return short.is(other);
+        }
+        self.as_slice() == other.as_slice()
     }
 
     /// Whether it holds memory, as each text of more than 16 bytes does.
@@ -279,6 +382,25 @@ fn append_cells(heap: &mut Vec<u8>, cells: &[u8; CAPACITY], count: usize) -> Res
     Ok(())
 }
 
+/// Appends the first bytes of the cells, and then the byte, if there is one.
+#[inline(always)]
+fn append_cells_then(
+    heap: &mut Vec<u8>,
+    cells: &[u8; CAPACITY],
+    count: usize,
+    next: Option<u8>,
+) -> Result<(), NoMemory>
+    requires { count ≤ CAPACITY }
+    ensures { OnOk result (heap.new.items ≡ heap.old.items ++ take count cells.now
+        ++ option_to_list next) }
+{
+    append_cells(heap, cells, count)?;
+    if let Some(byte) = next {
+        heap.push(byte)?;
+    }
+    Ok(())
+}
+
 impl PartialEq for Bytes {
     ghost use Rattle.std.specs.Cmp.{partial_equiv_from_equiv};
     ghost use Rattle.std.specs.Cmp.Lexicographic.{nat_list_eq_equiv};
@@ -288,8 +410,9 @@ impl PartialEq for Bytes {
 
     ghost laws = { partial_equiv_from_equiv nat_list_eq_equiv };
 
+    #[inline(always)]
     fn eq(&self, other: &Self) -> bool {
-        self.as_slice() == other.as_slice()
+        self.is(other)
     }
 }
 

@@ -21,4 +21,4 @@ pub use mlr_infer::infer;
 pub use mlr_spec::{InferOpts, Kind, Op, Op1, Order};
 pub use mlr_tables::{FLAG_ROWS, Table, functions, main_flags, separators, verbs};
 pub use order::compare;
-pub use value::{IntValue, Value, append_text, from_data, text_of};
+pub use value::{IntValue, Value, append_text, from_data, from_data_first, text_of};

@@ -1,7 +1,9 @@
 //! Short texts, which take no memory.
-ghost use Rattle.std.specs.Prelude.{◌≡◌, ◌+◌, ◌*◌, ◌<◌, ◌≤◌, ◌++◌, ◌∷◌, ℕ, List, [], length, take};
+ghost use Rattle.std.specs.Prelude.{◌≡◌, ◌+◌, ◌*◌, ◌<◌, ◌≤◌, ◌++◌, ◌∷◌, ℕ, List, [], length, nat_le, take};
+ghost use Rattle.std.specs.Str.{bytes_eq};
 
 use std::marker::Model;
+use std::simd::prelude::*;
 
 /// How many bytes a short text holds at most.
 pub(crate) const CAPACITY: usize = 16;
@@ -46,6 +48,18 @@ impl Short {
             cells: cells_of(text),
             len: text.len(),
         }
+    }
+
+    /// The first bytes of a text that has as many as there are cells.
+    #[inline(always)]
+    pub(crate) fn copy_of_first(text: &[u8], len: usize) -> Self
+        requires short { len ≤ CAPACITY }
+        requires long { CAPACITY ≤ length text.now }
+        ensures { result ≡ take len text.now }
+    {
+        let mut cells = [0; CAPACITY];
+        put_part(&mut cells, 0, &text[..CAPACITY]);
+        Short { cells, len }
     }
 
     /// A copy of the same width whatever the text.
@@ -97,6 +111,23 @@ impl Short {
         &self.cells[..self.len]
     }
 
+    /// Its cells, which begin with the text.
+    #[inline(always)]
+    pub(crate) fn cells(&self) -> &[u8; CAPACITY]
+        ensures prefix { take (length self.now) result.now ≡ self.now }
+        ensures len { length self.now ≤ CAPACITY }
+    {
+        &self.cells
+    }
+
+    /// Whether it is the same text. All cells are compared in one step.
+    #[inline(always)]
+    pub(crate) fn is(&self, other: &Short) -> bool
+        ensures { result ≡ bytes_eq self.now other.now }
+    {
+        self.len == other.len && self.len <= equal_cells(&self.cells, &other.cells)
+    }
+
     /// How many bytes it has.
     #[inline(always)]
     pub(crate) fn len(&self) -> usize
@@ -105,6 +136,16 @@ impl Short {
     {
         self.len
     }
+}
+
+/// How many cells are equal before the first that differs; more than there are, if none does.
+#[inline(always)]
+fn equal_cells(one: &[u8; CAPACITY], other: &[u8; CAPACITY]) -> usize
+    ensures { (n : ℕ) → n ≤ CAPACITY
+        → nat_le n result ≡ bytes_eq (take n one.now) (take n other.now) }
+{
+    let differ = u8x16::from_array(*one).simd_ne(u8x16::from_array(*other));
+    differ.to_bitmask().trailing_zeros() as usize
 }
 
 /// Cells that begin with the text.

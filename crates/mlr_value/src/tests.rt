@@ -4,7 +4,7 @@ mod operands;
 
 use crate::{
     ArrayValue, Bytes, IntValue, MapValue, Order, Value, append_text, arith, arith1, compare,
-    from_data, infer, text_of,
+    from_data, from_data_first, infer, text_of,
 };
 use mlr_spec::{InferOpts, Kind, NoMemory};
 use operands::{
@@ -139,9 +139,13 @@ fn is_read(alloc: Global, row: &(&str, InferOpts, Kind)) -> Result<bool, NoMemor
     append_text(&value, &mut printed)?;
     let mut copied = Bytes::new(alloc);
     append_text(&copy, &mut copied)?;
+    let mut line = Bytes::copy_of(alloc, text.as_bytes())?;
+    line.append(LONG)?;
+    let first = from_data_first(alloc, line.as_slice(), text.len(), opts)?;
     Ok(
         infer(text.as_bytes(), opts) == want
             && kind(&value) == Some(want)
+            && kind(&first) == Some(want)
             && kind(&copy) == Some(want)
             && printed.as_slice() == text.as_bytes()
             && copied == printed,
@@ -353,6 +357,23 @@ const PAIRS: [Pair; 10] = [
     },
 ];
 
+/// Whether the first bytes of a text are appended with the byte that follows them, and not where they contain a stop.
+fn is_line(alloc: Global, len: usize) -> Result<bool, NoMemory> {
+    let first = Bytes::copy_of_first(alloc, LONG, len)?;
+    let mut line = Bytes::copy_of(alloc, LONG)?;
+    line.append_then(&first, Some(b';'))?;
+    let plain = line.append_plain_then(&first, Some(b'.'), [b'0', b'\n', b'\n', b'\n'])?;
+    let other = line.append_plain_then(&first, None, [b'\n'; 4])?;
+    let mut want = Bytes::copy_of(alloc, LONG)?;
+    want.append(&LONG[..len])?;
+    want.push(b';')?;
+    if len == 0 {
+        want.push(b'.')?;
+    }
+    want.append(&LONG[..len])?;
+    Ok(other && plain == (len == 0) && line == want && first.is(&first))
+}
+
 #[test]
 fn texts_are_compared_and_joined_at_each_length(rt: HostRuntime) -> Result<(), Fail> {
     let alloc = rt.alloc();
@@ -381,6 +402,7 @@ fn texts_are_compared_and_joined_at_each_length(rt: HostRuntime) -> Result<(), F
         assert_eq!(rt; text.as_slice(), LONG, "at {len}");
         pushed.push(*byte)?;
         assert_eq!(rt; pushed.as_slice(), &LONG[..len + 1], "at {len}");
+        assert!(rt; is_line(alloc, len)?, "at {len}");
     }
     let bytes = Bytes::copy_of(alloc, &[b'a', 195, 169])?;
     assert_eq!(rt;

@@ -1,6 +1,6 @@
 //! Values of the ten kinds, and what they print.
-ghost use Rattle.std.specs.Prelude.{◌≡◌, ◌++◌, false, is_ok, if◌then◌else◌, IfOk};
-ghost use Rattle.mlr_spec.specs.Infer.{tree_of_data};
+ghost use Rattle.std.specs.Prelude.{◌≡◌, ◌≤◌, ◌++◌, false, is_ok, if◌then◌else◌, length, take, IfOk};
+ghost use Rattle.mlr_spec.specs.Infer.{tree_of_data, tree_of_kind};
 ghost use Rattle.mlr_spec.specs.Tree.{text_of, is_absent, is_empty, is_number, is_collection};
 ghost use Rattle.mlr_value.specs.Value.{tree_of, int_text};
 
@@ -124,14 +124,40 @@ pub fn from_data(alloc: Global, text: &[u8], opts: InferOpts) -> Result<Value, N
     if kind == Kind::Empty {
         return Ok(Value::Empty);
     }
-    let spelling = Bytes::copy_of(alloc, text)?;
-    Ok(match kind {
+    Ok(spelled(kind, Bytes::copy_of(alloc, text)?))
+}
+
+/// The first `len` bytes of a text from data as a value, which keeps them as its spelling. It takes memory where they
+/// are more than 16.
+#[inline(always)]
+pub fn from_data_first(
+    alloc: Global,
+    text: &[u8],
+    len: usize,
+    opts: InferOpts,
+) -> Result<Value, NoMemory>
+    requires { len ≤ length text.now }
+    ensures { IfOk result (λ value. tree_of value ≡ tree_of_data opts (take len text.now)) }
+{
+    let kind = infer(&text[..len], opts);
+    if kind == Kind::Empty {
+        return Ok(Value::Empty);
+    }
+    Ok(spelled(kind, Bytes::copy_of_first(alloc, text, len)?))
+}
+
+/// The value of this kind and spelling.
+#[inline(always)]
+fn spelled(kind: Kind, spelling: Bytes) -> Value
+    ensures { tree_of result ≡ tree_of_kind kind spelling }
+{
+    match kind {
         Kind::Empty => Value::Empty,
         Kind::Str => Value::Str(spelling),
         Kind::Int(n) => Value::Int(IntValue { n, spelling }),
         Kind::Frac => Value::Frac(spelling),
         Kind::Wide => Value::Wide(spelling),
-    })
+    }
 }
 
 /// Appends what the value prints.

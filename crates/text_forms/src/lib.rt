@@ -3,4 +3,4 @@
 
 mod showing;
 
-pub use showing::{append_shown, held_text, shown};
+pub use showing::{append_shown, held_bytes, held_text, shown};

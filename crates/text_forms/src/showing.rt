@@ -1,6 +1,6 @@
 //! Values as texts, as writers and verbs show them.
-ghost use Rattle.std.specs.Prelude.{◌≡◌, ◌++◌, is_some, IfOk, IfSome, OnOk};
-ghost use Rattle.mlr_spec.specs.Tree.{is_collection};
+ghost use Rattle.std.specs.Prelude.{◌≡◌, ◌++◌, ◌&&◌, not, is_some, IfOk, IfSome, OnOk};
+ghost use Rattle.mlr_spec.specs.Tree.{is_collection, is_empty};
 ghost use Rattle.mlr_spec.specs.Tree as tree;
 ghost use Rattle.mlr_value.specs.Value.{int_text, tree_of};
 ghost use Rattle.text_forms.specs.Shown.{holds_text, shown};
@@ -54,6 +54,20 @@ pub fn held_text(value: &Value) -> Option<&[u8]>
         Value::Empty => Some(b""),
         Value::Str(text) | Value::Frac(text) | Value::Wide(text) => Some(text.as_slice()),
         Value::Int(int) => held_spelling(int),
+        _ => None,
+    }
+}
+
+/// The bytes in which a value holds its text. An empty value has no bytes.
+#[inline(always)]
+pub fn held_bytes(value: &Value) -> Option<&Bytes>
+    ensures text { IfSome result (λ text. text.now ≡ shown (tree_of value.now)) }
+    ensures held { is_some result ≡ (holds_text (tree_of value.now)
+        && not (is_empty (tree_of value.now))) }
+{
+    match value {
+        Value::Str(text) | Value::Frac(text) | Value::Wide(text) => Some(text),
+        Value::Int(int) if !int.spelling.is_empty() => Some(&int.spelling),
         _ => None,
     }
 }
@@ -121,6 +135,7 @@ mod tests {
             assert_eq!(rt; shown(alloc, &row.0)?.as_slice(), row.1, "at {i}");
         }
         assert!(rt; held_text(&Value::Error).is_none());
+        assert!(rt; held_bytes(&Value::Empty).is_none() && held_bytes(&table[3].0).is_some());
         Ok(())
     }
 }
