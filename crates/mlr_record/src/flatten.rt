@@ -21,11 +21,23 @@ impl Record {
         ensures flat { self.new ≡ (if is_ok result then flat separator.now self.old else self.old) }
         ensures same { list_any (λ pair. is_collection pair.1) self.old ≡ false → IsOk result }
     {
-        if has_collection(self) {
+        if is_nested(self) {
             *self = flattened(self, separator)?;
         }
         Ok(())
     }
+}
+
+/// Whether a field holds a map or an array. Of a plain record that needs no look of its own.
+fn is_nested(from: &mut Record) -> bool
+    ensures found { result ≡ list_any (λ pair. is_collection pair.1) from.old }
+    ensures distinct { are_distinct (keys_of from.old) ≡ true }
+    ensures same { from.new ≡ from.old }
+{
+    if from.is_plain() {
+        return false;
+    }
+    has_collection(from)
 }
 
 /// Whether a field holds a map or an array.

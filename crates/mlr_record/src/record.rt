@@ -1,7 +1,8 @@
 //! Records: fields in order, with distinct names.
-ghost use Rattle.std.specs.Prelude.{◌≡◌, ◌<◌, ◌++◌, ◌∷◌, true, ℕ, List, [], length, set, if◌then◌else◌, is_ok, IfOk, OnOk, map, slice_get, is_some, vec_len, slice_index_or, remove};
+ghost use Rattle.std.specs.Prelude.{◌≡◌, ◌<◌, ◌++◌, ◌∷◌, true, false, ℕ, List, [], length, set, if◌then◌else◌, is_ok, IfOk, OnOk, map, slice_get, is_some, vec_len, slice_index_or, remove};
+ghost use Rattle.std.specs.List.{list_any};
 ghost use Rattle.std.specs.Option.{option_map};
-ghost use Rattle.mlr_spec.specs.Tree.{Tree};
+ghost use Rattle.mlr_spec.specs.Tree.{Tree, is_collection};
 ghost use Rattle.mlr_spec.specs.Pairs.{value_at, put_at, remove_at, place_at, rename_at, keys_of, are_distinct};
 ghost use Rattle.mlr_value.specs.Value.{tree_of};
 ghost use Rattle.mlr_value.specs.Collections.{pairs_of as map_pairs};
@@ -25,30 +26,39 @@ pub struct Field {
 pub struct Record {
     alloc: Global,
     fields: Vec<Field>,
+    /// Whether a look at each field has shown that none holds memory, and none was added since.
+    plain: bool,
 }
 
 // Written by hand, so that the crates above call it instead of dropping the fields themselves.
 impl Drop for Record {
     #[inline]
     fn drop(self) {
-        let Record { alloc: _, fields } = self;
-        drop_fields(fields);
+        let Record {
+            alloc: _,
+            fields,
+            plain,
+        } = self;
+        drop_fields(fields, plain);
     }
 }
 
 /// Drops the fields. Where none holds memory, which a look at each shows, nothing is left to do.
-fn drop_fields(fields: Vec<Field>) {
-    if hold_memory(&fields) {
-        drop_each(fields);
-    } else {
+fn drop_fields(fields: Vec<Field>, plain: bool) {
+    if plain || !hold_memory(&fields) {
         for field in fields {
             forget(field);
         }
+    } else {
+        drop_each(fields);
     }
 }
 
 /// Whether any of the fields holds memory.
-fn hold_memory(fields: &[Field]) -> bool {
+fn hold_memory(fields: &[Field]) -> bool
+    ensures { result ≡ false
+        → list_any (λ field. is_collection (tree_of field.value)) fields.now ≡ false }
+{
     for field in fields {
         if field.name.holds_memory() || field.value.holds_memory() {
             return true;
@@ -87,6 +97,7 @@ impl Record {
         Ok(Record {
             alloc,
             fields: Vec::with_capacity(alloc, FIRST_ROOM)?,
+            plain: false,
         })
     }
 
@@ -144,6 +155,7 @@ impl Record {
         ensures { self.new ≡ (if is_ok result then put_at key.now (tree_of value) self.old
             else self.old) }
     {
+        self.plain = false;
         match place_of(&self.fields, key) {
             Some(place) => {
                 self.fields[place].value = value;
@@ -164,6 +176,7 @@ impl Record {
         ensures { self.new ≡ (if is_ok result then self.old ++ (key.now, tree_of value) ∷ []
             else self.old) }
     {
+        self.plain = false;
         let name = Bytes::copy_of(self.alloc, key)?;
         self.fields.push(Field { name, value })?;
         Ok(())
@@ -176,7 +189,11 @@ impl Record {
         let pairs = map.into_pairs();
         let mut fields = Vec::with_capacity(alloc, pairs.len())?;
         push_pairs(pairs, &mut fields)?;
-        Ok(Record { alloc, fields })
+        Ok(Record {
+            alloc,
+            fields,
+            plain: false,
+        })
     }
 
     /// A record of these fields, of which no two have one name. It takes no memory and makes no search.
@@ -184,7 +201,11 @@ impl Record {
         requires { are_distinct (keys_of (pairs_of fields.items)) ≡ true }
         ensures { result ≡ pairs_of fields.items }
     {
-        Record { alloc, fields }
+        Record {
+            alloc,
+            fields,
+            plain: false,
+        }
     }
 
     /// The fields, as a vector. It takes no memory.
@@ -192,8 +213,24 @@ impl Record {
         ensures fields { pairs_of result.items ≡ self }
         ensures distinct { are_distinct (keys_of self) ≡ true }
     {
-        let Record { alloc: _, fields } = self;
+        let Record {
+            alloc: _,
+            fields,
+            plain: _,
+        } = self;
         fields
+    }
+
+    /// Looks at each field, and returns whether none holds memory, as texts of up to 16 bytes don't. Then dropping the record
+    /// needs no further look.
+    #[inline]
+    pub(crate) fn is_plain(&mut self) -> bool
+        ensures plain { result ≡ true → list_any (λ pair. is_collection pair.1) self.old ≡ false }
+        ensures distinct { are_distinct (keys_of self.old) ≡ true }
+        ensures same { self.new ≡ self.old }
+    {
+        self.plain = !hold_memory(&self.fields);
+        self.plain
     }
 
     /// Sets the value of the field at this place, and returns the earlier one. It doesn't allocate.
@@ -205,6 +242,7 @@ impl Record {
             → self.new ≡ set self.old place
             ((slice_index_or self.old place pair).0, tree_of value) }
     {
+        self.plain = false;
         replace(&mut self.fields[place].value, value)
     }
 
@@ -215,6 +253,7 @@ impl Record {
         let mut copy = Record {
             alloc: self.alloc,
             fields: Vec::with_capacity(self.alloc, self.len())?,
+            plain: false,
         };
         copy_fields(self, &mut copy, self.alloc)?;
         Ok(copy)
@@ -244,6 +283,7 @@ impl Record {
         ensures { self.new ≡ (if is_ok result then (key.now, tree_of value)
             ∷ remove_at key.now self.old else self.old) }
     {
+        self.plain = false;
         if let Some(place) = place_of(&self.fields, key) {
             self.fields[place].value = value;
             move_first(&mut self.fields, place);
@@ -268,6 +308,7 @@ impl Record {
         }
         let name = Bytes::copy_of(self.alloc, new)?;
         give_name(&mut self.fields, place, name);
+        self.plain = false;
         Ok(true)
     }
 }

@@ -1,4 +1,4 @@
--- Texts whose cells are compared lane by lane.
+-- The first of sixteen lanes that passes a test, and cells that are compared lane by lane.
 use Rattle.std.proofs.Common.{◌≡◌, ℕ, zero, suc, ◌+◌, ◌≤◌, ◌<◌, ◌%◌, ◌^◌, ◌&&◌, Bool, true, false, not, cond, eqb, nat_le, List, [], ◌∷◌, map, length, take, inl, inr, refl, sym, ap, ap₂, ◌∙◌, arith}
 use Rattle.std.specs.List.{prefix_len}
 use Rattle.std.specs.Str.{bytes_eq}
@@ -56,6 +56,14 @@ same-limit n zero place before le none is =
     at-most n place (omega (arith, none refl, le)) ∙ sym (at-most n before (omega (arith, is, le)))
 same-limit n (suc m) place before le none is =
     ap (nat_le n) (sym (ap (λ t. cond t 16 place) (ne_eqb (suc m) 0 (λ e. omega (arith, e)))) ∙ is)
+
+-- where no lane passes, the number of trailing zeros is more than the number of lanes
+pub limit : (p : ℕ → Bool) (xs : List ℕ) (n : ℕ) → length xs ≡ 16 → n ≤ 16
+    → nat_le n (count_trailing_zeros 64 (mask_l (map p xs))) ≡ nat_le n (prefix_len (λ x. not (p x)) xs)
+limit p xs n long le =
+    same-limit n (mask_l (map p xs)) (count_trailing_zeros 64 (mask_l (map p xs))) (prefix_len (λ x. not (p x)) xs) le
+    (λ none. ap (count_trailing_zeros 64) none ∙ trailing_of_zero 64)
+    (first_set_mask_l p xs 16 long (omega arith))
 
 pub equal-mask : (xs ys : List ℕ) → length xs ≡ 16 → length ys ≡ 16 → (n : ℕ) → n ≤ 16
     → nat_le n (count_trailing_zeros 64 (mask_l (map (top 7) (zip2 miss xs ys)) % 2 ^ 64)) ≡ bytes_eq (take n xs) (take n ys)

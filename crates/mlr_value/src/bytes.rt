@@ -5,7 +5,7 @@ ghost use Rattle.std.specs.Str.{bytes_eq};
 ghost use Rattle.mlr_value.specs.Stops.{has_stop};
 
 use crate::short::{CAPACITY, Short, cells_of};
-use crate::stops::{has_stop, has_stop_in};
+use crate::stops::{cells_before_stop, has_stop};
 use mlr_spec::NoMemory;
 use std::alloc::Global;
 use std::fmt;
@@ -194,10 +194,11 @@ impl Bytes {
             && heap.capacity() - heap.len() >= CAPACITY
         {
             let cells = cells_of(text);
-            if !has_stop_in(&cells, stops) {
-                append_cells(heap, &cells, text.len())?;
-                return Ok(true);
+            if cells_before_stop(&cells, stops) < text.len() {
+                return Ok(false);
             }
+            append_cells(heap, &cells, text.len())?;
+            return Ok(true);
         }
         self.append_plain_any(text, stops)
     }
@@ -259,8 +260,10 @@ impl Bytes {
         if let Room::Inline(short) = &text.room
             && let Room::Heap(heap) = &mut self.room
             && heap.capacity() - heap.len() >= CAPACITY
-            && !has_stop_in(short.cells(), stops)
         {
+            if cells_before_stop(short.cells(), stops) < short.len() {
+                return Ok(false);
+            }
             append_cells_then(heap, short.cells(), short.len(), next)?;
             return Ok(true);
         }

@@ -1,5 +1,6 @@
 //! Texts searched for a few bytes, sixteen at a time.
-ghost use Rattle.std.specs.Prelude.{◌≡◌, ◌≤◌, length};
+ghost use Rattle.std.specs.Prelude.{◌≡◌, ◌≤◌, ℕ, length, map, nat_lt, take};
+ghost use Rattle.std.specs.Simd.Lanes.{mask_l};
 ghost use Rattle.mlr_value.specs.Stops.{has_stop, is_stop};
 
 use crate::short::{CAPACITY, cells_of};
@@ -19,28 +20,21 @@ pub(crate) fn has_stop(text: &[u8], stops: [u8; 4]) -> bool
     has_stop_short(rest, stops)
 }
 
-/// Whether a short text contains one of the stops. The cells after it may hold a stop too.
+/// Whether a short text contains one of the stops.
 fn has_stop_short(text: &[u8], stops: [u8; 4]) -> bool
     requires { length text.now ≤ CAPACITY }
     ensures { result ≡ has_stop stops text.now }
 {
-    has_stop_in(&cells_of(text), stops) && text.iter().any(|b| is_stop(*b, stops))
+    cells_before_stop(&cells_of(text), stops) < text.len()
 }
 
-/// Whether the byte is one of the stops.
+/// How many cells come before the first that is a stop; more than there are, if none is.
 #[inline(always)]
-fn is_stop(byte: u8, stops: [u8; 4]) -> bool
-    ensures { result ≡ is_stop stops byte }
+pub(crate) fn cells_before_stop(cells: &[u8; CAPACITY], stops: [u8; 4]) -> usize
+    ensures { (n : ℕ) → n ≤ CAPACITY
+        → has_stop stops (take n cells.now) ≡ nat_lt result n }
 {
-    byte == stops[0] || byte == stops[1] || byte == stops[2] || byte == stops[3]
-}
-
-/// Whether the cells contain one of the stops.
-#[inline(always)]
-pub(crate) fn has_stop_in(cells: &[u8; CAPACITY], stops: [u8; 4]) -> bool
-    ensures { result ≡ has_stop stops cells.now }
-{
-    has_stop_lane(u8x16::from_array(*cells), stops)
+    stop_bits(u8x16::from_array(*cells), stops).trailing_zeros() as usize
 }
 
 /// Whether a lane is one of the stops.
@@ -48,9 +42,17 @@ pub(crate) fn has_stop_in(cells: &[u8; CAPACITY], stops: [u8; 4]) -> bool
 fn has_stop_lane(lanes: u8x16, stops: [u8; 4]) -> bool
     ensures { result ≡ has_stop stops lanes }
 {
+    stop_bits(lanes, stops) != 0
+}
+
+/// Bit k is set where lane k is one of the stops.
+#[inline(always)]
+fn stop_bits(lanes: u8x16, stops: [u8; 4]) -> u64
+    ensures { result ≡ mask_l (map (is_stop stops) lanes) }
+{
     let found = lanes.simd_eq(u8x16::splat(stops[0]))
         | lanes.simd_eq(u8x16::splat(stops[1]))
         | lanes.simd_eq(u8x16::splat(stops[2]))
         | lanes.simd_eq(u8x16::splat(stops[3]));
-    found.to_bitmask() != 0
+    found.to_bitmask()
 }

@@ -1,7 +1,7 @@
-use Rattle.std.proofs.Common.{sym}
+use Rattle.std.proofs.Common.{sym, ◌∙◌}
 use Rattle.mlr_spec.proofs.Flattening.{flat-plain}
 use Rattle.mlr_record.proofs.record.Record.flatten.Goals as goal
 
-pub returns-else-has_collection-clause-flat : goal.returns-else-has_collection-clause-flat
-returns-else-has_collection-clause-flat c =
-    sym (flat-plain c.args.separator.now c.args.self.now c.has_collection.ensures.distinct (sym c.if-has_collection.ensures.found))
+pub returns-else-is_nested-clause-flat : goal.returns-else-is_nested-clause-flat
+returns-else-is_nested-clause-flat c =
+    c.is_nested.ensures.same ∙ sym (flat-plain c.args.separator.now c.args.self.now c.is_nested.ensures.distinct (sym c.if-is_nested.ensures.found))

@@ -5,15 +5,15 @@ use Rattle.mlr_spec.proofs.Pairs.{are_distinct-rename}
 use Rattle.mlr_record.specs.Fields.{IsPlaceOf, IsRenamed, pairs_of}
 use Rattle.mlr_record.proofs.Edits.{value_at-found, rename_at-found, rename_at-absent}
 use Rattle.mlr_record.proofs.record.Record.rename.Goals as goal
-use Rattle.mlr_record.proofs.record.Record.rename.Goals.{In_default, After-give_name}
+use Rattle.mlr_record.proofs.record.Record.rename.Goals.{In_default, After-self-1}
 
 abbrev absent : (c : In_default) → IsPlaceOf c.args.old.now c.self.inside.fields.items None
 absent c = subst (λ fields. IsPlaceOf c.args.old.now fields None) c.deref.ensures.value c.in_default.ensures
 
-abbrev found : (c : After-give_name) → IsPlaceOf c.args.old.now c.self.inside.fields.items (Some c.in-Some.place)
+abbrev found : (c : After-self-1) → IsPlaceOf c.args.old.now c.self.inside.fields.items (Some c.in-Some.place)
 found c = subst (λ fields. IsPlaceOf c.args.old.now fields (Some c.in-Some.place)) c.deref.ensures.value c.in-Some.ensures
 
-abbrev renamed : (c : After-give_name) → pairs_of c.give_name.new.fields.items ≡ rename_at c.args.old.now c.args.new.now (pairs_of c.self.inside.fields.items)
+abbrev renamed : (c : After-self-1) → pairs_of c.give_name.new.fields.items ≡ rename_at c.args.old.now c.args.new.now (pairs_of c.self.inside.fields.items)
 renamed c =
     let old = c.args.old.now in
     let new = c.args.new.now in
