@@ -43,7 +43,7 @@ fn take_field<'t>(
         return take_quoted(opts, row, following(text, 1));
     }
     let (part, rest) = next_part(opts.ifs.as_slice(), text);
-    row.push_plain(part, opts.infer)?;
+    row.push_first(text, part.len(), opts.infer)?;
     Ok(rest)
 }
 

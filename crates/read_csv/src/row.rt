@@ -1,5 +1,5 @@
 //! Holds the fields of a row while it is read.
-ghost use Rattle.std.specs.Prelude.{◌≡◌, OnOk, IfOk, is_some, None, length, map};
+ghost use Rattle.std.specs.Prelude.{◌≡◌, ◌≤◌, OnOk, IfOk, is_some, None, length, map, take};
 ghost use Rattle.mlr_spec.specs.Infer.{tree_of_data};
 ghost use Rattle.mlr_spec.specs.Tree.{text_of};
 ghost use Rattle.mlr_event.specs.Reading.{record_of};
@@ -12,7 +12,7 @@ use crate::heading::Heading;
 use crate::records::{record_of_row, texts};
 use mlr_record::{Field, Record};
 use mlr_spec::{InferOpts, NoMemory};
-use mlr_value::{Bytes, Value, from_data};
+use mlr_value::{Bytes, Value, from_data, from_data_first};
 use std::alloc::Global;
 use std::marker::Model;
 
@@ -81,6 +81,24 @@ impl Row {
         ensures { OnOk result (self.new ≡ with_value self.old (tree_of_data infer text.now)) }
     {
         let value = from_data(self.alloc, text, infer)?;
+        self.fields.push(unnamed(self.alloc, value))?;
+        Ok(())
+    }
+
+    /// Appends an unquoted field of the first `len` bytes of this text.
+    #[inline(always)]
+    pub(crate) fn push_first(
+        &mut self,
+        text: &[u8],
+        len: usize,
+        infer: InferOpts,
+    ) -> Result<(), NoMemory>
+        requires closed { self.old.quotes ≡ None }
+        requires within { len ≤ length text.now }
+        ensures { OnOk result (self.new
+            ≡ with_value self.old (tree_of_data infer (take len text.now))) }
+    {
+        let value = from_data_first(self.alloc, text, len, infer)?;
         self.fields.push(unnamed(self.alloc, value))?;
         Ok(())
     }

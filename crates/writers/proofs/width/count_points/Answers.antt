@@ -1,6 +1,0 @@
-use Rattle.std.proofs.Common.{sym}
-use Rattle.writers.proofs.Widths.{ascii-points}
-use Rattle.writers.proofs.width.count_points.Goals as goal
-
-pub returns-then-is_ascii-clause-count : goal.returns-then-is_ascii-clause-count
-returns-then-is_ascii-clause-count c = sym (ascii-points c.args.text.now (sym c.if-is_ascii.ensures))
