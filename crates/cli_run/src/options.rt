@@ -1,7 +1,8 @@
 //! The options of formats, as flags give them.
 ghost use Rattle.std.specs.Prelude.{◌≡◌, ◌≤◌, ◌^◌, length, IfOk};
 ghost use Rattle.cli_run.specs.Meaning.{inputs_of};
-ghost use Rattle.cli_run.specs.Options.{is_json, write_options};
+ghost use Rattle.writers.specs.Style.{is_nested};
+ghost use Rattle.cli_run.specs.Options.{write_options};
 
 use cli_words::Formats;
 use mlr_event::{Format, InputName};
@@ -14,24 +15,14 @@ use writers::WriteOpts;
 pub(crate) fn write_options(alloc: Global, formats: Formats) -> Result<WriteOpts, NoMemory>
     ensures { IfOk result (λ opts. opts ≡ write_options formats) }
 {
-    Ok(WriteOpts {
-        format: formats.output,
-        ofs: Bytes::copy_of(alloc, formats.output.separator())?,
-        ops: Bytes::copy_of(alloc, b"=")?,
-        headerless: false,
-        quote_all: false,
-        barred: false,
-        stacked: true,
-        listwrap: true,
-        flatten: !is_json(formats.output),
-        unflatten: is_json(formats.output) && !is_json(formats.input),
-        flatsep: Bytes::copy_of(alloc, b".")?,
-    })
+    let mut opts = WriteOpts::of(alloc, formats.output)?;
+    opts.unflatten = is_nested(formats.output) && !is_nested(formats.input);
+    Ok(opts)
 }
 
 /// Whether values can be nested in a format.
-fn is_json(format: Format) -> bool
-    ensures { result ≡ is_json format }
+fn is_nested(format: Format) -> bool
+    ensures { result ≡ is_nested format }
 {
     matches!(format, Format::Json | Format::Jsonl)
 }

@@ -25,30 +25,13 @@ fn read_opts(alloc: Global) -> Result<ReadOpts, NoMemory>
     ReadOpts::of(alloc, Format::Dkvp)
 }
 
-/// A format, as it is written.
-fn write_opts(alloc: Global, format: Format) -> Result<WriteOpts, NoMemory> {
-    Ok(WriteOpts {
-        format,
-        ofs: Bytes::copy_of(alloc, b",")?,
-        ops: Bytes::copy_of(alloc, b"=")?,
-        headerless: false,
-        quote_all: false,
-        barred: false,
-        stacked: true,
-        listwrap: true,
-        flatten: false,
-        unflatten: false,
-        flatsep: Bytes::copy_of(alloc, b".")?,
-    })
-}
-
 /// The styles of a plan: DKVP, and one that standard output doesn't have.
 fn styles(alloc: Global) -> Result<Vec<WriteOpts>, NoMemory>
     ensures { IfOk result (λ styles. styles.items ≡ [] → ⊥) }
 {
     let mut styles = Vec::new(alloc);
-    styles.push(write_opts(alloc, Format::Dkvp)?)?;
-    styles.push(write_opts(alloc, Format::Json)?)?;
+    styles.push(WriteOpts::of(alloc, Format::Dkvp)?)?;
+    styles.push(WriteOpts::of(alloc, Format::Json)?)?;
     Ok(styles)
 }
 

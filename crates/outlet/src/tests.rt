@@ -28,23 +28,6 @@ const FAULT: Fault = Fault::Quote {
     line: 3,
 };
 
-/// The options of a format where no flag is given.
-fn plain(alloc: Global, format: Format) -> Result<WriteOpts, NoMemory> {
-    Ok(WriteOpts {
-        format,
-        ofs: Bytes::copy_of(alloc, b",")?,
-        ops: Bytes::copy_of(alloc, b"=")?,
-        headerless: false,
-        quote_all: false,
-        barred: false,
-        stacked: true,
-        listwrap: true,
-        flatten: false,
-        unflatten: false,
-        flatsep: Bytes::copy_of(alloc, b".")?,
-    })
-}
-
 /// The record of a line such as `a=1,b=xyz`, whose values are inferred.
 fn record_of(alloc: Global, line: &str) -> Result<Record, NoMemory> {
     let mut record = Record::new(alloc)?;
@@ -236,7 +219,7 @@ fn bytes_of<'a>(outputs: &'a SureOutputs, target: &Target) -> &'a [u8] {
 /// What is returned at the end of a row's events, with the outputs then.
 fn written(alloc: Global, row: &Row, each: bool) -> Result<(Let, SureOutputs), NoMemory> {
     let (format, texts, faulty, _) = *row;
-    let mut outlet = Outlet::new(alloc, &plain(alloc, format)?)?;
+    let mut outlet = Outlet::new(alloc, &WriteOpts::of(alloc, format)?)?;
     let mut outputs = SureOutputs::new(alloc, Vec::new(alloc))?;
     let end = if each {
         give_each(alloc, &mut outlet, texts, last(faulty), &mut outputs)?
@@ -277,7 +260,7 @@ fn events_are_written_in_lists_as_one_at_a_time(rt: HostRuntime) -> Result<(), N
 #[test]
 fn a_list_is_emptied(rt: HostRuntime) -> Result<(), NoMemory> {
     let alloc = rt.alloc();
-    let mut outlet = Outlet::new(alloc, &plain(alloc, Format::Dkvp)?)?;
+    let mut outlet = Outlet::new(alloc, &WriteOpts::of(alloc, Format::Dkvp)?)?;
     let mut outputs = SureOutputs::new(alloc, Vec::new(alloc))?;
     let mut events = events_of(alloc, "a=1|b=2")?;
     assert_eq!(rt; outlet.take_all(&mut events, &mut outputs), Let::Went);
@@ -306,7 +289,7 @@ const FAILING: [(usize, &[u64], &[u8]); 3] = [
 /// Whether a row's calls fail, and leave what it says.
 fn fails(alloc: Global, row: &(usize, &[u64], &[u8])) -> Result<bool, NoMemory> {
     let (room, failing, want) = *row;
-    let mut outlet = Outlet::new(alloc, &plain(alloc, Format::Dkvp)?)?;
+    let mut outlet = Outlet::new(alloc, &WriteOpts::of(alloc, Format::Dkvp)?)?;
     let mut outputs = outputs(alloc, room, failing)?;
     let texts = "a=1|b=2/c=3/d=4";
     let end = give_all(alloc, &mut outlet, texts, last(false), &mut outputs)?;
@@ -328,7 +311,7 @@ fn a_write_that_fails_ends_the_outlet_and_a_shut_outlet_writes_nothing(
 ) -> Result<(), NoMemory> {
     let alloc = rt.alloc();
     assert_eq!(rt; first_wrong_failure(alloc)?, None);
-    let mut outlet = Outlet::new(alloc, &plain(alloc, Format::Json)?)?;
+    let mut outlet = Outlet::new(alloc, &WriteOpts::of(alloc, Format::Json)?)?;
     let mut outputs = outputs(alloc, 100, &[])?;
     assert_eq!(rt; outlet.shut(&mut outputs), Let::Over(None));
     assert!(rt; outputs.bytes_of(&Target::Stdout) == Some(b"before\n"));

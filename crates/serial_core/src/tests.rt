@@ -21,23 +21,6 @@ use std::thread::Threads;
 use verbs_seq::{SeqSource, SeqSpec};
 use writers::WriteOpts;
 
-/// How a format is written.
-fn written(alloc: Global, format: Format) -> Result<WriteOpts, NoMemory> {
-    Ok(WriteOpts {
-        format,
-        ofs: Bytes::copy_of(alloc, b",")?,
-        ops: Bytes::copy_of(alloc, b"=")?,
-        headerless: false,
-        quote_all: false,
-        barred: false,
-        stacked: true,
-        listwrap: true,
-        flatten: true,
-        unflatten: false,
-        flatsep: Bytes::copy_of(alloc, b".")?,
-    })
-}
-
 /// A run from a reader through a verb that gives nothing of its own.
 fn run_of<S: Step + Drop>(
     alloc: Global,
@@ -125,7 +108,7 @@ fn run_files<S: Step + Drop>(
     let pieces = Vec::from_slice(alloc, case.pieces)?;
     let failing = Vec::from_slice(alloc, case.unread)?;
     let mut inputs = MemInputs::new(alloc, contents, pieces, failing)?;
-    let write = written(alloc, case.format)?;
+    let write = WriteOpts::of(alloc, case.format)?;
     let mut serial = run_of(alloc, reader, verb, &write)?;
     Ok(serial.run(&mut inputs, outputs))
 }
@@ -143,7 +126,7 @@ fn run_numbers(alloc: Global, outputs: &mut MemOutputs) -> Result<Ended, NoMemor
     }
     let reader = Reader::Numbers(SeqSource::new(alloc, seq)?);
     let mut inputs = MemInputs::new(alloc, Vec::new(alloc), Vec::new(alloc), Vec::new(alloc))?;
-    let write = written(alloc, Format::Dkvp)?;
+    let write = WriteOpts::of(alloc, Format::Dkvp)?;
     let mut serial = run_of(alloc, reader, Cat::new(), &write)?;
     Ok(serial.run(&mut inputs, outputs))
 }

@@ -51,7 +51,7 @@ one-byte s (b ∷ text) =
     ap (λ t. t || has_stop (34 ∷ 10 ∷ 13 ∷ s ∷ []) text) (one-of-them (b == 34) (b == 10) (b == 13) (b == s))
     ∙ among-all (b == s) (wants_quotes b) (list_any wants_quotes text) (has_stop (34 ∷ 10 ∷ 13 ∷ s ∷ []) text) (place_in (s ∷ []) text) (one-byte s text)
 
-one-item : (xs : List ℕ) (d : ℕ) → length xs ≡ 1 → xs ≡ get_or xs 0 d ∷ []
+pub one-item : (xs : List ℕ) (d : ℕ) → length xs ≡ 1 → xs ≡ get_or xs 0 d ∷ []
 one-item [] d one = absurd (omega (arith, one))
 one-item (x ∷ []) d one = refl
 one-item (x ∷ y ∷ xs) d one = absurd (omega (arith, one))

@@ -13,7 +13,8 @@ use Rattle.writers.specs.declared.form.Part.TheVariants.{Keys, Values}
 use Rattle.writers.specs.Cells.{texts}
 use Rattle.writers.specs.Csv.{csv_line}
 use Rattle.writers.specs.Pprint.{block}
-use Rattle.writers.specs.Runs.{Record, all_but_last, line_end_after, list_begun, list_of, runs_of, sheet, tables, wants_line_end, xtab_lines}
+use Rattle.writers.specs.Runs.{Record, all_but_last, line_end_after, list_begun, list_of, runs_of, sheet, tables, wants_line_end}
+use Rattle.text_columns.specs.Xtab.{xtab_lines}
 use Rattle.writers.specs.Written.{written}
 
 abbrev opts : Format → WriteOpts

@@ -1,9 +1,13 @@
 -- Texts in a row, one more at a time.
-use Rattle.std.proofs.Common.{◌≡◌, ℕ, Bool, zero, suc, ◌+◌, ◌<◌, List, [], ◌∷◌, ◌++◌, length, take, get_or, map, refl, ap, sym, ◌∙◌, append_assoc, arith}
+use Rattle.std.proofs.Common.{◌≡◌, ℕ, Bool, true, zero, suc, ◌+◌, ◌<◌, List, [], ◌∷◌, ◌++◌, if◌then◌else◌, length, take, drop, get_or, map, refl, ap, sym, ◌∙◌, append_assoc, arith}
 use Rattle.std.specs.Prelude.{nat_lt}
-use Rattle.std.proofs.lemmas.List.{take_more, map-append}
-use Rattle.std.proofs.lemmas.Bool.{lt-ltb}
+use Rattle.std.proofs.lemmas.List.{append-nil, take_more, map-append}
+use Rattle.std.proofs.Math.Dec.{leb-suc-suc}
+use Rattle.std.proofs.lemmas.Bool.{le-ltb, lt-ltb, true≢false}
 use Rattle.mlr_spec.specs.Json.{joined}
+use Rattle.mlr_spec.specs.Tree.{Tree}
+use Rattle.mlr_record.specs.declared.record.Field.{Field}
+use Rattle.mlr_record.specs.Fields.{pair_of, pairs_of}
 use Rattle.writers.specs.Joined.{separated, are_any}
 
 pub joined-push : (separator : List ℕ) (texts : List (List ℕ)) (text : List ℕ) → joined separator (texts ++ text ∷ []) ≡ joined separator texts ++ separated separator (are_any texts) ++ text
@@ -48,3 +52,45 @@ joined-next separator into so_far before following any text whole before_is afte
     after_is ∙ ap (λ t. t ++ text) (before_is ∙ append_assoc into so_far (separated separator any))
     ∙ append_assoc into (so_far ++ separated separator any) text
     ∙ ap (λ t. into ++ t) (sym whole_is)
+
+-- texts, each followed by a byte: by one where more follow, and by another after the last
+module _ {A : Type 0} (s e : ℕ) (f : A → List ℕ) where
+  abbrev pub marked : List A → List ℕ
+  marked [] = []
+  marked (x ∷ xs) = f x ++ (if are_any xs then s else e) ∷ marked xs
+
+  pub marked-is : (x : A) (xs : List A) → marked (x ∷ xs) ≡ joined (s ∷ []) (map f (x ∷ xs)) ++ e ∷ []
+  marked-is x [] = refl
+  marked-is x (y ∷ ys) =
+      let rest = joined (s ∷ []) (map f (y ∷ ys)) in
+      ap (λ t. f x ++ s ∷ t) (marked-is y ys)
+      ∙ sym (append_assoc (f x) (s ∷ []) (rest ++ e ∷ []))
+      ∙ sym (append_assoc (f x ++ s ∷ []) rest (e ∷ []))
+
+pub are_any-drop : {A : Type 0} (n : ℕ) (xs : List A) → are_any (drop n xs) ≡ nat_lt n (length xs)
+are_any-drop zero [] = refl
+are_any-drop (suc n) [] = sym (le-ltb (suc n) 0 (omega arith))
+are_any-drop zero (x ∷ xs) = sym (lt-ltb 0 (length (x ∷ xs)) (omega arith))
+are_any-drop (suc n) (x ∷ xs) = are_any-drop n xs ∙ sym (leb-suc-suc (suc n) (length xs))
+
+-- a line that was written up to its end
+pub marked-line : {A : Type 0} (s e : ℕ) (f : A → List ℕ) (xs : List A) (before into : List ℕ) → are_any xs ≡ true → into ++ [] ≡ before ++ marked s e f xs
+    → into ≡ (before ++ joined (s ∷ []) (map f xs)) ++ e ∷ []
+marked-line s e f [] before into some is = absurd (true≢false (sym some))
+marked-line s e f (x ∷ xs) before into some is =
+    sym (append-nil into) ∙ is ∙ ap (λ t. before ++ t) (marked-is s e f x xs) ∙ sym (append_assoc before (joined (s ∷ []) (map f (x ∷ xs))) (e ∷ []))
+
+pub are_any-some : {A : Type 0} (xs : List A) → (length xs ≡ 0 → ⊥) → are_any xs ≡ true
+are_any-some [] some = absurd (some refl)
+are_any-some (x ∷ xs) some = refl
+
+-- one more field of a record, with its separator
+pub joined-fields : (separator : List ℕ) (f : List ℕ × Tree → List ℕ) (fields : List Field) (n : ℕ) (d : Field) → n < length fields
+    → joined separator (map f (pairs_of (take (n + 1) fields))) ≡ joined separator (map f (pairs_of (take n fields))) ++ separated separator (nat_lt 0 n) ++ f (pair_of (get_or fields n d))
+joined-fields separator f fields n d below =
+    ap (joined separator) (both (take (n + 1) fields)) ∙ joined-more separator (λ x. f (pair_of x)) fields n d below
+    ∙ ap (λ texts. joined separator texts ++ separated separator (nat_lt 0 n) ++ f (pair_of (get_or fields n d))) (sym (both (take n fields)))
+  where
+    both : (xs : List Field) → map f (pairs_of xs) ≡ map (λ x. f (pair_of x)) xs
+    both [] = refl
+    both (x ∷ xs) = ap (λ more. f (pair_of x) ∷ more) (both xs)

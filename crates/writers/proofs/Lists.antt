@@ -1,78 +1,55 @@
 -- JSON: records are one list, or one after another.
 use Rattle.std.proofs.Common.{◌≡◌, ℕ, Bool, true, false, if◌then◌else◌, List, [], ◌∷◌, ◌++◌, map, codes, refl, ap, sym, ◌∙◌, append_assoc}
 use Rattle.std.specs.List.{flat_map}
-use Rattle.std.proofs.lemmas.List.{append-nil}
-use Rattle.mlr_event.specs.declared.options.Format.TheVariants.{Json}
+use Rattle.std.proofs.lemmas.List.{append-nil, map-append}
+use Rattle.mlr_event.specs.declared.event.Body.{Body}
+use Rattle.mlr_event.specs.declared.event.Body.TheVariants.{Rec}
 use Rattle.mlr_spec.specs.Json.{joined, json_record}
 use Rattle.writers.specs.declared.options.WriteOpts.{WriteOpts}
-use Rattle.writers.specs.Json.{line_end_missing, list_lead, style_of}
-use Rattle.writers.specs.Run.{Run, start}
-use Rattle.writers.specs.Runs.{Record, list_begun, list_of}
-use Rattle.writers.proofs.Lines.{each-record}
-use Rattle.writers.proofs.Runs.{joined-first, joined_after}
-use Rattle.writers.proofs.Wholes.{either, whole, whole_in}
+use Rattle.writers.specs.Before.{records_in}
+use Rattle.writers.specs.Cells.{shaped}
+use Rattle.writers.specs.Joined.{are_any}
+use Rattle.writers.specs.Json.{json_end, json_written, list_lead, style_of}
+use Rattle.writers.specs.Runs.{Record, line_end_after, list_begun, list_of}
+use Rattle.writers.proofs.Lines.{lines-grow}
+use Rattle.writers.proofs.Separated.{joined-append}
 
--- in a list or not
-module _ (item : Record → List ℕ) where
-  abbrev text_in : Bool → Run → Record → List ℕ
-  text_in listed run r = if listed then list_lead run ++ item r else item r ++ 10 ∷ []
+list-grows : (item : Record → List ℕ) (before : List Record) (r : Record) → list_begun item (before ++ r ∷ []) ≡ list_begun item before ++ (list_lead before ++ item r)
+list-grows item [] r = refl
+list-grows item (first ∷ before) r =
+    ap (λ texts. codes "[\n" ++ joined (codes ",\n") texts) (map-append item (first ∷ before) (r ∷ []))
+    ∙ ap (λ t. codes "[\n" ++ t) (joined-append (codes ",\n") (map item (first ∷ before)) (item r))
+    ∙ sym (append_assoc (codes "[\n") (joined (codes ",\n") (map item (first ∷ before))) (codes ",\n" ++ item r))
 
-  abbrev after_in : Bool → Run → Record → Run
-  after_in listed run r = record run { any = true; mid = listed }
+last-record : (r : Record) (rs : List Record) → line_end_after (map Rec (r ∷ rs)) ≡ 10 ∷ []
+last-record r [] = refl
+last-record r (next ∷ rs) = last-record next rs
 
-  abbrev end_in : Bool → Bool → Run → List ℕ
-  end_in listed ended run = if ended then (if listed then (if run.any then line_end_missing run else codes "[\n") ++ codes "]\n" else []) else []
-
-  abbrev json_whole : Bool → Bool → Run → List Record → List ℕ
-  json_whole listed ended run rs = whole (text_in listed) (after_in listed) (end_in listed ended) run rs
-
-  -- after a record of the list
-  abbrev within : Run
-  within = record start { any = true; mid = true }
-
-  list-more : (ended : Bool) (rs : List Record) → json_whole true ended within rs ≡ joined_after (codes ",\n") true (map item rs) ++ end_in true ended within
-  list-more ended [] = refl
-  list-more ended (r ∷ rs) =
-      let lead = codes ",\n" in
-      let later = joined_after lead true (map item rs) in
-      let end = end_in true ended within in
-      ap (λ t. (lead ++ item r) ++ t) (list-more ended rs)
-      ∙ sym (append_assoc (lead ++ item r) later end) ∙ ap (λ t. t ++ end) (append_assoc lead (item r) later)
-
-  list-first : (ended : Bool) (r : Record) (rs : List Record)
-      → json_whole true ended start (r ∷ rs) ≡ (codes "[\n" ++ joined (codes ",\n") (map item (r ∷ rs))) ++ end_in true ended within
-  list-first ended r rs =
-      let lead = codes "[\n" in
-      let later = joined_after (codes ",\n") true (map item rs) in
-      let end = end_in true ended within in
-      ap (λ t. (lead ++ item r) ++ t) (list-more ended rs)
-      ∙ sym (append_assoc (lead ++ item r) later end)
-      ∙ ap (λ t. t ++ end) (append_assoc lead (item r) later)
-      ∙ ap (λ t. (lead ++ t) ++ end) (sym (joined-first (codes ",\n") (item r) (map item rs)))
-
-  list-whole : (rs : List Record) → json_whole true true start rs ≡ list_of item rs
-  list-whole [] = refl
-  list-whole (r ∷ rs) = list-first true r rs
-
-  list-open : (rs : List Record) → json_whole true false start rs ≡ list_begun item rs
-  list-open [] = refl
-  list-open (r ∷ rs) = list-first false r rs ∙ append-nil (codes "[\n" ++ joined (codes ",\n") (map item (r ∷ rs)))
-
-  none-listed : (ended : Bool) (rs : List Record) → json_whole false ended start rs ≡ flat_map (λ r. item r ++ 10 ∷ []) rs
-  none-listed ended rs = each-record (end_in false ended) (λ run. either ended []) (λ r. item r ++ 10 ∷ []) (after_in false) rs start
-
-module _ (opts : WriteOpts) (rs : List Record) where
+module _ (opts : WriteOpts) where
   abbrev item : Record → List ℕ
   item r = json_record (style_of opts) r
 
-  by-listwrap : (listed ended : Bool) → opts.listwrap ≡ listed → whole_in Json opts ended start rs ≡ json_whole item listed ended start rs
-  by-listwrap listed ended is = ap (λ l. json_whole item l ended start rs) is
+  pub listed-grows : opts.listwrap ≡ true → (before : List Record) (r : Record) → list_begun item (before ++ r ∷ []) ≡ list_begun item before ++ json_written opts before r
+  listed-grows listed before r =
+      list-grows item before r
+      ∙ ap (λ l. list_begun item before ++ (if l then list_lead before ++ item r else item r ++ 10 ∷ [])) (sym listed)
 
-  pub json-list : opts.listwrap ≡ true → whole_in Json opts true start rs ≡ list_of item rs
-  json-list is = by-listwrap true true is ∙ list-whole item rs
+  pub bare-grows : opts.listwrap ≡ false → (before : List Record) (r : Record)
+      → flat_map (λ r. item r ++ 10 ∷ []) (before ++ r ∷ []) ≡ flat_map (λ r. item r ++ 10 ∷ []) before ++ json_written opts before r
+  bare-grows bare before r =
+      lines-grow (λ r. item r ++ 10 ∷ []) before r
+      ∙ ap (λ l. flat_map (λ r. item r ++ 10 ∷ []) before ++ (if l then list_lead before ++ item r else item r ++ 10 ∷ [])) (sym bare)
 
-  pub json-begun : opts.listwrap ≡ true → whole_in Json opts false start rs ≡ list_begun item rs
-  json-begun is = by-listwrap true false is ∙ list-open item rs
+  -- a list that has begun, and its end
+  pub list-ends : opts.listwrap ≡ true → (rs : List Record) → list_begun item (map (shaped opts) rs) ++ json_end opts (map Rec rs) ≡ list_of item (map (shaped opts) rs)
+  list-ends listed [] = ap (λ l. if l then codes "[\n]\n" else []) listed
+  list-ends listed (r ∷ rs) =
+      let begun = list_begun item (map (shaped opts) (r ∷ rs)) in
+      ap (λ l. begun ++ (if l then line_end_after (map Rec (r ∷ rs)) ++ codes "]\n" else [])) listed
+      ∙ ap (λ t. begun ++ (t ++ codes "]\n")) (last-record r rs)
 
-  pub json-bare : (ended : Bool) → opts.listwrap ≡ false → whole_in Json opts ended start rs ≡ flat_map (λ r. item r ++ 10 ∷ []) rs
-  json-bare ended is = by-listwrap false ended is ∙ none-listed item ended rs
+  -- without a list the end adds nothing
+  pub bare-ends : opts.listwrap ≡ false → (ended : Bool) (text : List ℕ) (bodies : List Body) → text ++ (if ended then json_end opts bodies else []) ≡ text
+  bare-ends bare true text bodies =
+      ap (λ l. text ++ (if l then (if are_any (records_in opts bodies) then line_end_after bodies else codes "[\n") ++ codes "]\n" else [])) bare ∙ append-nil text
+  bare-ends bare false text bodies = append-nil text

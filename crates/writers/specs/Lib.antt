@@ -1,5 +1,7 @@
 pub mod Cells
-pub mod Run
+pub mod Joined
+pub mod Runs
+pub mod Before
 pub mod Headed
 pub mod Csv
 pub mod Tsv
@@ -8,12 +10,9 @@ pub mod Dkvp
 pub mod Nidx
 pub mod Json
 pub mod Jsonl
-pub mod Width
 pub mod Xtab
 pub mod Pprint
 pub mod Written
-pub mod Joined
-pub mod Columns
+pub mod Running
 pub mod Represents
-pub mod Runs
 pub mod Style

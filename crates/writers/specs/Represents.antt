@@ -5,11 +5,10 @@ use Rattle.writers.specs.declared.options.WriteOpts.{WriteOpts}
 use Rattle.writers.specs.declared.state.State.{State}
 use Rattle.writers.specs.declared.stage.Stage.TheVariants.{Open, Ended, Broken}
 use Rattle.writers.specs.declared.writer.Writer.{Writer}
-use Rattle.writers.specs.Run.{Run, start}
-use Rattle.writers.specs.Written.{run_after}
+use Rattle.writers.specs.Running.{Run, run_after, start}
 
 abbrev pub run_of : State → Run
-run_of state = record { any = state.any; mid = state.mid; keys = state.keys.items; rows = state.block.rows.items }
+run_of state = record { any = state.any; mid = state.mid; keys = state.keys.items; lines = state.block }
 
 -- more may come, or the end
 abbrev pub IsOpen : Writer → Type 0

@@ -1,23 +1,123 @@
--- What is written of records and texts, in each format: of a whole list of them, and until the end has come or with it.
-use Rattle.std.specs.Prelude.{ℕ, Bool, false, if◌then◌else◌, List, [], ◌∷◌, ◌++◌}
+-- How a writer goes from one record or text to the next: what is written by what it knows of those before, and what it
+-- knows after. What is written by it is what is written (Written.antt); no public clause says it by this module.
+use Rattle.std.specs.Prelude.{ℕ, Bool, true, false, ◌||◌, if◌then◌else◌, List, [], ◌∷◌, ◌++◌, codes}
+use Rattle.mlr_spec.specs.Ascii.{line_feed}
+use Rattle.mlr_spec.specs.Json.{json_record}
 use Rattle.mlr_spec.specs.Tree.{Tree}
 use Rattle.mlr_event.specs.declared.event.Body.{Body}
 use Rattle.mlr_event.specs.declared.event.Body.TheVariants.{Rec, Text}
 use Rattle.mlr_event.specs.declared.options.Format.{Format}
 use Rattle.mlr_event.specs.declared.options.Format.TheVariants.{Csv, Tsv, Json, Jsonl, Dkvp, Nidx, Xtab, Pprint, Markdown}
+use Rattle.text_columns.specs.Pprint as columns
+use Rattle.text_columns.specs.Xtab.{xtab_lines}
+use Rattle.writers.specs.declared.form.Part.TheVariants.{Keys, Values}
 use Rattle.writers.specs.declared.options.WriteOpts.{WriteOpts}
-use Rattle.writers.specs.Cells.{shaped}
-use Rattle.writers.specs.Run.{Run, start}
-use Rattle.writers.specs.Headed.{headed_after}
-use Rattle.writers.specs.Csv.{csv_record}
-use Rattle.writers.specs.Tsv.{tsv_record}
-use Rattle.writers.specs.Markdown.{markdown_record}
+use Rattle.writers.specs.Cells.{same_texts, shaped, texts}
+use Rattle.writers.specs.Csv.{csv_line}
+use Rattle.writers.specs.Tsv.{tsv_line}
+use Rattle.writers.specs.Markdown.{markdown_header, markdown_line}
 use Rattle.writers.specs.Dkvp.{dkvp_record}
 use Rattle.writers.specs.Nidx.{nidx_record}
-use Rattle.writers.specs.Json.{json_written, json_after, json_end, line_end_missing}
+use Rattle.writers.specs.Headed.{unless_empty}
+use Rattle.writers.specs.Joined.{are_any}
+use Rattle.writers.specs.Json.{style_of}
 use Rattle.writers.specs.Jsonl.{jsonl_record}
-use Rattle.writers.specs.Xtab.{xtab_record, xtab_after}
-use Rattle.writers.specs.Pprint.{pprint_record, pprint_after, block_end}
+
+pub record Run : Type 0 where
+  -- whether a record was written
+  pub any : Bool
+  -- whether the last thing was a record whose line end is missing
+  pub mid : Bool
+  -- the keys of the records since the last header; none where the next record begins a run
+  pub keys : List (List ℕ)
+  -- the lines of the run that are held back
+  pub lines : List (List (List ℕ))
+
+abbrev pub start : Run
+start = record { any = false; mid = false; keys = []; lines = [] }
+
+-- a header or a block that isn't the first follows an empty line
+abbrev pub after_gap : Run → List ℕ → List ℕ
+after_gap run text = (if run.any then line_feed ∷ [] else []) ++ text
+
+-- what a record gives before its row: nothing under the header of its run, else a header, if headers are written
+abbrev pub header_text : Bool → Run → List ℕ → List ℕ
+header_text headerless run header = if headerless then [] else after_gap run header
+
+abbrev pub heading : Bool → Run → List (List ℕ × Tree) → List ℕ → List ℕ
+heading headerless run r header = if same_texts run.keys (texts Keys r) then [] else header_text headerless run header
+
+abbrev pub headed : Bool → Run → List (List ℕ × Tree) → List ℕ → List ℕ → List ℕ
+headed headerless run r header row = unless_empty r (heading headerless run r header ++ row)
+
+-- a record under the header of its run leaves the run as it is, another begins one
+abbrev pub headed_after : Run → List (List ℕ × Tree) → Run
+headed_after run [] = record run { keys = [] }
+headed_after run (field ∷ r) =
+    if same_texts run.keys (texts Keys (field ∷ r)) then run else record run { any = true; keys = texts Keys (field ∷ r) }
+
+abbrev pub csv_record : WriteOpts → Run → List (List ℕ × Tree) → List ℕ
+csv_record opts run r = headed opts.headerless run r (csv_line opts (texts Keys r)) (csv_line opts (texts Values r))
+
+abbrev pub tsv_record : WriteOpts → Run → List (List ℕ × Tree) → List ℕ
+tsv_record opts run r = headed opts.headerless run r (tsv_line opts (texts Keys r)) (tsv_line opts (texts Values r))
+
+abbrev pub markdown_record : Run → List (List ℕ × Tree) → List ℕ
+markdown_record run r = headed false run r (markdown_header (texts Keys r)) (markdown_line (texts Values r))
+
+-- the bracket that begins the list, or the comma after another record
+abbrev pub list_lead : Run → List ℕ
+list_lead run = if run.any then codes ",\n" else codes "[\n"
+
+abbrev pub json_written : WriteOpts → Run → List (List ℕ × Tree) → List ℕ
+json_written opts run r =
+    if opts.listwrap then list_lead run ++ json_record (style_of opts) r else json_record (style_of opts) r ++ line_feed ∷ []
+
+abbrev pub json_after : WriteOpts → Run → Run
+json_after opts run = record run { any = true; mid = opts.listwrap }
+
+-- the line end that is missing after a record
+abbrev pub line_end_missing : Run → List ℕ
+line_end_missing run = if run.mid then line_feed ∷ [] else []
+
+-- the end of the list, which begins here if there was no record
+abbrev pub json_end : WriteOpts → Run → List ℕ
+json_end opts run =
+    if opts.listwrap then (if run.any then line_end_missing run else codes "[\n") ++ codes "]\n" else []
+
+abbrev pub xtab_record : Run → List (List ℕ × Tree) → List ℕ
+xtab_record run r = unless_empty r (after_gap run (xtab_lines r))
+
+abbrev pub xtab_after : Run → List (List ℕ × Tree) → Run
+xtab_after run [] = run
+xtab_after run (field ∷ r) = record run { any = true }
+
+-- the text of the open block, after an empty line if it isn't the first; nothing where none is open
+abbrev pub block_end : WriteOpts → Run → List ℕ
+block_end opts run = if are_any run.lines then after_gap run (columns.block opts.barred opts.headerless run.lines) else []
+
+-- no block is open
+abbrev pub block_ended : Run → Run
+block_ended run = record { any = run.any || are_any run.lines; mid = run.mid; keys = []; lines = [] }
+
+-- the block that a record joins: the open one, if that has its keys, else another; and what is written before that begins
+abbrev pub block_for : Run → List (List ℕ × Tree) → Run
+block_for run r = if same_texts run.keys (texts Keys r) then run else record (block_ended run) { keys = texts Keys r; lines = texts Keys r ∷ [] }
+
+abbrev pub text_before : WriteOpts → Run → List (List ℕ × Tree) → List ℕ
+text_before opts run r = if same_texts run.keys (texts Keys r) then [] else block_end opts run
+
+-- a record without fields ends the block
+abbrev pub pprint_record : WriteOpts → Run → List (List ℕ × Tree) → List ℕ
+pprint_record opts run [] = block_end opts run
+pprint_record opts run (field ∷ r) = text_before opts run (field ∷ r)
+
+abbrev pub with_row : Run → List (List ℕ × Tree) → Run
+with_row run r = record run { lines = run.lines ++ texts Values r ∷ [] }
+
+abbrev pub pprint_after : Run → List (List ℕ × Tree) → Run
+pprint_after run [] = block_ended run
+pprint_after run (field ∷ r) = with_row (block_for run (field ∷ r)) (field ∷ r)
 
 -- what is written when a record comes, and the state of the output after it
 abbrev pub record_text : Format → WriteOpts → Run → List (List ℕ × Tree) → List ℕ

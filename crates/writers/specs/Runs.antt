@@ -9,7 +9,6 @@ use Rattle.mlr_spec.specs.Tree.{Tree}
 use Rattle.writers.specs.declared.form.Part.TheVariants.{Keys}
 use Rattle.writers.specs.Cells.{texts, same_texts}
 use Rattle.writers.specs.Joined.{are_any}
-use Rattle.writers.specs.Xtab.{longest_key, xtab_line}
 
 abbrev pub Record : Type 0
 Record = List (List ℕ × Tree)
@@ -49,10 +48,6 @@ table_of header row (first ∷ rows) = header first ++ flat_map row (first ∷ r
 -- a table for each run; or the rows alone, if no headers are written
 abbrev pub sheet : Bool → (Record → List ℕ) → (Record → List ℕ) → List Record → List ℕ
 sheet headerless header row rs = if headerless then flat_map row (filled rs) else tables (table_of header row) (runs_of rs)
-
--- XTAB: a line for each field
-abbrev pub xtab_lines : Record → List ℕ
-xtab_lines r = flat_map (xtab_line (longest_key r)) r
 
 -- JSON: the records of a list, up to the last without its line end
 abbrev pub list_begun : (Record → List ℕ) → List Record → List ℕ

@@ -3,12 +3,11 @@ use Rattle.std.specs.Prelude.{ℕ, ◌==◌, if◌then◌else◌, List, [], ◌�
 use Rattle.std.specs.List.{flat_map}
 use Rattle.mlr_spec.specs.Ascii.{tab, line_feed, backslash}
 use Rattle.mlr_spec.specs.Json.{joined}
-use Rattle.mlr_spec.specs.Tree.{Tree}
 use Rattle.writers.specs.declared.form.Part.TheVariants.{Keys, Values}
 use Rattle.writers.specs.declared.options.WriteOpts.{WriteOpts}
 use Rattle.writers.specs.Cells.{texts}
 use Rattle.writers.specs.Headed.{headed}
-use Rattle.writers.specs.Run.{Run}
+use Rattle.writers.specs.Runs.{Record}
 
 abbrev pub tsv_escaped : ℕ → List ℕ
 tsv_escaped b =
@@ -22,5 +21,6 @@ tsv_field text = flat_map tsv_escaped text
 abbrev pub tsv_line : WriteOpts → List (List ℕ) → List ℕ
 tsv_line opts fields = joined opts.ofs (map tsv_field fields) ++ line_feed ∷ []
 
-abbrev pub tsv_record : WriteOpts → Run → List (List ℕ × Tree) → List ℕ
-tsv_record opts run r = headed opts.headerless run r (tsv_line opts (texts Keys r)) (tsv_line opts (texts Values r))
+-- what a record gives after the records before it
+abbrev pub tsv_record : WriteOpts → List Record → Record → List ℕ
+tsv_record opts before r = headed opts.headerless before r (tsv_line opts (texts Keys r)) (tsv_line opts (texts Values r))

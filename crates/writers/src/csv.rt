@@ -1,15 +1,16 @@
 //! CSV, after RFC 4180.
 ghost use Rattle.std.specs.Prelude.{◌≡◌, ◌++◌, ◌||◌, OnOk, ◌∷◌, [], is_some, true, if◌then◌else◌, ℕ, List};
 ghost use Rattle.std.specs.List.{list_any};
+ghost use Rattle.std.specs.Option.{option_to_list};
 ghost use Rattle.mlr_spec.specs.Split.{place_in};
 ghost use Rattle.mlr_value.specs.Stops.{has_stop};
 ghost use Rattle.writers.specs.Cells.{texts};
-ghost use Rattle.writers.specs.Csv.{csv_field, csv_line, quoted, wants_quotes};
+ghost use Rattle.writers.specs.Csv.{csv_field, csv_line, quoted, unless_stop, wants_quotes};
 
 use crate::WriteOpts;
 use crate::cell::{CellText, InCells};
 use crate::escape::{Escape, append_escaped};
-use crate::fields::append_fields;
+use crate::fields::{append_fields, append_marked_line, append_next};
 use crate::form::Part;
 use crate::rows::RowFormat;
 use mlr_record::Record;
@@ -21,56 +22,41 @@ use mlr_value::Bytes;
 #[derive(Drop)]
 pub(crate) struct CsvRows<'a> {
     pub(crate) opts: &'a WriteOpts,
-    /// The separator, if it is one byte.
+}
+
+/// Cells that a quote, LF, CR and the separator alone put in quotes.
+#[derive(Drop)]
+struct PlainCells {
     separator: u8,
-    /// Whether a quote, LF, CR and this byte are all that puts a text in quotes.
-    only_stops: bool,
-    ghost quotes: { only_stops ≡ true → (text : List ℕ) → csv_field opts.now text
-        ≡ (if has_stop (34 ∷ 10 ∷ 13 ∷ separator ∷ []) text then quoted text else text) },
 }
 
-impl<'a> CsvRows<'a> {
-    #[inline]
-    pub(crate) fn of(opts: &'a WriteOpts) -> Self
-        ensures { result.opts.now ≡ opts.now }
-    {
-        if opts.quote_all {
-            return CsvRows::by_options(opts);
-        }
-        let separator = opts.ofs.as_slice();
-        if separator.len() != 1 {
-            return CsvRows::by_options(opts);
-        }
-        CsvRows {
-            opts,
-            separator: separator[0],
-            only_stops: true,
-        }
-    }
-
-    /// Rows in which each text is looked at by the options.
-    fn by_options(opts: &'a WriteOpts) -> Self
-        ensures { result.opts.now ≡ opts.now }
-    {
-        CsvRows {
-            opts,
-            separator: b'"',
-            only_stops: false,
-        }
-    }
-}
-
-impl<'a> CellText for CsvRows<'a> {
-    ghost cell = { λ rows text. csv_field rows.opts.now text };
+impl CellText for PlainCells {
+    ghost cell = { λ cells text. unless_stop cells.separator text };
 
     #[inline(always)]
-    fn append_cell(&self, text: &[u8], out: &mut Bytes) -> Result<(), NoMemory> {
-        if !self.only_stops {
-            append_by_options(self.opts, text, out)
-        } else if out.append_plain(text, [b'"', b'\n', b'\r', self.separator])? {
+    fn append_cell(&self, text: &Bytes, next: Option<u8>, out: &mut Bytes) -> Result<(), NoMemory> {
+        if out.append_plain_then(text, next, [b'"', b'\n', b'\r', self.separator])? {
             Ok(())
         } else {
-            append_quoted(text, out)
+            append_quoted(text, next, out)
+        }
+    }
+}
+
+/// Cells that are looked at by the options.
+#[derive(Drop)]
+struct AnyCells<'a> {
+    opts: &'a WriteOpts,
+}
+
+impl<'a> CellText for AnyCells<'a> {
+    ghost cell = { λ cells text. csv_field cells.opts.now text };
+
+    fn append_cell(&self, text: &Bytes, next: Option<u8>, out: &mut Bytes) -> Result<(), NoMemory> {
+        if self.opts.quote_all || is_special(self.opts.ofs.as_slice(), text.as_slice()) {
+            append_quoted(text, next, out)
+        } else {
+            out.append_then(text, next)
         }
     }
 }
@@ -93,50 +79,67 @@ impl<'a> RowFormat for CsvRows<'a> {
         scratch: &mut Bytes,
         out: &mut Bytes,
     ) -> Result<(), NoMemory> {
-        append_csv_line(self, Part::Keys, fields, scratch, out)
+        append_csv_line(self.opts, Part::Keys, fields, scratch, out)
     }
 
-    #[inline(always)]
+    #[inline]
     fn append_values(
         &self,
         fields: &Record,
         scratch: &mut Bytes,
         out: &mut Bytes,
     ) -> Result<(), NoMemory> {
-        append_csv_line(self, Part::Values, fields, scratch, out)
+        append_csv_line(self.opts, Part::Values, fields, scratch, out)
     }
 }
 
 /// Appends a line of keys or values. One that would be empty is two quotes.
 fn append_csv_line(
-    rows: &CsvRows,
+    opts: &WriteOpts,
     part: Part,
     fields: &Record,
     scratch: &mut Bytes,
     out: &mut Bytes,
 ) -> Result<(), NoMemory>
-    ensures { OnOk result (out.new ≡ out.old
-        ++ csv_line rows.now.opts.now (texts part fields.now)) }
+    ensures { OnOk result (out.new ≡ out.old ++ csv_line opts.now (texts part fields.now)) }
+{
+    let separator = opts.ofs.as_slice();
+    if opts.quote_all || separator.len() != 1 || fields.len() < 2 {
+        return append_any_line(opts, part, fields, scratch, out);
+    }
+    let cells = PlainCells {
+        separator: separator[0],
+    };
+    append_marked_line(
+        InCells { cells, part },
+        separator[0],
+        fields.fields(),
+        scratch,
+        out,
+    )
+}
+
+/// Appends a line of any cells with any separator.
+#[inline(never)]
+fn append_any_line(
+    opts: &WriteOpts,
+    part: Part,
+    fields: &Record,
+    scratch: &mut Bytes,
+    out: &mut Bytes,
+) -> Result<(), NoMemory>
+    ensures { OnOk result (out.new ≡ out.old ++ csv_line opts.now (texts part fields.now)) }
 {
     let before = out.len();
-    let form = InCells { cells: rows, part };
-    append_fields(&form, rows.opts.ofs.as_slice(), fields, scratch, out)?;
+    let form = InCells {
+        cells: AnyCells { opts },
+        part,
+    };
+    append_fields(&form, opts.ofs.as_slice(), fields.fields(), scratch, out)?;
     if out.len() == before {
         out.append(b"\"\"")?;
     }
     out.push(b'\n')
-}
-
-/// Appends a cell where all are in quotes, or the separator isn't one byte.
-#[inline(never)]
-fn append_by_options(opts: &WriteOpts, text: &[u8], out: &mut Bytes) -> Result<(), NoMemory>
-    ensures { OnOk result (out.new ≡ out.old ++ csv_field opts.now text.now) }
-{
-    if opts.quote_all || is_special(opts.ofs.as_slice(), text) {
-        append_quoted(text, out)
-    } else {
-        out.append(text)
-    }
 }
 
 /// Whether the text contains a quote, LF, CR or the separator.
@@ -166,14 +169,14 @@ fn holds(separator: &[u8], text: &[u8]) -> bool
     separator_place(separator, text).is_some()
 }
 
-/// Appends a text in quotes.
+/// Appends a text in quotes, and then the byte, if there is one.
 #[inline(never)]
-fn append_quoted(text: &[u8], out: &mut Bytes) -> Result<(), NoMemory>
-    ensures { OnOk result (out.new ≡ out.old ++ quoted text.now) }
+fn append_quoted(text: &Bytes, next: Option<u8>, out: &mut Bytes) -> Result<(), NoMemory>
+    ensures { OnOk result (out.new ≡ out.old ++ quoted text.now ++ option_to_list next) }
 {
     out.push(b'"')?;
-    append_escaped::<Quotes>(text, out)?;
-    out.push(b'"')
+    append_escaped::<Quotes>(text, Some(b'"'), out)?;
+    append_next(next, out)
 }
 
 /// A quote in quotes is written twice.

@@ -3,11 +3,10 @@ ghost use Rattle.std.specs.Prelude.{◌≡◌, ◌++◌, OnOk};
 ghost use Rattle.writers.specs.Dkvp.{dkvp_record};
 
 use crate::WriteOpts;
-use crate::fields::{FieldText, append_line, append_mark};
-use mlr_record::Record;
+use crate::fields::{FieldText, append_line, append_value};
+use mlr_record::{Field, Record};
 use mlr_spec::NoMemory;
-use mlr_value::{Bytes, Value};
-use text_forms::append_shown;
+use mlr_value::Bytes;
 
 /// Appends a record as a line of keys and values.
 pub(crate) fn append_dkvp(
@@ -21,7 +20,7 @@ pub(crate) fn append_dkvp(
     let form = Pairs {
         ops: opts.ops.as_slice(),
     };
-    append_line(&form, opts.ofs.as_slice(), fields, scratch, out)
+    append_line(form, opts.ofs.as_slice(), fields.fields(), scratch, out)
 }
 
 /// Each key and its value, with OPS between them.
@@ -38,13 +37,25 @@ impl<'a> FieldText for Pairs<'a> {
     #[inline(always)]
     fn append_field(
         &self,
-        key: &[u8],
-        value: &Value,
+        field: &Field,
+        next: Option<u8>,
         _scratch: &mut Bytes,
         out: &mut Bytes,
     ) -> Result<(), NoMemory> {
-        out.append(key)?;
-        append_mark(self.ops, out)?;
-        append_shown(value, out)
+        if self.ops.len() == 1 {
+            out.append_then(&field.name, Some(self.ops[0]))?;
+        } else {
+            append_key(&field.name, self.ops, out)?;
+        }
+        append_value(&field.value, next, out)
     }
+}
+
+/// Appends a key and OPS.
+#[inline(never)]
+fn append_key(key: &Bytes, ops: &[u8], out: &mut Bytes) -> Result<(), NoMemory>
+    ensures { OnOk result (out.new ≡ out.old ++ key.now ++ ops.now) }
+{
+    out.append(key.as_slice())?;
+    out.append(ops)
 }

@@ -1,77 +1,138 @@
 //! The fields of a record, one after another with a separator between them.
-ghost use Rattle.std.specs.Prelude.{◌≡◌, ◌++◌, ◌∷◌, [], OnOk, map};
+ghost use Rattle.std.specs.Prelude.{◌≡◌, ◌++◌, ◌∷◌, [], OnOk, if◌then◌else◌, map};
+ghost use Rattle.std.specs.Option.{option_to_list};
 ghost use Rattle.mlr_spec.specs.Ascii.{line_feed};
 ghost use Rattle.mlr_spec.specs.Json.{joined};
+ghost use Rattle.mlr_record.specs.Fields.{pairs_of};
+ghost use Rattle.mlr_value.specs.Value.{tree_of};
+ghost use Rattle.text_forms.specs.Shown.{shown};
 ghost use Rattle.writers.specs.Joined.{separated};
 
-use mlr_record::Record;
+use mlr_record::Field;
 use mlr_spec::NoMemory;
 use mlr_value::{Bytes, Value};
+use text_forms::{append_shown, held_bytes};
 
 /// A way of writing a field among the others of its record.
 pub(crate) trait FieldText {
     ghost use Rattle.std.specs.Prelude.{◌≡◌, ◌++◌, ℕ, List, OnOk};
+    ghost use Rattle.std.specs.Option.{option_to_list};
     ghost use Rattle.mlr_spec.specs.Tree.{Tree};
-    ghost use Rattle.mlr_value.specs.Value.{tree_of};
+    ghost use Rattle.mlr_record.specs.Fields.{pair_of};
 
     /// The text of a field.
     ghost text: { Self → List ℕ × Tree → List ℕ };
 
-    /// Appends the text of a field. What a value prints that doesn't hold its text goes through `scratch`.
+    /// Appends the text of a field, and then the byte, if there is one. What a value prints that doesn't hold its text
+    /// goes through `scratch`.
     fn append_field(
         &self,
-        key: &[u8],
-        value: &Value,
+        field: &Field,
+        next: Option<u8>,
         scratch: &mut Bytes,
         out: &mut Bytes,
     ) -> Result<(), NoMemory>
-        ensures { OnOk result (out.new ≡ out.old ++ text self.now (key.now, tree_of value.now)) };
+        ensures { OnOk result (out.new ≡ out.old
+            ++ text self.now (pair_of field.now) ++ option_to_list next) };
 }
 
-/// Appends all fields of the record, with a separator between each two.
+/// Appends all fields, with a separator between each two.
 pub(crate) fn append_fields<F: FieldText>(
     form: &F,
     separator: &[u8],
-    fields: &Record,
+    fields: &[Field],
     scratch: &mut Bytes,
     out: &mut Bytes,
 ) -> Result<(), NoMemory>
     ensures { OnOk result (out.new ≡ out.old
-        ++ joined separator.now (map (F.text form.now) fields.now)) }
+        ++ joined separator.now (map (F.text form.now) (pairs_of fields.now))) }
 {
-    for place in 0..fields.len() {
+    for (place, field) in fields.iter().enumerate() {
         append_separator(separator, place > 0, out)?;
-        let (key, value) = fields.entry(place);
-        form.append_field(key, value, scratch, out)?;
+        form.append_field(field, None, scratch, out)?;
     }
     Ok(())
 }
 
-/// Appends all fields of the record with a separator between each two, and a line end.
-pub(crate) fn append_line<F: FieldText>(
-    form: &F,
+/// Appends all fields with a separator between each two, and a line end.
+#[inline(always)]
+pub(crate) fn append_line<F: FieldText + Drop>(
+    form: F,
     separator: &[u8],
-    fields: &Record,
+    fields: &[Field],
     scratch: &mut Bytes,
     out: &mut Bytes,
 ) -> Result<(), NoMemory>
     ensures { OnOk result (out.new ≡ out.old
-        ++ joined separator.now (map (F.text form.now) fields.now) ++ line_feed ∷ []) }
+        ++ joined separator.now (map (F.text form) (pairs_of fields.now)) ++ line_feed ∷ []) }
 {
-    append_fields(form, separator, fields, scratch, out)?;
+    if separator.len() == 1 {
+        return append_marked_line(form, separator[0], fields, scratch, out);
+    }
+    append_fields(&form, separator, fields, scratch, out)?;
     out.push(b'\n')
 }
 
-/// Appends a separator. Most often it is one byte.
-#[inline(always)]
-pub(crate) fn append_mark(mark: &[u8], out: &mut Bytes) -> Result<(), NoMemory>
-    ensures { OnOk result (out.new ≡ out.old ++ mark.now) }
+/// Appends all fields with this byte between each two, and a line end. A field and the byte that follows it are
+/// appended in one step.
+pub(crate) fn append_marked_line<F: FieldText + Drop>(
+    form: F,
+    separator: u8,
+    fields: &[Field],
+    scratch: &mut Bytes,
+    out: &mut Bytes,
+) -> Result<(), NoMemory>
+    ensures { OnOk result (out.new ≡ out.old
+        ++ joined (separator ∷ []) (map (F.text form) (pairs_of fields.now))
+        ++ line_feed ∷ []) }
 {
-    if mark.len() == 1 {
-        out.push(mark[0])
-    } else {
-        out.append(mark)
+    if fields.is_empty() {
+        return out.push(b'\n');
     }
+    for (place, field) in fields.iter().enumerate() {
+        let next = byte_after(place + 1 < fields.len(), separator);
+        form.append_field(field, Some(next), scratch, out)?;
+    }
+    Ok(())
+}
+
+/// The byte that follows a field: the separator where more fields follow, and else the line end.
+#[inline(always)]
+fn byte_after(more: bool, separator: u8) -> u8
+    ensures { result ≡ (if more then separator else line_feed) }
+{
+    if more { separator } else { b'\n' }
+}
+
+/// Appends the byte, if there is one.
+#[inline(always)]
+pub(crate) fn append_next(next: Option<u8>, out: &mut Bytes) -> Result<(), NoMemory>
+    ensures { OnOk result (out.new ≡ out.old ++ option_to_list next) }
+{
+    match next {
+        None => Ok(()),
+        Some(byte) => out.push(byte),
+    }
+}
+
+/// Appends a value as one text, and then the byte, if there is one.
+#[inline(always)]
+pub(crate) fn append_value(value: &Value, next: Option<u8>, out: &mut Bytes) -> Result<(), NoMemory>
+    ensures { OnOk result (out.new ≡ out.old ++ shown (tree_of value.now) ++ option_to_list next) }
+{
+    match held_bytes(value) {
+        Some(text) => out.append_then(text, next),
+        None => append_printed(value, next, out),
+    }
+}
+
+/// Appends a value that doesn't hold its text, and then the byte, if there is one.
+#[inline(never)]
+fn append_printed(value: &Value, next: Option<u8>, out: &mut Bytes) -> Result<(), NoMemory>
+    ensures { OnOk result (out.new ≡ out.old ++ shown (tree_of value.now) ++ option_to_list next) }
+{
+    append_shown(value, out)?;
+    append_next(next, out)
 }
 
 /// The separator, if there is a text before.
@@ -79,9 +140,5 @@ pub(crate) fn append_mark(mark: &[u8], out: &mut Bytes) -> Result<(), NoMemory>
 pub(crate) fn append_separator(separator: &[u8], any: bool, out: &mut Bytes) -> Result<(), NoMemory>
     ensures { OnOk result (out.new ≡ out.old ++ separated separator.now any) }
 {
-    if any {
-        append_mark(separator, out)
-    } else {
-        Ok(())
-    }
+    if any { out.append(separator) } else { Ok(()) }
 }

@@ -1,16 +1,17 @@
 //! Records as JSON: in one list, or each on lines of its own.
 ghost use Rattle.std.specs.Prelude.{◌≡◌, ◌++◌, [], OnOk};
 ghost use Rattle.mlr_spec.specs.Json.{json_record};
-ghost use Rattle.writers.specs.Json.{json_after, json_end, json_written, line_end_missing, list_lead, style_of};
+ghost use Rattle.writers.specs.Json.{style_of};
 ghost use Rattle.writers.specs.Represents.{run_of};
+ghost use Rattle.writers.specs.Running.{json_after, json_end, json_written, line_end_missing, list_lead};
 
 use crate::WriteOpts;
-use crate::fields::{FieldText, append_fields};
+use crate::fields::{FieldText, append_fields, append_next};
 use crate::state::State;
 use mlr_json::append_json_field;
-use mlr_record::Record;
+use mlr_record::{Field, Record};
 use mlr_spec::{JsonStyle, NoMemory};
-use mlr_value::{Bytes, Value};
+use mlr_value::Bytes;
 
 /// Appends a record: in a list, or on lines of its own.
 pub(crate) fn append_json(
@@ -109,7 +110,7 @@ fn append_stacked(fields: &Record, scratch: &mut Bytes, out: &mut Bytes) -> Resu
         style: JsonStyle::Stacked,
     };
     out.append(b"{\n  ")?;
-    append_fields(&form, b",\n  ", fields, scratch, out)?;
+    append_fields(&form, b",\n  ", fields.fields(), scratch, out)?;
     out.append(b"\n}")
 }
 
@@ -123,7 +124,7 @@ fn append_single(fields: &Record, scratch: &mut Bytes, out: &mut Bytes) -> Resul
         style: JsonStyle::Single,
     };
     out.append(b"{")?;
-    append_fields(&form, b", ", fields, scratch, out)?;
+    append_fields(&form, b", ", fields.fields(), scratch, out)?;
     out.append(b"}")
 }
 
@@ -141,11 +142,12 @@ impl FieldText for JsonFields {
     #[inline(always)]
     fn append_field(
         &self,
-        key: &[u8],
-        value: &Value,
+        field: &Field,
+        next: Option<u8>,
         _scratch: &mut Bytes,
         out: &mut Bytes,
     ) -> Result<(), NoMemory> {
-        append_json_field(key, value, self.style, out)
+        append_json_field(field.name.as_slice(), &field.value, self.style, out)?;
+        append_next(next, out)
     }
 }

@@ -1,35 +1,28 @@
 //! The keys of a run of records.
 ghost use Rattle.std.specs.Prelude.{◌≡◌, [], OnOk};
-ghost use Rattle.std.specs.Str.{bytes_eq};
+ghost use Rattle.mlr_record.specs.Fields.{pairs_of};
 ghost use Rattle.writers.specs.declared.form.Part.TheVariants.{Keys};
 ghost use Rattle.writers.specs.Cells.{same_texts, texts};
 
-use mlr_record::Record;
+use mlr_record::{Field, Record};
 use mlr_spec::NoMemory;
 use mlr_value::Bytes;
 use std::alloc::Global;
 
-/// Whether these are the keys of the record, in its order.
-#[inline]
-pub(crate) fn are_keys(keys: &[Bytes], fields: &Record) -> bool
-    ensures { result ≡ same_texts keys.now (texts Keys fields.now) }
+/// Whether these are the keys of the fields, in their order.
+#[inline(always)]
+pub(crate) fn are_keys(keys: &[Bytes], fields: &[Field]) -> bool
+    ensures { result ≡ same_texts keys.now (texts Keys (pairs_of fields.now)) }
 {
     if keys.len() != fields.len() {
         return false;
     }
-    for (place, key) in keys.iter().enumerate() {
-        if !same_text(key.as_slice(), fields.entry(place).0) {
+    for place in 0..keys.len() {
+        if !keys[place].is(&fields[place].name) {
             return false;
         }
     }
     true
-}
-
-#[inline]
-fn same_text(key: &[u8], other: &[u8]) -> bool
-    ensures { result ≡ bytes_eq key.now other.now }
-{
-    key == other
 }
 
 /// Replaces the keys by those of the record. It allocates for a key of more than 16 bytes, and for more keys

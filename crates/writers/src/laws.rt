@@ -1,21 +1,23 @@
 //! Laws of what is written, on whole lists.
-ghost use Rattle.std.specs.Prelude.{◌≡◌, ℕ, Bool, true, false, if◌then◌else◌, List, [], ◌∷◌, ◌++◌, map};
+ghost use Rattle.std.specs.Prelude.{◌≡◌, ℕ, Bool, true, false, if◌then◌else◌, List, [], ◌∷◌, ◌++◌, codes, map};
 ghost use Rattle.std.specs.List.{flat_map};
 ghost use Rattle.mlr_event.specs.declared.event.Body.{Body};
 ghost use Rattle.mlr_event.specs.declared.event.Body.TheVariants.{Rec, Text};
 ghost use Rattle.mlr_event.specs.declared.options.Format.TheVariants.{Csv, Tsv, Json, Jsonl, Dkvp, Nidx, Xtab, Pprint, Markdown};
 ghost use Rattle.mlr_spec.specs.Json.{json_record};
+ghost use Rattle.text_columns.specs.Xtab.{xtab_lines};
 ghost use Rattle.writers.specs.declared.form.Part.TheVariants.{Keys, Values};
 ghost use Rattle.writers.specs.declared.options.WriteOpts.{WriteOpts};
 ghost use Rattle.writers.specs.Cells.{shaped, texts};
 ghost use Rattle.writers.specs.Csv.{csv_line};
 ghost use Rattle.writers.specs.Dkvp.{dkvp_record};
-ghost use Rattle.writers.specs.Json.{style_of};
+ghost use Rattle.writers.specs.Json.{is_listed, style_of};
 ghost use Rattle.writers.specs.Jsonl.{jsonl_record};
 ghost use Rattle.writers.specs.Markdown.{markdown_header, markdown_line};
 ghost use Rattle.writers.specs.Nidx.{nidx_record};
 ghost use Rattle.writers.specs.Pprint.{block};
-ghost use Rattle.writers.specs.Runs.{Record, all_but_last, line_end_after, list_begun, list_of, runs_of, sheet, tables, wants_line_end, xtab_lines};
+ghost use Rattle.writers.specs.Runs.{Record, all_but_last, line_end_after, list_begun, list_of, runs_of, sheet, tables, wants_line_end};
+ghost use Rattle.writers.specs.Style.{IsSameStyle};
 ghost use Rattle.writers.specs.Tsv.{tsv_line};
 ghost use Rattle.writers.specs.Written.{written};
 
@@ -104,4 +106,20 @@ pub fn text_laws()
         → opts.listwrap ≡ true
         → written opts (before ++ Text text ∷ []) false
         ≡ written opts before false ++ line_end_after before ++ text }
+{}
+
+/// Texts without a record: they are written as they are, and the end adds nothing but the brackets of a JSON list. So an
+/// output that had no record has its texts alone as long as its writer isn't ended. It does nothing.
+pub fn text_only_laws()
+    ensures before { (opts : WriteOpts) (texts : List (List ℕ))
+        → written opts (map Text texts) false ≡ flat_map (λ (text : List ℕ). text) texts }
+    ensures ended { (opts : WriteOpts) (texts : List (List ℕ))
+        → written opts (map Text texts) true ≡ flat_map (λ (text : List ℕ). text) texts
+        ++ (if is_listed opts.format opts then codes "[\n]\n" else []) }
+{}
+
+/// Options of one style write the same: what a format ignores has no effect. It does nothing.
+pub fn style_law()
+    ensures { (opts other : WriteOpts) (bodies : List Body) (ended : Bool)
+        → IsSameStyle opts other → written opts bodies ended ≡ written other bodies ended }
 {}

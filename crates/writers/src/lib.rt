@@ -2,9 +2,7 @@
 //! records so far is the open block of PPRINT and the line end of a record in a JSON list.
 #![tactic(auto)]
 
-mod block;
 mod cell;
-mod cells;
 mod csv;
 mod dkvp;
 mod escape;
@@ -19,15 +17,18 @@ mod nidx;
 mod options;
 mod pprint;
 mod rows;
+mod shape;
 mod stage;
 mod state;
+mod style;
 #[cfg(test)]
 mod tests;
 mod tsv;
-mod width;
 mod writer;
 mod xtab;
 
-pub use laws::{block_laws, growth_law, line_laws, list_laws, table_laws, text_laws};
+pub use laws::{
+    block_laws, growth_law, line_laws, list_laws, style_law, table_laws, text_laws, text_only_laws,
+};
 pub use options::WriteOpts;
 pub use writer::Writer;

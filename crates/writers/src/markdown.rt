@@ -1,16 +1,17 @@
 //! Markdown tables: a bar in a cell is escaped.
 ghost use Rattle.std.specs.Prelude.{◌≡◌, ◌++◌, OnOk, map, codes};
 ghost use Rattle.writers.specs.Cells.{texts};
-ghost use Rattle.writers.specs.Markdown.{bar_cell, between_bars, markdown_header, markdown_line};
+ghost use Rattle.text_columns.specs.Pprint.{between_bars};
+ghost use Rattle.writers.specs.Markdown.{bar_cell, markdown_header, markdown_line};
 
 use crate::cell::{CellText, InCells};
 use crate::escape::{Escape, append_escaped};
-use crate::fields::{FieldText, append_fields};
+use crate::fields::{FieldText, append_fields, append_next};
 use crate::form::Part;
 use crate::rows::RowFormat;
-use mlr_record::Record;
+use mlr_record::{Field, Record};
 use mlr_spec::NoMemory;
-use mlr_value::{Bytes, Value};
+use mlr_value::Bytes;
 
 /// How the rows of Markdown are written.
 #[derive(Drop)]
@@ -20,8 +21,8 @@ impl CellText for MarkdownRows {
     ghost cell = { λ rows text. bar_cell text };
 
     #[inline(always)]
-    fn append_cell(&self, text: &[u8], out: &mut Bytes) -> Result<(), NoMemory> {
-        append_escaped::<Bars>(text, out)
+    fn append_cell(&self, text: &Bytes, next: Option<u8>, out: &mut Bytes) -> Result<(), NoMemory> {
+        append_escaped::<Bars>(text, next, out)
     }
 }
 
@@ -70,7 +71,7 @@ fn append_cells(
     ensures { OnOk result (out.new ≡ out.old ++ markdown_line (texts part fields.now)) }
 {
     let form = InCells {
-        cells: &MarkdownRows,
+        cells: MarkdownRows,
         part,
     };
     append_between_bars(&form, fields, scratch, out)
@@ -87,7 +88,7 @@ fn append_between_bars<F: FieldText>(
         ++ between_bars (map (F.text form.now) fields.now)) }
 {
     out.append(b"| ")?;
-    append_fields(form, b" | ", fields, scratch, out)?;
+    append_fields(form, b" | ", fields.fields(), scratch, out)?;
     out.append(b" |\n")
 }
 
@@ -100,12 +101,13 @@ impl FieldText for Dashes {
 
     fn append_field(
         &self,
-        _key: &[u8],
-        _value: &Value,
+        _field: &Field,
+        next: Option<u8>,
         _scratch: &mut Bytes,
         out: &mut Bytes,
     ) -> Result<(), NoMemory> {
-        out.append(b"---")
+        out.append(b"---")?;
+        append_next(next, out)
     }
 }
 

@@ -3,11 +3,10 @@ ghost use Rattle.std.specs.Prelude.{◌≡◌, ◌++◌, OnOk};
 ghost use Rattle.writers.specs.Nidx.{nidx_record};
 
 use crate::WriteOpts;
-use crate::fields::{FieldText, append_line};
-use mlr_record::Record;
+use crate::fields::{FieldText, append_line, append_value};
+use mlr_record::{Field, Record};
 use mlr_spec::NoMemory;
-use mlr_value::{Bytes, Value};
-use text_forms::append_shown;
+use mlr_value::Bytes;
 
 /// Appends a record as a line of values.
 pub(crate) fn append_nidx(
@@ -18,7 +17,13 @@ pub(crate) fn append_nidx(
 ) -> Result<(), NoMemory>
     ensures { OnOk result (out.new ≡ out.old ++ nidx_record opts.now fields.now) }
 {
-    append_line(&ValuesAlone, opts.ofs.as_slice(), fields, scratch, out)
+    append_line(
+        ValuesAlone,
+        opts.ofs.as_slice(),
+        fields.fields(),
+        scratch,
+        out,
+    )
 }
 
 /// The value of each field as it is.
@@ -33,11 +38,11 @@ impl FieldText for ValuesAlone {
     #[inline(always)]
     fn append_field(
         &self,
-        _key: &[u8],
-        value: &Value,
+        field: &Field,
+        next: Option<u8>,
         _scratch: &mut Bytes,
         out: &mut Bytes,
     ) -> Result<(), NoMemory> {
-        append_shown(value, out)
+        append_value(&field.value, next, out)
     }
 }

@@ -2,8 +2,8 @@
 ghost use Rattle.std.specs.Prelude.{◌≡◌, ◌++◌, [], OnOk};
 ghost use Rattle.writers.specs.declared.form.Part.TheVariants.{Keys, Values};
 ghost use Rattle.writers.specs.Cells.{texts};
-ghost use Rattle.writers.specs.Headed.{headed, headed_after, header_text, heading};
 ghost use Rattle.writers.specs.Represents.{run_of};
+ghost use Rattle.writers.specs.Running.{headed, headed_after, header_text, heading};
 
 use crate::keys::{are_keys, put_keys};
 use crate::state::State;
@@ -89,7 +89,7 @@ fn begin_run<F: RowFormat>(
         ++ heading (F.headerless format.now) (run_of state.old) fields.now
         (F.header_of format.now (texts Keys fields.now))) }
 {
-    if are_keys(&state.keys, fields) {
+    if are_keys(&state.keys, fields.fields()) {
         return Ok(());
     }
     append_heading(format, state, fields, scratch, out)?;

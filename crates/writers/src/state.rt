@@ -1,11 +1,11 @@
 //! What a writer knows of the records before.
 ghost use Rattle.std.specs.Prelude.{◌≡◌};
-ghost use Rattle.writers.specs.Run.{start};
+ghost use Rattle.writers.specs.Running.{start};
 ghost use Rattle.writers.specs.Represents.{run_of};
 
-use crate::block::Block;
 use mlr_value::Bytes;
 use std::alloc::Global;
+use text_columns::Block;
 
 /// How far an output has come.
 #[derive(Drop)]
@@ -16,7 +16,7 @@ pub(crate) struct State {
     pub(crate) mid: bool,
     /// The keys of the records since the last header; none where the next record begins a run.
     pub(crate) keys: Vec<Bytes>,
-    /// The records of the run that are held back.
+    /// The lines of the block that is held back.
     pub(crate) block: Block,
 }
 

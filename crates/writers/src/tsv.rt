@@ -19,12 +19,16 @@ pub(crate) struct TsvRows<'a> {
     pub(crate) opts: &'a WriteOpts,
 }
 
-impl<'a> CellText for TsvRows<'a> {
-    ghost cell = { λ rows text. tsv_field text };
+/// Cells with escapes.
+#[derive(Drop)]
+struct TsvCells;
+
+impl CellText for TsvCells {
+    ghost cell = { λ cells text. tsv_field text };
 
     #[inline(always)]
-    fn append_cell(&self, text: &[u8], out: &mut Bytes) -> Result<(), NoMemory> {
-        append_escaped::<Backslashes>(text, out)
+    fn append_cell(&self, text: &Bytes, next: Option<u8>, out: &mut Bytes) -> Result<(), NoMemory> {
+        append_escaped::<Backslashes>(text, next, out)
     }
 }
 
@@ -71,8 +75,14 @@ fn append_tsv_line(
     ensures { OnOk result (out.new ≡ out.old
         ++ tsv_line rows.now.opts.now (texts part fields.now)) }
 {
-    let form = InCells { cells: rows, part };
-    append_line(&form, rows.opts.ofs.as_slice(), fields, scratch, out)
+    let cells = TsvCells;
+    append_line(
+        InCells { cells, part },
+        rows.opts.ofs.as_slice(),
+        fields.fields(),
+        scratch,
+        out,
+    )
 }
 
 /// Tab, LF and backslash are written as `\t`, `\n` and `\\`.

@@ -4,10 +4,10 @@ ghost use Rattle.mlr_event.specs.declared.event.Body.{Body};
 ghost use Rattle.writers.specs.declared.options.WriteOpts.{WriteOpts};
 ghost use Rattle.mlr_event.specs.Adding.{Adds};
 ghost use Rattle.writers.specs.Represents.{HasEnded, IsBroken, IsOpen, Represents, run_of};
-ghost use Rattle.writers.specs.Written.{after, end_text, gives, record_after, record_text, written};
+ghost use Rattle.writers.specs.Running.{after, end_text, gives, record_after, record_text};
+ghost use Rattle.writers.specs.Written.{written};
 
 use crate::WriteOpts;
-use crate::cells::shaped;
 use crate::csv::CsvRows;
 use crate::dkvp::append_dkvp;
 use crate::json::{append_json, append_json_end, append_line_end};
@@ -16,6 +16,7 @@ use crate::markdown::MarkdownRows;
 use crate::nidx::append_nidx;
 use crate::pprint::{append_pprint, end_block};
 use crate::rows::append_row;
+use crate::shape::shaped;
 use crate::stage::Stage;
 use crate::state::State;
 use crate::tsv::TsvRows;
@@ -27,7 +28,7 @@ use mlr_value::Bytes;
 use std::alloc::Global;
 
 /// Writes one output: records and texts come one after another, and their text is appended to a buffer as
-/// soon as it is known. It keeps the keys of the last record, and in PPRINT the records of the open block.
+/// soon as it is known. It keeps the keys of the last record, and in PPRINT the lines of the open block.
 pub struct Writer {
     alloc: Global,
     opts: WriteOpts,
@@ -145,7 +146,7 @@ impl Writer {
     {
         match self.opts.format {
             Format::Csv => append_row(
-                &CsvRows::of(&self.opts),
+                &CsvRows { opts: &self.opts },
                 &mut self.state,
                 &fields,
                 self.alloc,
@@ -179,14 +180,7 @@ impl Writer {
             Format::Dkvp => append_dkvp(&self.opts, &fields, &mut self.scratch, out),
             Format::Nidx => append_nidx(&self.opts, &fields, &mut self.scratch, out),
             Format::Xtab => append_xtab(&mut self.state, &fields, out),
-            Format::Pprint => append_pprint(
-                &self.opts,
-                &mut self.state,
-                fields,
-                self.alloc,
-                &mut self.scratch,
-                out,
-            ),
+            Format::Pprint => append_pprint(&self.opts, &mut self.state, &fields, self.alloc, out),
         }
     }
 

@@ -1,6 +1,7 @@
 use Rattle.std.proofs.Common.{ap, ◌∙◌, ◌++◌}
 use Rattle.std.proofs.lemmas.Result.{on_ok_weaker}
-use Rattle.writers.specs.Markdown.{bar_cell, between_bars}
+use Rattle.text_columns.specs.Pprint.{between_bars}
+use Rattle.writers.specs.Markdown.{bar_cell}
 use Rattle.writers.proofs.Texts.{row-cells}
 use Rattle.writers.proofs.markdown.append_cells.Goals as goal
 

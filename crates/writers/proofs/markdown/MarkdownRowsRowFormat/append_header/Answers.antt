@@ -2,7 +2,8 @@ use Rattle.std.proofs.Common.{ap, ◌∙◌, ◌++◌, append_assoc, map, codes}
 use Rattle.std.proofs.lemmas.Result.{on_ok_weaker}
 use Rattle.writers.specs.declared.form.Part.TheVariants.{Keys}
 use Rattle.writers.specs.Cells.{texts}
-use Rattle.writers.specs.Markdown.{between_bars, markdown_line}
+use Rattle.text_columns.specs.Pprint.{between_bars}
+use Rattle.writers.specs.Markdown.{markdown_line}
 use Rattle.writers.proofs.Texts.{dashes-cells}
 use Rattle.writers.proofs.markdown.MarkdownRowsRowFormat.append_header.Goals as goal
 
