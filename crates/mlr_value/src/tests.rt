@@ -1,4 +1,5 @@
 //! What texts, values and collections become, by tables.
+ghost use Rattle.std.specs.Prelude.{◌≤◌, length};
 
 mod operands;
 
@@ -358,19 +359,21 @@ const PAIRS: [Pair; 10] = [
 ];
 
 /// Whether the first bytes of a text are appended with the byte that follows them, and not where they contain a stop.
-fn is_line(alloc: Global, len: usize) -> Result<bool, NoMemory> {
-    let first = Bytes::copy_of_first(alloc, LONG, len)?;
-    let mut line = Bytes::copy_of(alloc, LONG)?;
+fn is_line(alloc: Global, text: &[u8], len: usize) -> Result<bool, NoMemory>
+    requires { len ≤ length text.now }
+{
+    let first = Bytes::copy_of_first(alloc, text, len)?;
+    let mut line = Bytes::copy_of(alloc, text)?;
     line.append_then(&first, Some(b';'))?;
     let plain = line.append_plain_then(&first, Some(b'.'), [b'0', b'\n', b'\n', b'\n'])?;
     let other = line.append_plain_then(&first, None, [b'\n'; 4])?;
-    let mut want = Bytes::copy_of(alloc, LONG)?;
-    want.append(&LONG[..len])?;
+    let mut want = Bytes::copy_of(alloc, text)?;
+    want.append(&text[..len])?;
     want.push(b';')?;
     if len == 0 {
         want.push(b'.')?;
     }
-    want.append(&LONG[..len])?;
+    want.append(&text[..len])?;
     Ok(other && plain == (len == 0) && line == want && first.is(&first))
 }
 
@@ -402,7 +405,7 @@ fn texts_are_compared_and_joined_at_each_length(rt: HostRuntime) -> Result<(), F
         assert_eq!(rt; text.as_slice(), LONG, "at {len}");
         pushed.push(*byte)?;
         assert_eq!(rt; pushed.as_slice(), &LONG[..len + 1], "at {len}");
-        assert!(rt; is_line(alloc, len)?, "at {len}");
+        assert!(rt; is_line(alloc, LONG, len)?, "at {len}");
     }
     let bytes = Bytes::copy_of(alloc, &[b'a', 195, 169])?;
     assert_eq!(rt;
