@@ -1,9 +1,10 @@
 -- Texts in a row, one more at a time.
-use Rattle.std.proofs.Common.{◌≡◌, ℕ, Bool, true, zero, suc, ◌+◌, ◌<◌, List, [], ◌∷◌, ◌++◌, if◌then◌else◌, length, take, drop, get_or, map, refl, ap, sym, ◌∙◌, append_assoc, arith}
+use Rattle.std.proofs.Common.{◌≡◌, ◌-◌, ◌==◌, inl, inr, ℕ, Bool, true, zero, suc, ◌+◌, ◌<◌, List, [], ◌∷◌, ◌++◌, if◌then◌else◌, length, take, drop, get_or, map, refl, ap, sym, ◌∙◌, append_assoc, arith}
 use Rattle.std.specs.Prelude.{nat_lt}
 use Rattle.std.proofs.lemmas.List.{append-nil, take_more, map-append}
 use Rattle.std.proofs.Math.Dec.{leb-suc-suc}
-use Rattle.std.proofs.lemmas.Bool.{le-ltb, lt-ltb, true≢false}
+use Rattle.std.proofs.lemmas.Bool.{eq-eqb, le-ltb, lt-ltb, ne_eqb, true≢false}
+use Rattle.std.proofs.lemmas.Bool.Decides.{leb_tells}
 use Rattle.mlr_spec.specs.Json.{joined}
 use Rattle.mlr_spec.specs.Tree.{Tree}
 use Rattle.mlr_record.specs.declared.record.Field.{Field}
@@ -94,3 +95,12 @@ joined-fields separator f fields n d below =
     both : (xs : List Field) → map f (pairs_of xs) ≡ map (λ x. f (pair_of x)) xs
     both [] = refl
     both (x ∷ xs) = ap (λ more. f (pair_of x) ∷ more) (both xs)
+
+-- a place is the last exactly where no more follow
+pub last-or-more : (place count s e : ℕ) → place < count → (if place == count - 1 then e else s) ≡ (if nat_lt (place + 1) count then s else e)
+last-or-more place count s e below = elim (leb_tells (place + 1 + 1) count) [
+  | inl more ↦ rw (ne_eqb place (count - 1) (λ same. omega (arith, more.1, same))) (sym (ap (λ t. if t then s else e) (lt-ltb (place + 1) count (omega (arith, more.1)))))
+  | inr none ↦
+      let same : place ≡ count - 1 = omega (arith, none.1, below) in
+      ap (λ t. if t then e else s) (eq-eqb place (count - 1) same) ∙ sym (ap (λ t. if t then s else e) (le-ltb (place + 1) count (omega (arith, none.1))))
+]

@@ -1,9 +1,8 @@
 //! CSV, after RFC 4180.
-ghost use Rattle.std.specs.Prelude.{◌≡◌, ◌++◌, ◌||◌, OnOk, ◌∷◌, [], is_some, true, if◌then◌else◌, ℕ, List};
+ghost use Rattle.std.specs.Prelude.{◌≡◌, ◌++◌, ◌||◌, OnOk, is_some};
 ghost use Rattle.std.specs.List.{list_any};
 ghost use Rattle.std.specs.Option.{option_to_list};
 ghost use Rattle.mlr_spec.specs.Split.{place_in};
-ghost use Rattle.mlr_value.specs.Stops.{has_stop};
 ghost use Rattle.writers.specs.Cells.{texts};
 ghost use Rattle.writers.specs.Csv.{csv_field, csv_line, quoted, unless_stop, wants_quotes};
 

@@ -89,19 +89,20 @@ pub(crate) fn append_marked_line<F: FieldText + Drop>(
     if fields.is_empty() {
         return out.push(b'\n');
     }
+    let last = fields.len() - 1;
     for (place, field) in fields.iter().enumerate() {
-        let next = byte_after(place + 1 < fields.len(), separator);
+        let next = byte_after(place == last, separator);
         form.append_field(field, Some(next), scratch, out)?;
     }
     Ok(())
 }
 
-/// The byte that follows a field: the separator where more fields follow, and else the line end.
+/// The byte that follows a field: a line end after the last one, and else the separator.
 #[inline(always)]
-fn byte_after(more: bool, separator: u8) -> u8
-    ensures { result ≡ (if more then separator else line_feed) }
+fn byte_after(is_last: bool, separator: u8) -> u8
+    ensures { result ≡ (if is_last then line_feed else separator) }
 {
-    if more { separator } else { b'\n' }
+    if is_last { b'\n' } else { separator }
 }
 
 /// Appends the byte, if there is one.

@@ -7,7 +7,7 @@ use Rattle.mlr_spec.specs.Tree.{Tree}
 use Rattle.mlr_record.specs.declared.record.Field.{Field}
 use Rattle.mlr_record.specs.Fields.{pair_of, pairs_of}
 use Rattle.writers.specs.Joined.{are_any}
-use Rattle.writers.proofs.Joined.{are_any-drop, are_any-map, are_any-some, marked, marked-line}
+use Rattle.writers.proofs.Joined.{are_any-drop, are_any-map, are_any-some, last-or-more, marked, marked-line}
 use Rattle.writers.proofs.fields.append_marked_line.Goals as goal
 
 pub loop-place-preserved : goal.loop-place-preserved
@@ -25,7 +25,10 @@ loop-place-preserved g c =
     let field_is : field ≡ get_or fields place field = search rules in
     let at : slice_get fields place ≡ Some field = slice_get_read fields (length fields) place field refl (omega (arith, c.loop-place-test.true, c.loop-place.auto.place-end)) field_is in
     let any : are_any (pairs_of rest) ≡ nat_lt (place + 1) (length fields) = are_any-map pair_of rest ∙ are_any-drop (place + 1) fields in
-    let next_is : next ≡ (if are_any (pairs_of rest) then s else 10) = c.byte_after-next.ensures ∙ ap (λ any. if any then s else 10) (sym any) in
+    let next_is : next ≡ (if are_any (pairs_of rest) then s else 10) =
+    c.byte_after-next.ensures
+    ∙ last-or-more place (length fields) s 10 (omega (arith, c.loop-place-test.true, c.loop-place.auto.place-end))
+    ∙ ap (λ any. if any then s else 10) (sym any) in
     ap (λ t. t ++ more) c.in_ok-append_field.ensures
     ∙ append_assoc (out ++ text) (next ∷ []) more
     ∙ append_assoc out text (next ∷ more)
