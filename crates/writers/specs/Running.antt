@@ -1,5 +1,6 @@
--- How a writer goes from one record or text to the next: what is written by what it knows of those before, and what it
--- knows after. What is written by it is what is written (Written.antt); no public clause says it by this module.
+-- How a writer goes from one record or text to the next: what it appends by what it knows of those before, and what it
+-- knows after. That this is what is written (Written.antt) is shown in proofs/Histories.antt; of the public clauses the
+-- relation Represents alone cites this module.
 use Rattle.std.specs.Prelude.{ℕ, Bool, true, false, ◌||◌, if◌then◌else◌, List, [], ◌∷◌, ◌++◌, codes}
 use Rattle.mlr_spec.specs.Ascii.{line_feed}
 use Rattle.mlr_spec.specs.Json.{json_record}
