@@ -1,16 +1,14 @@
 -- A chain of verbs, and one more verb.
-use Rattle.std.proofs.Common.{◌≡◌, ℕ, Bool, true, false, not, ◌&&◌, ◌||◌, List, [], ◌∷◌, ◌++◌, map, refl, ap, ap₂, sym, ◌∙◌, subst}
-use Rattle.std.specs.List.{list_all, list_any}
+use Rattle.std.proofs.Common.{◌≡◌, Bool, true, false, not, ◌&&◌, ◌||◌, List, [], ◌∷◌, ◌++◌, refl, ap, ap₂, ◌∙◌}
+use Rattle.std.specs.List.{list_any}
 use Rattle.std.specs.Prelude.{is_some}
-use Rattle.std.proofs.lemmas.List.{append-nil, map-append}
 use Rattle.std.proofs.lemmas.List.Folds.{list_all-append}
 use Rattle.mlr_event.specs.declared.event.Event.{Event}
 use Rattle.mlr_event.specs.Verb.{KeepsOrder, Verb, is_list}
 use Rattle.chain_core.specs.Chain.{chain_from, closing, stopped_from}
-use Rattle.chain_core.specs.declared.gate.Gate.{Gate}
 use Rattle.chain_core.specs.declared.stage.Stage.{Stage}
-use Rattle.chain_core.specs.Represents.{GateRepresents, StagesRepresent, all_quiet, made_at, verbs_of}
-use Rattle.chain_core.proofs.InOrder.{chain-append, made-at-list, quiet_after, represent-append, verbs-last}
+use Rattle.chain_core.specs.Represents.{StagesRepresent, all_quiet, made_at, verbs_of}
+use Rattle.chain_core.proofs.InOrder.{made-at-list, quiet_after}
 
 pub quiet-all : (quiet : Bool) (verbs : List Verb) → quiet_after quiet verbs ≡ (quiet && all_quiet verbs)
 quiet-all true [] = refl

@@ -6,7 +6,6 @@ use Rattle.std.specs.Option.{option_map}
 use Rattle.std.proofs.lemmas.Bool.{and_parts, cases_Bool, not-true}
 use Rattle.std.proofs.lemmas.List.{append-nil}
 use Rattle.std.proofs.lemmas.List.Folds.{list_any-append}
-use Rattle.mlr_event.specs.Adding.{Adds}
 use Rattle.mlr_event.specs.declared.event.Ctx.{Ctx}
 use Rattle.mlr_event.specs.declared.event.Event.{Event}
 use Rattle.mlr_event.specs.declared.event.Event.TheVariants as event
@@ -98,17 +97,6 @@ cut-now verb events e is open_is inner closed =
     let now : closes verb (events ++ e ∷ []) ≡ true = ap₂ (λ a b. a && b) (open-next events e open_is ∙ ap not inner) closed in
     let some : closing verb (events ++ e ∷ []) ≡ Some (events ++ e ∷ []) = closing-next verb events e is ∙ ap (λ b. cond b (Some (events ++ e ∷ [])) None) now in
     (ap is_some some, ap (λ o. ended o (events ++ e ∷ [])) some)
-
--- two additions make one
-pub adds-both : {A : Type 0} (old middle new before between after : List A) → Adds old middle before between → Adds middle new between after → Adds old new before after
-adds-both old middle new before between after first second = (
-  first.0 ++ second.0,
-  second.1 ∙ ap (λ t. t ++ second.0) first.1 ∙ append_assoc before first.0 second.0,
-  second.2 ∙ ap (λ t. t ++ second.0) first.2 ∙ append_assoc old first.0 second.0,
-)
-
-pub adds-none : {A : Type 0} (old before after : List A) → after ≡ before → Adds old old before after
-adds-none old before after same = ([], same ∙ sym (append-nil before), sym (append-nil old))
 
 some-injective : (x y : List Event) → Some x ≡ Some y → x ≡ y
 some-injective x y is = cc

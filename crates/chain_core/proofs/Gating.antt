@@ -1,5 +1,5 @@
 -- A verb at its place takes one more event.
-use Rattle.std.proofs.Common.{◌≡◌, Bool, true, false, not, ◌&&◌, List, [], ◌∷◌, ◌++◌, refl, ap, sym, ◌∙◌, subst}
+use Rattle.std.proofs.Common.{◌≡◌, Bool, true, false, not, ◌&&◌, List, [], ◌∷◌, ◌++◌, ap, sym, ◌∙◌, subst}
 use Rattle.std.proofs.lemmas.Bool.{and_parts, not-true}
 use Rattle.mlr_event.specs.Adding.{Adds}
 use Rattle.mlr_event.specs.declared.event.Ctx.{Ctx}
@@ -9,7 +9,8 @@ use Rattle.mlr_event.specs.Verb.{Verb, is_last, is_open, made}
 use Rattle.chain_core.specs.Chain.{context_or, cut, last_context, zero_context}
 use Rattle.chain_core.specs.declared.gate.Gate.{Gate}
 use Rattle.chain_core.specs.Represents.{GateRepresents, is_cut, made_at}
-use Rattle.chain_core.proofs.Cutting.{adds-both, adds-none, context-next, cut-again, cut-now, cut-open, cut-whole, open-next}
+use Rattle.mlr_event.proofs.Listed.{adds-both, adds-none}
+use Rattle.chain_core.proofs.Cutting.{context-next, cut-again, cut-now, cut-open, cut-whole, open-next}
 
 module _ {S : Type 0} (verb : S → Verb) (represents : S → List Event → Type 0) where
   -- a closed verb takes nothing

@@ -1,13 +1,12 @@
 -- Events pass through verbs, one verb after another.
-use Rattle.std.proofs.Common.{◌≡◌, ℕ, zero, suc, ◌+◌, ◌<◌, Bool, true, false, not, ◌&&◌, ◌||◌, List, [], ◌∷◌, ◌++◌, map, length, Option, Some, None, refl, ap, sym, ◌∙◌, subst, append_assoc, arith, slice_index_or, slice_set, inl, inr}
+use Rattle.std.proofs.Common.{◌≡◌, ℕ, suc, ◌+◌, ◌<◌, Bool, true, false, not, ◌&&◌, List, [], ◌∷◌, ◌++◌, length, Option, Some, None, refl, ap, sym, ◌∙◌, subst, append_assoc, arith, slice_index_or, slice_set}
 use Rattle.std.proofs.lemmas.List.{append-nil, length-append, map-append}
 use Rattle.std.proofs.Math.Seq.{get_or-append_seam, set-append_seam}
 use Rattle.mlr_event.specs.declared.event.Event.{Event}
 use Rattle.mlr_event.specs.declared.event.Event.TheVariants as event
-use Rattle.mlr_event.specs.Verb.{KeepsOrder, Verb, is_list, is_open, made}
+use Rattle.mlr_event.specs.Verb.{KeepsOrder, Verb, is_list}
 use Rattle.mlr_event.proofs.Ordered.{made-list, open-list}
 use Rattle.chain_core.specs.Chain.{chain_from, closing, cut, last_context, zero_context}
-use Rattle.chain_core.specs.declared.gate.Gate.{Gate}
 use Rattle.chain_core.specs.declared.stage.Stage.{Stage}
 use Rattle.chain_core.specs.Represents.{GateRepresents, IsSameGate, StagesRepresent, made_at, verbs_of}
 use Rattle.chain_core.proofs.Cutting.{closing-open}

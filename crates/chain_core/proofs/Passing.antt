@@ -3,12 +3,11 @@ use Rattle.std.proofs.Common.{◌≡◌, true, List, [], ◌∷◌, ◌++◌, re
 use Rattle.std.proofs.lemmas.List.{append-nil}
 use Rattle.mlr_event.specs.Adding.{Adds}
 use Rattle.mlr_event.specs.declared.event.Event.{Event}
-use Rattle.mlr_event.specs.Verb.{Verb, is_list, is_open, made}
+use Rattle.mlr_event.specs.Verb.{Verb, is_list, is_open}
 use Rattle.mlr_event.proofs.Ordered.{open-before}
-use Rattle.chain_core.specs.Chain.{cut}
 use Rattle.chain_core.specs.declared.gate.Gate.{Gate}
 use Rattle.chain_core.specs.Represents.{GateRepresents, IsSameGate, made_at}
-use Rattle.chain_core.proofs.Cutting.{adds-both, adds-none}
+use Rattle.mlr_event.proofs.Listed.{adds-both, adds-none}
 
 module _ {S : Type 0} (verb : S → Verb) (represents : S → List Event → Type 0) where
   abbrev pub MadeBy : Gate S → List Event → List Event

@@ -1,8 +1,9 @@
 -- A verb that gives each event as it is, at its place.
-use Rattle.std.proofs.Common.{◌≡◌, ℕ, zero, suc, ◌<◌, ◌-◌, Bool, true, false, ◌&&◌, List, [], ◌∷◌, ◌++◌, length, take, Option, Some, None, cond, refl, ap, sym, ◌∙◌, subst, arith}
+use Rattle.std.proofs.Common.{◌≡◌, ℕ, zero, suc, ◌<◌, Bool, true, false, ◌&&◌, List, [], ◌∷◌, ◌++◌, length, take, Some, None, cond, refl, ap, sym, ◌∙◌, subst, arith}
 use Rattle.std.specs.Prelude.{is_some, slice_get}
 use Rattle.std.specs.List.{find}
 use Rattle.std.proofs.lemmas.List.{append-nil}
+use Rattle.mlr_event.specs.Adding.{Adds}
 use Rattle.mlr_event.specs.declared.event.Ctx.{Ctx}
 use Rattle.mlr_event.specs.declared.event.Event.{Event}
 use Rattle.mlr_event.specs.Verb.{PassesAll, Verb, is_list, is_open, made}
@@ -24,7 +25,7 @@ never-closing verb never events = none-found (prefixes events)
     none-found [] = refl
     none-found (x ∷ xs) = ap (λ b. cond b (Some x) (find (λ prefix. is_open prefix && verb.closed prefix) xs)) (ap (λ b. is_open x && b) (never x) ∙ and-false (is_open x)) ∙ none-found xs
 
-never-cut : (quiet : Bool) (verb : Verb) → ((events : List Event) → verb.closed events ≡ false) → (events : List Event) → is_cut quiet verb events ≡ false
+pub never-cut : (quiet : Bool) (verb : Verb) → ((events : List Event) → verb.closed events ≡ false) → (events : List Event) → is_cut quiet verb events ≡ false
 never-cut false verb never events = refl
 never-cut true verb never events = ap is_some (never-closing verb never events)
 
@@ -75,3 +76,26 @@ module _ {S : Type 0} (verb : S → Verb) (represents : S → List Event → Typ
 
   pub pass-made : (given events : List Event) → is_list (given ++ events) ≡ true → made_at gate.quiet (verb gate.verb) (given ++ events) ≡ made_at gate.quiet (verb gate.verb) given ++ events
   pass-made given events list = at-place (given ++ events) list ∙ ap (λ t. t ++ events) (sym (at-place given (list-before given events list)))
+
+-- a verb that no event closes takes a list at once
+module _ {S : Type 0} (verb : S → Verb) (represents : S → List Event → Type 0) (gate : Gate S) (never : (given : List Event) → is_cut gate.quiet (verb gate.verb) given ≡ false) where
+  all-given : (events : List Event) → cut gate.quiet (verb gate.verb) events ≡ events
+  all-given events = cut-whole gate.quiet (verb gate.verb) events (never events)
+
+  pub whole-inner : (given : List Event) → GateRepresents verb represents given gate → represents gate.verb given
+  whole-inner given holds = subst (represents gate.verb) (all-given given) holds.inner
+
+  pub whole-represents : (given events : List Event) (after : S) (ctx : Ctx) → GateRepresents verb represents given gate → verb after ≡ verb gate.verb → represents after (given ++ events) → ctx ≡ last_context gate.at events
+      → GateRepresents verb represents (given ++ events) (record { verb = after; quiet = gate.quiet; at = ctx; shut = gate.shut })
+  whole-represents given events after ctx holds same inner here =
+      let open_is : gate.shut ≡ false = holds.shut ∙ never given in
+      record {
+        shut = open_is ∙ sym (never (given ++ events)) ∙ ap (λ v. is_cut gate.quiet v (given ++ events)) (sym same);
+        inner = subst (represents after) (sym (ap (λ v. cut gate.quiet v (given ++ events)) same ∙ all-given (given ++ events))) inner;
+        at = λ still. here ∙ ap (λ c. last_context c events) (holds.at open_is) ∙ sym (contexts zero_context given events);
+      }
+
+  pub whole-adds : (given events old new : List Event) → Adds old new (made (verb gate.verb) given) (made (verb gate.verb) (given ++ events))
+      → Adds old new (made_at gate.quiet (verb gate.verb) given) (made_at gate.quiet (verb gate.verb) (given ++ events))
+  whole-adds given events old new adds =
+      (adds.0, ap (made (verb gate.verb)) (all-given (given ++ events)) ∙ adds.1 ∙ ap (λ t. made (verb gate.verb) t ++ adds.0) (sym (all-given given)), adds.2)

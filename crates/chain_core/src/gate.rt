@@ -1,12 +1,12 @@
 //! A verb at its place in a chain, which gets its end early if it is closed.
-ghost use Rattle.std.specs.Prelude.{◌≡◌, ◌++◌, ◌∷◌, ◌&&◌, [], List, true, not, IfOk, IsTrue, OnOk};
+ghost use Rattle.std.specs.Prelude.{◌≡◌, ◌++◌, ◌∷◌, ◌&&◌, [], List, true, false, not, IfOk, IsTrue, OnOk};
 ghost use Rattle.std.specs.Option.{unwrap_or};
 ghost use Rattle.mlr_event.specs.Adding.{Adds};
 ghost use Rattle.mlr_event.specs.declared.event.Ctx.{Ctx as SpecCtx};
 ghost use Rattle.mlr_event.specs.declared.event.Event.{Event as SpecEvent};
 ghost use Rattle.mlr_event.specs.Verb.{PassesAll, is_last, is_list, is_open};
 ghost use Rattle.chain_core.specs.Chain.{context_or, last_context};
-ghost use Rattle.chain_core.specs.Represents.{GateRepresents, IsSameGate, made_at};
+ghost use Rattle.chain_core.specs.Represents.{GateRepresents, IsSameGate, is_cut, made_at};
 
 use mlr_event::{Ctx, Event, Events, Step};
 use mlr_spec::NoMemory;
@@ -126,10 +126,64 @@ impl<S: Step + Drop> Gate<S> {
             → Adds out.old out.new (made_at self.old.quiet (S.verb self.old.verb) given)
             (made_at self.old.quiet (S.verb self.old.verb) (given ++ events.old))) }
     {
+        if self.never_shuts() {
+            self.take_whole(events, out)
+        } else {
+            self.take_each(events, out)
+        }
+    }
+
+    /// The same, where no event closes the verb: it takes the list at once.
+    fn take_whole(&mut self, events: &mut Events, out: &mut Events) -> Result<(), NoMemory>
+        requires never { (given : List SpecEvent)
+            → is_cut self.old.quiet (S.verb self.old.verb) given ≡ false }
+        requires list { (given : List SpecEvent) × GateRepresents S.verb S.represents given self.old
+            × (is_list (given ++ events.old) ≡ true) }
+        ensures left { OnOk result (events.new ≡ []) }
+        ensures same { OnOk result (IsSameGate S.verb self.new self.old) }
+        ensures represents { OnOk result ((given : List SpecEvent)
+            → GateRepresents S.verb S.represents given self.old
+            → is_list (given ++ events.old) ≡ true
+            → GateRepresents S.verb S.represents (given ++ events.old) self.new) }
+        ensures adds { OnOk result ((given : List SpecEvent)
+            → GateRepresents S.verb S.represents given self.old
+            → is_list (given ++ events.old) ≡ true
+            → Adds out.old out.new (made_at self.old.quiet (S.verb self.old.verb) given)
+            (made_at self.old.quiet (S.verb self.old.verb) (given ++ events.old))) }
+    {
+        self.at = last_context(self.at, events);
+        self.verb.step_all(events, out)?;
+        Ok(())
+    }
+
+    /// The same, where an event may close the verb.
+    fn take_each(&mut self, events: &mut Events, out: &mut Events) -> Result<(), NoMemory>
+        requires { (given : List SpecEvent) × GateRepresents S.verb S.represents given self.old
+            × (is_list (given ++ events.old) ≡ true) }
+        ensures left { OnOk result (events.new ≡ []) }
+        ensures same { OnOk result (IsSameGate S.verb self.new self.old) }
+        ensures represents { OnOk result ((given : List SpecEvent)
+            → GateRepresents S.verb S.represents given self.old
+            → is_list (given ++ events.old) ≡ true
+            → GateRepresents S.verb S.represents (given ++ events.old) self.new) }
+        ensures adds { OnOk result ((given : List SpecEvent)
+            → GateRepresents S.verb S.represents given self.old
+            → is_list (given ++ events.old) ≡ true
+            → Adds out.old out.new (made_at self.old.quiet (S.verb self.old.verb) given)
+            (made_at self.old.quiet (S.verb self.old.verb) (given ++ events.old))) }
+    {
         while let Some(event) = events.pop_first() {
             self.take(event, out)?;
         }
         Ok(())
+    }
+
+    /// Whether no list of events closes the verb at its place, as far as it knows.
+    fn never_shuts(&self) -> bool
+        ensures { IsTrue result → (given : List SpecEvent)
+            → is_cut self.now.quiet (S.verb self.now.verb) given ≡ false }
+    {
+        !self.quiet || self.verb.never_closes()
     }
 
     /// Whether the last event closed the verb, at a quiet place and before the list ends.

@@ -4,5 +4,6 @@ pub mod Streams
 pub mod Naming
 pub mod Making
 pub mod Ordered
+pub mod Listed
 mod Tac
 pub mod Crosses

@@ -98,6 +98,10 @@ abbrev pub StaysClosed : Verb → Type 0
 StaysClosed verb = (before following : List Event) → verb.closed before ≡ true →
     ((fields : List (List ℕ × Tree)) (ctx : Ctx) → verb.now (before ++ following) fields ctx ≡ []) × ((ctx : Ctx) → verb.late (before ++ following) ctx ≡ [])
 
+-- no list closes the verb
+abbrev pub NeverCloses : Verb → Type 0
+NeverCloses verb = (events : List Event) → verb.closed events ≡ false
+
 -- A verb gives each event as it is and is never closed, so it needn't be given the events that follow.
 pub record PassesAll (verb : Verb) (represents : List Event → Type 0) : Type 0 where
   pub same : (events : List Event) → is_list events ≡ true → made verb events ≡ events

@@ -77,6 +77,15 @@ impl Events {
         self.events.pop_front()
     }
 
+    /// Takes the last event out, if there is one. It doesn't allocate.
+    #[inline]
+    pub fn pop_last(&mut self) -> Option<Event>
+        ensures events { self.old ≡ self.new ++ option_to_list result }
+        ensures none { result ≡ None → self.new ≡ [] }
+    {
+        self.events.pop_back()
+    }
+
     /// Appends all events of another list, and leaves it empty.
     pub fn append(&mut self, other: &mut Events) -> Result<(), NoMemory>
         ensures events { self.new ≡ (if is_ok result then self.old ++ other.old else self.old) }

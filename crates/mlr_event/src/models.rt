@@ -51,6 +51,10 @@ impl Step for Cat {
         Ok(())
     }
 
+    fn never_closes(&self) -> bool {
+        true
+    }
+
     fn closed(&self) -> bool {
         false
     }
@@ -111,6 +115,10 @@ impl Step for Tac {
             return Err(error);
         }
         Ok(())
+    }
+
+    fn never_closes(&self) -> bool {
+        true
     }
 
     fn closed(&self) -> bool {

@@ -2,7 +2,7 @@
 ghost use Rattle.std.specs.Prelude.{◌≡◌, ◌↔◌, ◌++◌, ◌∷◌, [], List, true, IsTrue, OnOk, OnErr};
 ghost use Rattle.mlr_event.specs.declared.event.Event.{Event as SpecEvent};
 ghost use Rattle.mlr_event.specs.Adding.{Adds};
-ghost use Rattle.mlr_event.specs.Verb.{IsQuiet, KeepsOrder, PassesAll, StaysClosed, Verb, is_open, made};
+ghost use Rattle.mlr_event.specs.Verb.{IsQuiet, KeepsOrder, NeverCloses, PassesAll, StaysClosed, Verb, is_list, is_open, made};
 
 use crate::{Event, Events};
 use mlr_spec::NoMemory;
@@ -30,6 +30,34 @@ pub trait Step {
             → Adds out.old out.new (made (verb self.old) given)
             (made (verb self.old) (given ++ event ∷ []))) }
         ensures err { OnErr result (broken self.new) };
+
+    /// Takes all events of a list in turn, and leaves the list empty. A verb that can prepare work for many records at
+    /// once, such as a search for a pattern, prepares it once a list here, and once a record in `step`.
+    fn step_all(&mut self, events: &mut Events, out: &mut Events) -> Result<(), NoMemory>
+        requires { (given : List SpecEvent) × represents self.old given
+            × (is_list (given ++ events.old) ≡ true) }
+        ensures verb { OnOk result (verb self.new ≡ verb self.old) }
+        ensures empty { OnOk result (events.new ≡ []) }
+        ensures represents { OnOk result ((given : List SpecEvent) → represents self.old given
+            → is_list (given ++ events.old) ≡ true → represents self.new (given ++ events.old)) }
+        ensures adds { OnOk result ((given : List SpecEvent) → represents self.old given
+            → is_list (given ++ events.old) ≡ true
+            → Adds out.old out.new (made (verb self.old) given)
+            (made (verb self.old) (given ++ events.old))) }
+        ensures err { OnErr result (broken self.new) }
+    {
+        while let Some(event) = events.pop_first() {
+            self.step(event, out)?;
+        }
+        Ok(())
+    }
+
+    /// Whether no list closes it, as far as it knows. It takes no memory.
+    fn never_closes(&self) -> bool
+        ensures { IsTrue result → NeverCloses (verb self.now) }
+    {
+        false
+    }
 
     /// Whether more records give nothing. It takes no memory.
     fn closed(&self) -> bool

@@ -5,9 +5,8 @@ use Rattle.mlr_event.specs.declared.names.InputName.{InputName}
 use Rattle.read_files.specs.Represents.{can_read}
 use Rattle.serial_core.specs.Command.{Command, Origin, files, numbers}
 use Rattle.verbs_seq.specs.Seq.{IsSoundSeq}
-use Rattle.verbs_state.specs.Streaming.{verb_of}
-use Rattle.verbs_stream.specs.Copies as stream_copies
-use Rattle.verbs_stream.specs.Each as stream
+use Rattle.verbs_base.specs.Records.{verb_of}
+use Rattle.verbs_stream.specs.Meaning as stream
 use Rattle.writers.specs.declared.options.WriteOpts.{WriteOpts}
 use Rattle.mlr_plan.specs.declared.plan.Plan.{Plan}
 use Rattle.mlr_plan.specs.declared.verb_spec.VerbSpec.{VerbSpec}
@@ -31,7 +30,7 @@ AreSound (Seq seq ∷ specs) = IsSoundSeq seq × AreVerbs specs
 -- the verbs, without a source
 abbrev pub verbs_of : List VerbSpec → List Verb
 verbs_of [] = []
-verbs_of (Stream spec ∷ specs) = verb_of (stream.streaming_of spec) ∷ verbs_of specs
+verbs_of (Stream spec ∷ specs) = verb_of (stream.meaning_of spec) ∷ verbs_of specs
 verbs_of (Seq seq ∷ specs) = verbs_of specs
 
 -- where the events come from: a source, or else this origin
@@ -61,14 +60,14 @@ pub record IsSound (plan : Plan) : Type 0 where
 
 -- a copy of a verb: the same verb, sound where its source is
 abbrev pub AreSame : VerbSpec → VerbSpec → Type 0
-AreSame (Stream spec) (Stream copy) = (stream.streaming_of copy ≡ stream.streaming_of spec) × (stream.IsSound spec → stream.IsSound copy)
+AreSame (Stream spec) (Stream copy) = (stream.meaning_of copy ≡ stream.meaning_of spec) × (stream.IsSound spec → stream.IsSound copy)
 AreSame (Stream spec) (Seq copy) = ⊥
 AreSame (Seq seq) (Stream copy) = ⊥
 AreSame (Seq seq) (Seq copy) = copy ≡ seq
 
 -- a verb whose options have no list, no pattern and no text of more than 16 bytes
 abbrev pub IsShort : VerbSpec → Type 0
-IsShort (Stream spec) = stream_copies.IsShort spec
+IsShort (Stream spec) = stream.IsShort spec
 IsShort (Seq seq) = length seq.field ≤ 16
 
 abbrev pub AreSameVerbs : List VerbSpec → List VerbSpec → Type 0

@@ -2,7 +2,7 @@
 ghost use Rattle.std.specs.Prelude.{◌≡◌, [], true, IfOk, OnOk};
 ghost use Rattle.mlr_event.specs.Verb.{is_list};
 ghost use Rattle.read_files.specs.Represents.{can_read};
-ghost use Rattle.verbs_stream.specs.Each.{IsSound as IsSoundSpec};
+ghost use Rattle.verbs_stream.specs.Meaning.{IsSound as IsSoundSpec};
 ghost use Rattle.mlr_plan.specs.Plans.{AreSound, IsSound};
 
 use crate::{Plan, VerbSpec, chain_of, run_serial};
@@ -14,8 +14,7 @@ use mlr_world::{Inputs, MemInputs, MemOutputs, Opened};
 use serial_core::Ended;
 use std::alloc::Global;
 use verbs_seq::SeqSpec;
-use verbs_stream::{Cat, FillDown, Head, Spec};
-use verbs_values::Sec2Gmt;
+use verbs_stream::{Cat, FillDown, Head, Sec2Gmt, Spec};
 use writers::WriteOpts;
 
 /// DKVP, as it is read.

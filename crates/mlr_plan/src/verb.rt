@@ -77,7 +77,20 @@ impl Step for Verb {
 
     fn step(&mut self, event: Event, out: &mut Events) -> Result<(), NoMemory> {
         match self {
-            Verb::Stream(verb) => verb.step(event, out),
+            Verb::Stream(verb) => verb.step(event, out)?,
+        }
+        Ok(())
+    }
+
+    fn step_all(&mut self, events: &mut Events, out: &mut Events) -> Result<(), NoMemory> {
+        match self {
+            Verb::Stream(verb) => verb.step_all(events, out),
+        }
+    }
+
+    fn never_closes(&self) -> bool {
+        match self {
+            Verb::Stream(verb) => verb.never_closes(),
         }
     }
 

@@ -1,7 +1,5 @@
 -- One field after another is changed, if it is taken.
-use Rattle.std.proofs.Common.{◌≡◌, ℕ, zero, suc, ◌+◌, ◌<◌, Bool, true, false, cond, List, [], ◌∷◌, ◌++◌, map, length, take, drop, set, get_or, Some, None, slice_get, refl, ap, ap₂, sym, ◌∙◌, arith, add-one}
-use Rattle.std.specs.List.{list_any}
-use Rattle.std.proofs.lemmas.Bool.{or_from, or_parts}
+use Rattle.std.proofs.Common.{◌≡◌, ℕ, zero, suc, ◌+◌, ◌<◌, Bool, true, false, cond, List, [], ◌∷◌, ◌++◌, map, length, take, drop, set, get_or, Some, None, slice_get, refl, ap, sym, ◌∙◌, arith, add-one}
 use Rattle.std.proofs.lemmas.List.{set-get_or, get_or-set_same}
 use Rattle.mlr_spec.specs.Tree.{Tree}
 use Rattle.verbs_base.specs.Changing.{changed_field, changed}
@@ -53,38 +51,3 @@ changed-more takes change before after i d below put =
     ap (λ xs. take (i + 1) xs ++ changed takes change (drop (i + 1) xs)) put
     ∙ ap (λ n. take n (set before i (changed_field takes change (get_or before i d))) ++ changed takes change (drop n (set before i (changed_field takes change (get_or before i d))))) (add-one i)
     ∙ done-more (changed_field takes change) before i d below
-
--- nothing is changed before the first field that is taken
-pub none-before : (takes : List ℕ → Bool) (change : Tree → Tree) (pairs : List (List ℕ × Tree)) (first : ℕ) → list_any (λ pair. takes pair.0) (take first pairs) ≡ false
-    → take first pairs ++ changed takes change (drop first pairs) ≡ changed takes change pairs
-none-before takes change pairs zero none = refl
-none-before takes change [] (suc first) none = refl
-none-before takes change (pair ∷ pairs) (suc first) none =
-    let parts = or_parts (takes pair.0) (list_any (λ pair. takes pair.0) (take first pairs)) none in
-    ap₂ (λ value more. (pair.0, value) ∷ more) (ap (λ t. cond t (change pair.1) pair.1) (sym parts.0)) (none-before takes change pairs first parts.1)
-
--- nothing is changed where none is taken
-pub none-at-all : (takes : List ℕ → Bool) (change : Tree → Tree) (pairs : List (List ℕ × Tree)) (first : ℕ) → first ≡ length pairs
-    → list_any (λ pair. takes pair.0) (take first pairs) ≡ false → pairs ≡ changed takes change pairs
-none-at-all takes change pairs first all none =
-    sym (ap (λ n. take n pairs ++ changed takes change (drop n pairs)) all ∙ whole pairs) ∙ none-before takes change pairs first none
-  where
-    whole : (pairs : List (List ℕ × Tree)) → take (length pairs) pairs ++ changed takes change (drop (length pairs) pairs) ≡ pairs
-    whole [] = refl
-    whole (pair ∷ pairs) = ap (λ more. pair ∷ more) (whole pairs)
-
--- one more field that isn't taken
-none-further : (takes : List ℕ → Bool) (pairs : List (List ℕ × Tree)) (i : ℕ) (pair : List ℕ × Tree) → slice_get pairs i ≡ Some pair → takes pair.0 ≡ false
-    → list_any (λ pair. takes pair.0) (take i pairs) ≡ false → list_any (λ pair. takes pair.0) (take (suc i) pairs) ≡ false
-none-further takes [] i pair at not_taken none = refl
-none-further takes (p ∷ pairs) zero pair at not_taken none =
-    let same : p ≡ pair = cc in
-    or_from (takes p.0) _ (ap (λ (p : List ℕ × Tree). takes p.0) same ∙ not_taken) refl
-none-further takes (p ∷ pairs) (suc i) pair at not_taken none =
-    let parts = or_parts (takes p.0) _ none in
-    or_from (takes p.0) _ parts.0 (none-further takes pairs i pair at not_taken parts.1)
-
-pub none-more : (takes : List ℕ → Bool) (pairs : List (List ℕ × Tree)) (i : ℕ) (pair : List ℕ × Tree) → slice_get pairs i ≡ Some pair → takes pair.0 ≡ false
-    → list_any (λ pair. takes pair.0) (take i pairs) ≡ false → list_any (λ pair. takes pair.0) (take (i + 1) pairs) ≡ false
-none-more takes pairs i pair at not_taken none =
-    ap (λ n. list_any (λ pair. takes pair.0) (take n pairs)) (add-one i) ∙ none-further takes pairs i pair at not_taken none

@@ -1,1 +1,5 @@
 pub mod Changing
+pub mod Passing
+pub mod Filters
+pub mod Picking
+pub mod Places

@@ -1,1 +1,5 @@
+pub mod Choosing
 pub mod Changing
+pub mod Records
+pub mod Laws
+pub mod OverEvents

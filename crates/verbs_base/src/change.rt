@@ -1,13 +1,13 @@
 //! Values of a record changed in their places, for the verbs that change them.
-ghost use Rattle.std.specs.Prelude.{◌≡◌, ◌<◌, ◌≤◌, ℕ, Bool, false, List, length, set, take, slice_index_or, IfOk, OnOk};
-ghost use Rattle.std.specs.List.{list_any};
+ghost use Rattle.std.specs.Prelude.{◌≡◌, ◌<◌, ℕ, Bool, List, length, set, slice_index_or, IfOk, OnOk};
 ghost use Rattle.mlr_spec.specs.Tree.{Tree};
 ghost use Rattle.mlr_value.specs.Value.{tree_of};
 ghost use Rattle.verbs_base.specs.Changing.{changed, changed_field};
 
+use crate::field_choice::name_at;
 use mlr_record::Record;
 use mlr_spec::NoMemory;
-use mlr_value::Value;
+use mlr_value::{Bytes, Value};
 use std::alloc::Global;
 
 /// A verb that changes values in their places: each value that it takes, by a function of the value. What it keeps from
@@ -19,7 +19,7 @@ pub trait Change {
     /// What a value of such a field becomes.
     ghost image: { Self → Tree → Tree };
 
-    fn takes(&self, name: &[u8]) -> bool
+    fn takes(&self, name: &Bytes) -> bool
         ensures { result ≡ takes self.now name.now };
 
     fn image(&mut self, alloc: Global, value: Value) -> Result<Value, NoMemory>
@@ -36,26 +36,27 @@ pub fn change_record<C: Change + Drop>(
 ) -> Result<Record, NoMemory>
     ensures { IfOk result (λ made. made ≡ changed (C.takes change) (C.image change) from) }
 {
-    change_from(change, alloc, 0, from)
-}
-
-/// The same, where the caller knows that no field before this place is taken.
-pub fn change_from<C: Change + Drop>(
-    change: C,
-    alloc: Global,
-    first: usize,
-    from: Record,
-) -> Result<Record, NoMemory>
-    requires within { first ≤ length from }
-    requires none_before { list_any (λ pair. C.takes change pair.0) (take first from) ≡ false }
-    ensures { IfOk result (λ made. made ≡ changed (C.takes change) (C.image change) from) }
-{
     let mut change = change;
     let mut record = from;
-    for place in first..record.len() {
-        change_field(&mut change, alloc, &mut record, place)?;
-    }
+    change_fields(&mut change, alloc, &mut record)?;
     Ok(record)
+}
+
+/// Changes the values that the verb takes, in their places.
+pub fn change_fields<C: Change>(
+    change: &mut C,
+    alloc: Global,
+    fields: &mut Record,
+) -> Result<(), NoMemory>
+    ensures changed { OnOk result (fields.new
+        ≡ changed (C.takes change.old) (C.image change.old) fields.old) }
+    ensures takes { C.takes change.new ≡ C.takes change.old }
+    ensures image { C.image change.new ≡ C.image change.old }
+{
+    for place in 0..fields.len() {
+        change_field(change, alloc, fields, place)?;
+    }
+    Ok(())
 }
 
 /// Changes the value at a place if the verb takes its field.
@@ -73,7 +74,7 @@ fn change_field<C: Change>(
     ensures takes { C.takes change.new ≡ C.takes change.old }
     ensures image { C.image change.new ≡ C.image change.old }
 {
-    if change.takes(fields.entry(place).0) {
+    if change.takes(name_at(fields, place)) {
         let value = fields.replace(place, Value::Absent);
         let made = change.image(alloc, value)?;
         fields.replace(place, made);

@@ -1,10 +1,15 @@
-//! A verb that marks the fields of its names, on records.
-use crate::{Change, change_from, change_record, first_taken, is_taken, string_of};
-use mlr_event::Names;
+//! A verb that marks the fields of its names, on records, and a verb that holds all records back, on events.
+ghost use Rattle.std.specs.Prelude.{◌≡◌, ◌++◌, [], true, OnOk};
+ghost use Rattle.mlr_event.specs.Verb.{is_list, is_open};
+ghost use Rattle.verbs_base.specs.Records.{events_of};
+
+use crate::{Change, OverEvents, Stateful, change_record, is_taken, string_of};
+use mlr_event::{Ctx, Event, Events, Names, Step};
 use mlr_record::Record;
 use mlr_spec::NoMemory;
 use mlr_value::{Bytes, Value};
 use std::alloc::Global;
+use std::mem::replace;
 
 /// Makes `true` of each value that it takes.
 #[derive(Drop)]
@@ -22,7 +27,7 @@ impl Change for Marks<'_> {
 
     ghost image = { λ verb value. boolean true };
 
-    fn takes(&self, name: &[u8]) -> bool {
+    fn takes(&self, name: &Bytes) -> bool {
         is_taken(self.names, name)
     }
 
@@ -66,23 +71,18 @@ fn shown(alloc: Global, made: &Record) -> Result<Bytes, NoMemory> {
 #[test]
 fn fields_that_are_taken(rt: HostRuntime) -> Result<(), NoMemory> {
     let alloc = rt.alloc();
-    let table: [(Option<Names>, usize, &[u8]); 5] = [
-        (None, 0, b"a+b+c+"),
-        (Some(names(alloc, &[])?), 3, b"a-b-c-"),
-        (Some(names(alloc, &[b"z", b"b"])?), 1, b"a-b+c-"),
-        (Some(names(alloc, &[b"c", b"b"])?), 1, b"a-b+c+"),
-        (Some(names(alloc, &[b"c", b""])?), 2, b"a-b-c+"),
+    let table: [(Option<Names>, &[u8]); 5] = [
+        (None, b"a+b+c+"),
+        (Some(names(alloc, &[])?), b"a-b-c-"),
+        (Some(names(alloc, &[b"z", b"b"])?), b"a-b+c-"),
+        (Some(names(alloc, &[b"c", b"b"])?), b"a-b+c+"),
+        (Some(names(alloc, &[b"c", b""])?), b"a-b-c+"),
     ];
     for (i, row) in table.iter().enumerate() {
         let names = row.0.as_ref();
         let keys: [&[u8]; 3] = [b"a", b"b", b"c"];
         let made = change_record(Marks { names }, alloc, unmarked(alloc, &keys)?)?;
-        assert_eq!(rt; shown(alloc, &made)?.as_slice(), row.2, "at {i}");
-        let from = unmarked(alloc, &keys)?;
-        let first = first_taken(names, &from);
-        assert_eq!(rt; first, row.1, "at {i}");
-        let made = change_from(Marks { names }, alloc, first, from)?;
-        assert_eq!(rt; shown(alloc, &made)?.as_slice(), row.2, "at {i}");
+        assert_eq!(rt; shown(alloc, &made)?.as_slice(), row.1, "at {i}");
     }
     Ok(())
 }
@@ -96,5 +96,105 @@ fn texts_as_values(rt: HostRuntime) -> Result<(), NoMemory> {
         return Ok(());
     };
     assert_eq!(rt; text.as_slice(), b"5".as_slice());
+    Ok(())
+}
+
+/// Holds all records back, and gives them at the end in their order.
+#[derive(Drop)]
+struct HeldBack {
+    alloc: Global,
+    held: Vec<(Record, Ctx)>,
+}
+
+impl Stateful for HeldBack {
+    ghost use Rattle.std.specs.Prelude.{◌≡◌, [], false};
+    ghost use Rattle.verbs_base.specs.Laws.{never-shuts};
+
+    ghost meaning = { λ s. record {
+      gives = λ before fields. [];
+      late = λ before ctx. before;
+      closed = λ before. false;
+    } };
+
+    ghost represents = { λ s before. s.held.items ≡ before };
+
+    ghost shuts = { λ s. never-shuts (λ before fields. []) (λ before ctx. before) };
+
+    fn take(&mut self, fields: Record, ctx: Ctx, _: &mut Events) -> Result<(), NoMemory> {
+        self.held.push((fields, ctx))?;
+        Ok(())
+    }
+
+    fn finish(&mut self, _: Ctx, out: &mut Events) -> Result<(), NoMemory> {
+        push_all(replace(&mut self.held, Vec::new(self.alloc)), out)
+    }
+
+    fn is_shut(&self) -> bool {
+        false
+    }
+
+    fn never_shuts(&self) -> bool {
+        true
+    }
+}
+
+fn push_all(held: Vec<(Record, Ctx)>, out: &mut Events) -> Result<(), NoMemory>
+    ensures { OnOk result (out.new ≡ out.old ++ events_of held.items) }
+{
+    for (fields, ctx) in held {
+        out.push(Event::Rec(fields, ctx))?;
+    }
+    Ok(())
+}
+
+/// A letter for each event: the name of a record's first field and its number, `t` for a text, `.` for the end.
+fn letters(alloc: Global, out: &Events) -> Result<Bytes, NoMemory> {
+    let mut text = Bytes::new(alloc);
+    for place in 0..out.len() {
+        match out.at(place) {
+            Some(Event::Rec(fields, ctx)) if fields.len() > 0 => {
+                text.append(fields.entry(0).0)?;
+                text.push(if ctx.nr == 1 { b'1' } else { b'2' })?;
+            }
+            Some(Event::Text(_)) => text.push(b't')?,
+            Some(Event::End(_)) => text.push(b'.')?,
+            _ => text.push(b'?')?,
+        }
+    }
+    Ok(text)
+}
+
+/// What a verb makes of events, and of the end after them.
+fn made_of<S: Step + Drop>(alloc: Global, verb: S, events: &mut Events) -> Result<Events, NoMemory>
+    requires verb { S.represents verb [] }
+    requires list { is_list events.old ≡ true }
+    requires open { is_open events.old ≡ true }
+{
+    let mut verb = verb;
+    let mut out = Events::new(alloc);
+    verb.step_all(events, &mut out)?;
+    verb.step(Event::End(at(3)), &mut out)?;
+    Ok(out)
+}
+
+fn at(nr: u64) -> Ctx {
+    Ctx {
+        nr,
+        fnr: nr,
+        filenum: 1,
+    }
+}
+
+#[test]
+fn records_that_are_held_back(rt: HostRuntime) -> Result<(), NoMemory> {
+    let alloc = rt.alloc();
+    let mut events = Events::new(alloc);
+    events.push(Event::Rec(unmarked(alloc, &[b"a"])?, at(1)))?;
+    events.push(Event::Text(Bytes::copy_of(alloc, b"# text")?))?;
+    events.push(Event::Rec(unmarked(alloc, &[b"b"])?, at(2)))?;
+    let held = Vec::new(alloc);
+    let verb = OverEvents::new(HeldBack { alloc, held });
+    let out = made_of(alloc, verb, &mut events)?;
+    assert_eq!(rt; letters(alloc, &out)?.as_slice(), b"ta1b2.".as_slice());
     Ok(())
 }

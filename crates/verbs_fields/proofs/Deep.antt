@@ -3,7 +3,7 @@ use Rattle.std.proofs.Common.{◌≡◌, ℕ, ◌+◌, true, List, [], ◌∷◌
 use Rattle.mlr_spec.specs.Tree.{Tree, fields_of, trees_of}
 use Rattle.mlr_spec.specs.Pairs.{keys_of, are_distinct}
 use Rattle.mlr_spec.proofs.Flattening.{drop-more}
-use Rattle.verbs_fields.specs.Sorting.{deep_sorted, deep_pairs, deep_items}
+use Rattle.verbs_fields.specs.SortWithinRecords.{deep_sorted, deep_pairs, deep_items}
 
 deep_pairs-keys : (pairs : List (List ℕ × Tree)) → keys_of (deep_pairs (fields_of pairs)) ≡ keys_of pairs
 deep_pairs-keys [] = refl

@@ -7,10 +7,14 @@ use Rattle.std.proofs.lemmas.List.{map-append}
 use Rattle.mlr_spec.specs.Tree.{Tree}
 use Rattle.mlr_spec.specs.Pairs.{keys_of, are_distinct}
 use Rattle.mlr_event.specs.Reading.{is_among}
-use Rattle.verbs_fields.specs.Choosing.{dropped}
-use Rattle.verbs_fields.specs.Naming.{labelled, values_of}
-use Rattle.verbs_fields.proofs.Filters.{are_distinct-filter}
-use Rattle.verbs_fields.proofs.Picking.{are_distinct-append, dropped-named}
+use Rattle.verbs_base.specs.Choosing.{dropped}
+use Rattle.verbs_fields.specs.Values.{values_of}
+use Rattle.verbs_base.proofs.Filters.{are_distinct-filter}
+use Rattle.verbs_base.proofs.Picking.{are_distinct-append, dropped-named}
+
+-- the fields with the names, and of the fields after these those that have none of the names
+abbrev pub labelled : List (List ℕ) → List (List ℕ × Tree) → List (List ℕ × Tree)
+labelled names pairs = zip names (values_of pairs) ++ dropped names (drop (length names) pairs)
 
 -- the fields with the remaining names, and, of the fields after these, those that have none of all names
 abbrev pub labelled_left : List (List ℕ) → List (List ℕ) → List (List ℕ × Tree) → List (List ℕ × Tree)

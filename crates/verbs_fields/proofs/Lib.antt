@@ -1,9 +1,10 @@
-mod Filters
-mod Picking
 mod Once
-mod Places
-mod Tests
+mod Entries
 mod Labels
 mod Spaceless
 pub mod Ascending
 mod Deep
+pub mod Crosses
+mod Rearranged
+mod Sparse
+mod Templates

@@ -10,7 +10,8 @@ use Rattle.mlr_spec.specs.Tree.{Tree}
 use Rattle.mlr_spec.specs.Pairs.{keys_of}
 use Rattle.mlr_event.specs.Reading.{is_among}
 use Rattle.mlr_event.proofs.Distinct.{bytes_eq-swap}
-use Rattle.verbs_fields.specs.Choosing.{once, put_once}
+use Rattle.verbs_base.specs.Choosing.{once}
+use Rattle.verbs_fields.specs.Template.{put_once}
 
 -- the names that were not seen before, each once
 abbrev pub fresh : List (List ℕ) → List (List ℕ) → List (List ℕ)
@@ -76,9 +77,9 @@ module _ (value_of : List ℕ → Tree) where
 
   -- one more name, whose field is appended to the others unless it is there
   pub put_once-more : (made : List (List ℕ × Tree)) (name : List ℕ) (value : Tree) (names : List (List ℕ)) → (is_among (keys_of made) name ≡ false → value ≡ value_of name)
-      → put_once name value made ++ map field_of (fresh (keys_of (put_once name value made)) names) ≡ made ++ map field_of (fresh (keys_of made) (name ∷ names))
+      → put_once (name, value) made ++ map field_of (fresh (keys_of (put_once (name, value) made)) names) ≡ made ++ map field_of (fresh (keys_of made) (name ∷ names))
   put_once-more made name value names is =
-      elim (cases_Bool (is_among (keys_of made) name)) as (λ _. put_once name value made ++ map field_of (fresh (keys_of (put_once name value made)) names) ≡ made ++ map field_of (fresh (keys_of made) (name ∷ names))) [
+      elim (cases_Bool (is_among (keys_of made) name)) as (λ _. put_once (name, value) made ++ map field_of (fresh (keys_of (put_once (name, value) made)) names) ≡ made ++ map field_of (fresh (keys_of made) (name ∷ names))) [
         | inl known ↦
             ap (λ t. cond t made (made ++ (name, value) ∷ []) ++ map field_of (fresh (keys_of (cond t made (made ++ (name, value) ∷ []))) names)) known
             ∙ ap (λ left. made ++ map field_of left) (sym (fresh-seen (keys_of made) name names known))
@@ -90,7 +91,7 @@ module _ (value_of : List ℕ → Tree) where
       ]
 
 -- a name that is missing after a field was appended was missing before, and isn't that field's name
-pub put_once-apart : (name other : List ℕ) (value : Tree) (made : List (List ℕ × Tree)) → is_among (keys_of (put_once name value made)) other ≡ false → (is_among (keys_of made) other ≡ false) × (bytes_eq name other ≡ false)
+pub put_once-apart : (name other : List ℕ) (value : Tree) (made : List (List ℕ × Tree)) → is_among (keys_of (put_once (name, value) made)) other ≡ false → (is_among (keys_of made) other ≡ false) × (bytes_eq name other ≡ false)
 put_once-apart name other value made absent =
     elim (cases_Bool (is_among (keys_of made) name)) as (λ _. (is_among (keys_of made) other ≡ false) × (bytes_eq name other ≡ false)) [
       | inl known ↦

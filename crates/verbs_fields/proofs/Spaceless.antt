@@ -6,8 +6,8 @@ use Rattle.mlr_spec.specs.Tree.{Tree, absent, empty, string, int, fraction, wide
 use Rattle.mlr_spec.specs.Pairs.{keys_of, are_distinct, put_each}
 use Rattle.mlr_spec.specs.Infer.{tree_of_data}
 use Rattle.mlr_spec.proofs.Flattening.{put_each-distinct}
-use Rattle.verbs_fields.specs.declared.spaces.Unspace.{Unspace}
-use Rattle.verbs_fields.specs.Spaces.{has_space, unspaced_text, unspaced_value, unspaced_field, unspaced, takes_keys, takes_values, is_spaced, is_spaced_string}
+use Rattle.verbs_fields.specs.declared.unspace.Unspace.{Unspace}
+use Rattle.verbs_fields.specs.Unspace.{has_space, unspaced_text, unspaced_value, unspaced_field, unspace, takes_keys, takes_values, is_spaced, is_spaced_string}
 
 pub unspaced_text-plain : (other text : List ℕ) → has_space text ≡ false → unspaced_text other text ≡ text
 unspaced_text-plain other [] plain = refl
@@ -28,24 +28,24 @@ unspaced_value-plain other (mapping pairs) plain = refl
 unspaced_value-plain other (array items) plain = refl
 unspaced_value-plain other error plain = refl
 
-unspaced_field-plain : (unspace : Unspace) (pair : List ℕ × Tree) → is_spaced unspace.part pair ≡ false → unspaced_field unspace pair ≡ pair
-unspaced_field-plain unspace pair plain =
-    let parts = or_parts (takes_keys unspace.part && has_space pair.0) (takes_values unspace.part && is_spaced_string pair.1) plain in
-    ap₂ (λ name value. (name, value)) (name (takes_keys unspace.part) parts.0) (value (takes_values unspace.part) parts.1)
+unspaced_field-plain : (verb : Unspace) (pair : List ℕ × Tree) → is_spaced verb.part pair ≡ false → unspaced_field verb pair ≡ pair
+unspaced_field-plain verb pair plain =
+    let parts = or_parts (takes_keys verb.part && has_space pair.0) (takes_values verb.part && is_spaced_string pair.1) plain in
+    ap₂ (λ name value. (name, value)) (name (takes_keys verb.part) parts.0) (value (takes_values verb.part) parts.1)
   where
-    name : (taken : Bool) → (taken && has_space pair.0) ≡ false → cond taken (unspaced_text unspace.text pair.0) pair.0 ≡ pair.0
-    name true plain = unspaced_text-plain unspace.text pair.0 plain
+    name : (taken : Bool) → (taken && has_space pair.0) ≡ false → cond taken (unspaced_text verb.text pair.0) pair.0 ≡ pair.0
+    name true plain = unspaced_text-plain verb.text pair.0 plain
     name false plain = refl
 
-    value : (taken : Bool) → (taken && is_spaced_string pair.1) ≡ false → cond taken (unspaced_value unspace.text pair.1) pair.1 ≡ pair.1
-    value true plain = unspaced_value-plain unspace.text pair.1 plain
+    value : (taken : Bool) → (taken && is_spaced_string pair.1) ≡ false → cond taken (unspaced_value verb.text pair.1) pair.1 ≡ pair.1
+    value true plain = unspaced_value-plain verb.text pair.1 plain
     value false plain = refl
 
-all-plain : (unspace : Unspace) (pairs : List (List ℕ × Tree)) → list_any (is_spaced unspace.part) pairs ≡ false → map (unspaced_field unspace) pairs ≡ pairs
-all-plain unspace [] plain = refl
-all-plain unspace (p ∷ pairs) plain =
-    let parts = or_parts (is_spaced unspace.part p) (list_any (is_spaced unspace.part) pairs) plain in
-    ap₂ (λ x xs. x ∷ xs) (unspaced_field-plain unspace p parts.0) (all-plain unspace pairs parts.1)
+all-plain : (verb : Unspace) (pairs : List (List ℕ × Tree)) → list_any (is_spaced verb.part) pairs ≡ false → map (unspaced_field verb) pairs ≡ pairs
+all-plain verb [] plain = refl
+all-plain verb (p ∷ pairs) plain =
+    let parts = or_parts (is_spaced verb.part p) (list_any (is_spaced verb.part) pairs) plain in
+    ap₂ (λ x xs. x ∷ xs) (unspaced_field-plain verb p parts.0) (all-plain verb pairs parts.1)
 
-pub unspaced-plain : (unspace : Unspace) (pairs : List (List ℕ × Tree)) → are_distinct (keys_of pairs) ≡ true → list_any (is_spaced unspace.part) pairs ≡ false → unspaced unspace pairs ≡ pairs
-unspaced-plain unspace pairs distinct plain = ap (put_each []) (all-plain unspace pairs plain) ∙ put_each-distinct [] pairs distinct
+pub unspaced-plain : (verb : Unspace) (pairs : List (List ℕ × Tree)) → are_distinct (keys_of pairs) ≡ true → list_any (is_spaced verb.part) pairs ≡ false → unspace verb pairs ≡ pairs
+unspaced-plain verb pairs distinct plain = ap (put_each []) (all-plain verb pairs plain) ∙ put_each-distinct [] pairs distinct

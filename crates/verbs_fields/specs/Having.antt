@@ -5,7 +5,7 @@ use Rattle.std.specs.Option.{is_some, option_map_or}
 use Rattle.mlr_spec.specs.Tree.{Tree}
 use Rattle.mlr_spec.specs.Pairs.{value_at}
 use Rattle.mlr_event.specs.Reading.{is_among}
-use Rattle.verbs_fields.specs.Choosing.{is_empty}
+use Rattle.verbs_base.specs.Choosing.{is_empty}
 
 -- whether there is a field of each name
 abbrev pub has_all : List (List ℕ) → List (List ℕ × Tree) → Bool

@@ -1,6 +1,12 @@
-pub mod Choosing
+pub mod Altkv
 pub mod Having
-pub mod Ordering
-pub mod Naming
-pub mod Spaces
+pub mod Interleaving
+pub mod Label
+pub mod RenameNames
+pub mod Reorder
 pub mod Sorting
+pub mod SortWithinRecords
+pub mod Sparsify
+pub mod Template
+pub mod Unspace
+pub mod Values

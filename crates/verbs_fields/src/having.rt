@@ -2,9 +2,9 @@
 ghost use Rattle.std.specs.Prelude.{◌≡◌};
 ghost use Rattle.verbs_fields.specs.Having.{all_defined, any_defined, has_all, has_no_others, is_defined};
 
-use crate::choosing::is_empty;
 use mlr_event::Names;
 use mlr_record::Record;
+use verbs_base::is_empty;
 
 /// Whether the record has a field of each name, for `having-fields --at-least`. It doesn't allocate.
 pub fn has_all(names: &Names, from: &Record) -> bool

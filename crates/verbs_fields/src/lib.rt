@@ -1,19 +1,27 @@
-//! The verbs that choose, order and name fields, on one record.
+//! The verbs that choose, order and name the fields of a record: `altkv`, `label`, `reorder`, `sort-within-records`,
+//! `sparsify`, `template` and `unspace`; and the tests and renamings by names that `having-fields` and `rename` need.
 #![tactic(auto)]
 
-mod choosing;
-mod extraction;
+mod altkv;
 mod having;
-mod naming;
-mod ordering;
+mod label;
+mod laws;
+mod rename_names;
+mod reorder;
+mod sort_within_records;
+mod sparsify;
+mod template;
 #[cfg(test)]
-mod row_tests;
-mod sorting;
-mod spaces;
+mod tests;
+mod unspace;
 
-pub use choosing::{drop_named, keep_named, pick_named, sparsify, template};
+pub use altkv::Altkv;
 pub use having::{all_defined, any_defined, has_all, has_no_others};
-pub use naming::{Renaming, altkv, are_distinct, label, rename_each};
-pub use ordering::{reorder_first, reorder_last};
-pub use sorting::sort_within;
-pub use spaces::{Unspace, UnspacePart};
+pub use label::{Label, are_distinct};
+pub use laws::{field_order_law, sparsify_law, template_law};
+pub use rename_names::{Renaming, rename_each};
+pub use reorder::Reorder;
+pub use sort_within_records::SortWithinRecords;
+pub use sparsify::Sparsify;
+pub use template::Template;
+pub use unspace::{Unspace, UnspacePart};

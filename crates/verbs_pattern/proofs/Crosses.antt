@@ -1,16 +1,30 @@
--- What contains a pattern may be moved to another thread, and may be shared by threads.
+-- The options of the verbs, and the verbs with patterns, may be moved to another thread, and options may be shared by
+-- threads.
 use denote.Param.Send.{IsSend, IsSync, sendable}
 use Rattle.std.proofs.Crossing.{crosses}
 use Rattle.mlr_value.proofs.bytes.Bytes.TheSendSync as bytes
 use Rattle.mlr_event.proofs.field_names.Names.TheSendSync as names
 use Rattle.mlr_pattern.proofs.Crosses.{crosses_regex}
+use Rattle.mlr_pattern.specs.contracts.patterns.Patterns
+use Rattle.verbs_fields.proofs.rename_names.Renaming.TheSendSync as renaming
+use Rattle.verbs_pattern.specs.contracts.cut.Cut
+use Rattle.verbs_pattern.specs.contracts.cut.CutFields
+use Rattle.verbs_pattern.specs.contracts.cut.CutVerb
 use Rattle.verbs_pattern.specs.contracts.grep.Grep
+use Rattle.verbs_pattern.specs.contracts.grep.GrepVerb
+use Rattle.verbs_pattern.specs.contracts.gsub.Gsub
+use Rattle.verbs_pattern.specs.contracts.gsub.GsubVerb
+use Rattle.verbs_pattern.specs.contracts.having_fields.HavingFields
+use Rattle.verbs_pattern.specs.contracts.having_fields.HavingFieldsVerb
+use Rattle.verbs_pattern.specs.contracts.rename.Rename
+use Rattle.verbs_pattern.specs.contracts.rename.RenameVerb
 use Rattle.verbs_pattern.specs.contracts.rename_patterns.RenamePatterns
-use Rattle.verbs_pattern.specs.contracts.sub.Gsub
+use Rattle.verbs_pattern.specs.contracts.ssub.Ssub
 use Rattle.verbs_pattern.specs.contracts.sub.Sub
+use Rattle.verbs_pattern.specs.contracts.sub.SubVerb
 use Rattle.verbs_pattern.specs.contracts.sub_fields.SubFields
 
--- moved to another thread
+-- options, moved to another thread
 SubFields-send : IsSend SubFields.the_field.row
 SubFields-send = search (names.the_send, crosses, sendable) depth 60 fits 20000
 
@@ -20,13 +34,50 @@ Sub-send = search (crosses_regex, SubFields-send, bytes.the_send, crosses, senda
 pub Gsub-send : IsSend Gsub.the_field.row
 Gsub-send = search (crosses_regex, SubFields-send, bytes.the_send, crosses, sendable) depth 60 fits 20000
 
+pub Ssub-send : IsSend Ssub.the_field.row
+Ssub-send = search (SubFields-send, bytes.the_send, crosses, sendable) depth 60 fits 20000
+
 pub Grep-send : IsSend Grep.the_field.row
 Grep-send = search (crosses_regex, crosses, sendable) depth 60 fits 20000
 
 pub RenamePatterns-send : IsSend RenamePatterns.the_field.row
 RenamePatterns-send = search (crosses_regex, bytes.the_send, crosses, sendable) depth 60 fits 20000
 
--- shared by threads
+pub Rename-send : IsSend Rename.the_field.row
+Rename-send = search (RenamePatterns-send, renaming.the_send, crosses, sendable) depth 60 fits 20000
+
+Patterns-send : IsSend Patterns.the_field.row
+Patterns-send = search (crosses_regex, crosses, sendable) depth 60 fits 20000
+
+CutFields-send : IsSend CutFields.the_field.row
+CutFields-send = search (Patterns-send, names.the_send, crosses, sendable) depth 60 fits 20000
+
+pub Cut-send : IsSend Cut.the_field.row
+Cut-send = search (CutFields-send, crosses, sendable) depth 60 fits 20000
+
+pub HavingFields-send : IsSend HavingFields.the_field.row
+HavingFields-send = search (crosses_regex, names.the_send, crosses, sendable) depth 60 fits 20000
+
+-- verbs, moved to another thread
+pub SubVerb-send : IsSend SubVerb.the_field.row
+SubVerb-send = search (Sub-send, crosses, sendable) depth 60 fits 20000
+
+pub GsubVerb-send : IsSend GsubVerb.the_field.row
+GsubVerb-send = search (Gsub-send, crosses, sendable) depth 60 fits 20000
+
+pub GrepVerb-send : IsSend GrepVerb.the_field.row
+GrepVerb-send = search (Grep-send, crosses, sendable) depth 60 fits 20000
+
+pub RenameVerb-send : IsSend RenameVerb.the_field.row
+RenameVerb-send = search (Rename-send, crosses, sendable) depth 60 fits 20000
+
+pub CutVerb-send : IsSend CutVerb.the_field.row
+CutVerb-send = search (Cut-send, crosses, sendable) depth 60 fits 20000
+
+pub HavingFieldsVerb-send : IsSend HavingFieldsVerb.the_field.row
+HavingFieldsVerb-send = search (HavingFields-send, crosses, sendable) depth 60 fits 20000
+
+-- options, shared by threads
 SubFields-sync : IsSync SubFields.the_field.row
 SubFields-sync = search (names.the_sync, crosses, sendable) depth 60 fits 20000
 
@@ -42,4 +93,23 @@ Grep-sync = search (crosses_regex, crosses, sendable) depth 60 fits 20000
 pub RenamePatterns-sync : IsSync RenamePatterns.the_field.row
 RenamePatterns-sync = search (crosses_regex, bytes.the_sync, crosses, sendable) depth 60 fits 20000
 
-pub ruleset crosses_patterned = (Sub-send, Gsub-send, Grep-send, RenamePatterns-send, Sub-sync, Gsub-sync, Grep-sync, RenamePatterns-sync)
+pub ruleset crosses_patterned = (
+  Sub-send,
+  Gsub-send,
+  Grep-send,
+  RenamePatterns-send,
+  Rename-send,
+  Cut-send,
+  HavingFields-send,
+  Ssub-send,
+  SubVerb-send,
+  GsubVerb-send,
+  GrepVerb-send,
+  RenameVerb-send,
+  CutVerb-send,
+  HavingFieldsVerb-send,
+  Sub-sync,
+  Gsub-sync,
+  Grep-sync,
+  RenamePatterns-sync,
+)

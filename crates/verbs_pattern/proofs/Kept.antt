@@ -4,8 +4,15 @@ use Rattle.std.specs.List.{filter, list_any}
 use Rattle.std.specs.Str.{bytes_eq}
 use Rattle.std.proofs.lemmas.Bool.{and_from, and_parts, cond_both, not-true, not_from_false, or_from, or_parts}
 use Rattle.std.proofs.lemmas.List.Elements.{filter-append}
+use Rattle.std.proofs.lemmas.List.Sorted.{IsPermutation-filter_both}
+use Rattle.std.specs.List.Sorted.{IsPermutation}
+use Rattle.mlr_event.specs.Reading.{is_among}
+use Rattle.mlr_pattern.specs.Several.{patterns_in}
 use Rattle.mlr_spec.specs.Pairs.{keys_of, are_distinct}
 use Rattle.mlr_spec.specs.Tree.{Tree}
+use Rattle.verbs_pattern.specs.Cut.{is_kept, selected}
+use Rattle.verbs_pattern.specs.declared.cut.CutFields.{CutFields}
+use Rattle.verbs_pattern.specs.declared.cut.CutFields.TheVariants.{Names, Patterns}
 
 module _ (test : List ℕ × Tree → Bool) where
   absent-kept : (key : List ℕ) (pairs : List (List ℕ × Tree)) → list_any (bytes_eq key) (keys_of pairs) ≡ false →
@@ -31,3 +38,8 @@ module _ (test : List ℕ × Tree → Bool) where
       ap (λ l. l ++ filter test pairs) is
       ∙ append_assoc old (filter test (pair ∷ [])) (filter test pairs)
       ∙ ap (λ l. old ++ l) (sym (filter-append test (pair ∷ []) pairs))
+
+-- the fields that `cut` keeps, and those that it keeps with `-x`
+pub kept-apart : (which : CutFields) (fields : List (List ℕ × Tree)) → IsPermutation fields (selected which false false fields ++ selected which false true fields)
+kept-apart (Names names) fields = IsPermutation-filter_both (λ pair. is_among names pair.0) (λ pair. not (is_among names pair.0)) (λ pair. refl) fields
+kept-apart (Patterns patterns) fields = IsPermutation-filter_both (is_kept (patterns_in patterns) false) (is_kept (patterns_in patterns) true) (λ pair. refl) fields

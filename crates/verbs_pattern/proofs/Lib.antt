@@ -1,6 +1,8 @@
 pub mod Crosses
 mod Commas
 mod Kept
-mod Walks
-mod Renaming
+mod RenamedBack
 mod Renamed
+mod Renaming
+mod Rules
+mod Walks

@@ -1,7 +1,13 @@
-pub mod Changing
+pub mod Cut
+pub mod Grep
+pub mod Gsub
+pub mod HavingFields
 pub mod Matching
-pub mod Grepping
-pub mod Renaming
+pub mod Rename
 pub mod Renamed
+pub mod Renaming
 pub mod RenamingSteps
 pub mod Rules
+pub mod Ssub
+pub mod Sub
+pub mod SubFields

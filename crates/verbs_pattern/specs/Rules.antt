@@ -8,3 +8,7 @@ use Rattle.verbs_pattern.specs.declared.rename_patterns.RenamePatterns.{RenamePa
 -- the patterns, as compiled by `regex`, each with its replacement
 abbrev pub rules_in : RenamePatterns → List (Re × List ℕ)
 rules_in options = map (λ rule. (regex_pattern (arc_value rule.0), rule.1)) options.pairs.items
+
+-- the patterns alone
+abbrev pub patterns_of : RenamePatterns → List Re
+patterns_of options = map (λ rule. regex_pattern (arc_value rule.0)) options.pairs.items

@@ -1,19 +1,23 @@
-//! `grep`: the records whose texts match a pattern.
-ghost use Rattle.std.specs.Prelude.{◌≡◌, ◌++◌, ◌∷◌, [], is_some, if◌then◌else◌, IfOk, OnOk};
+//! `grep`: passes the records whose texts match a pattern.
+ghost use Rattle.std.specs.Prelude.{◌≡◌, ◌++◌, ◌∷◌, [], if◌then◌else◌, IfOk, OnOk};
 ghost use Rattle.std.specs.Arc.{arc_value};
-ghost use Rattle.regex.specs.Bytes.{regex_pattern};
+ghost use Rattle.regex.specs.Bytes.{matcher_pattern, regex_pattern};
 ghost use Rattle.mlr_value.specs.Value.{tree_of};
 ghost use Rattle.text_forms.specs.Dkvp.{pair_text};
+ghost use Rattle.verbs_base.specs.Records.{each, passes};
+ghost use Rattle.verbs_pattern.specs.Grep.{grep, record_text};
 ghost use Rattle.verbs_pattern.specs.Matching.{has_match};
-ghost use Rattle.verbs_pattern.specs.Grepping.{record_text, passes_grep};
 
-use mlr_pattern::{Pattern, matches};
+use crate::passing::passing;
+use mlr_event::{Ctx, Events};
+use mlr_pattern::{Matcher, Pattern};
 use mlr_record::Record;
 use mlr_spec::NoMemory;
 use mlr_value::{Bytes, Value};
 use std::alloc::Global;
 use std::sync::Arc;
 use text_forms::append_shown;
+use verbs_base::{Each, PerRecord, Stateful};
 
 /// `grep`: passes the records whose text matches a pattern. A record's text is its line in DKVP with `,` and
 /// `=`.
@@ -27,21 +31,13 @@ pub struct Grep {
 }
 
 impl Grep {
-    /// Whether the record passes. It allocates its text and one matcher.
-    pub fn passes(&self, alloc: Global, fields: &Record) -> Result<bool, NoMemory>
-        ensures { IfOk result (λ passes. passes
-            ≡ passes_grep self.now.others (regex_pattern (arc_value self.now.pattern)) fields.now) }
-    {
-        let found = text_matches(alloc, &self.pattern, fields)?;
-        Ok(if self.others { !found } else { found })
-    }
-
     /// A copy, which shares the pattern. It doesn't allocate.
     pub fn copy(&self, _: Global) -> Result<Self, NoMemory>
         ensures either_case { IfOk result (λ copy. copy.either_case ≡ self.now.either_case) }
         ensures others { IfOk result (λ copy. copy.others ≡ self.now.others) }
         ensures pattern { IfOk result (λ copy. regex_pattern (arc_value copy.pattern)
             ≡ regex_pattern (arc_value self.now.pattern)) }
+        ensures meaning { IfOk result (λ copy. grep copy ≡ grep self.now) }
     {
         Ok(Grep {
             either_case: self.either_case,
@@ -51,13 +47,108 @@ impl Grep {
     }
 }
 
-fn text_matches(alloc: Global, pattern: &Pattern, fields: &Record) -> Result<bool, NoMemory>
-    ensures { IfOk result (λ found. found ≡ has_match (regex_pattern pattern.now)
+/// The verb `grep`. It makes one matcher for all records of a list.
+#[derive(Drop)]
+pub struct GrepVerb {
+    alloc: Global,
+    options: Grep,
+}
+
+impl GrepVerb {
+    /// The verb with these options, before the first record. It doesn't allocate.
+    pub fn new(alloc: Global, options: Grep) -> Self
+        ensures meaning { ⟦<GrepVerb as Stateful>⟧.meaning result ≡ each (passes (grep options)) }
+        ensures represents { ⟦<GrepVerb as Stateful>⟧.represents result [] }
+    {
+        GrepVerb { alloc, options }
+    }
+}
+
+impl Stateful for GrepVerb {
+    ghost use Rattle.verbs_base.specs.Laws.{stream-shuts};
+    ghost use Rattle.verbs_base.specs.Records.{each, passes};
+    ghost use Rattle.verbs_pattern.specs.Grep.{grep};
+
+    ghost meaning = { λ s. each (passes (grep s.options)) };
+
+    ghost represents = { λ s before. Unit {0} };
+
+    ghost shuts = { λ s. stream-shuts (λ before. passes (grep s.options)) };
+
+    fn take(&mut self, fields: Record, ctx: Ctx, out: &mut Events) -> Result<(), NoMemory> {
+        let alloc = self.alloc;
+        let verb = Search::of(alloc, &self.options)?;
+        Each { alloc, verb }.take(fields, ctx, out)
+    }
+
+    fn take_all(&mut self, events: &mut Events, out: &mut Events) -> Result<(), NoMemory> {
+        if events.len() == 0 {
+            return Ok(());
+        }
+        let alloc = self.alloc;
+        let verb = Search::of(alloc, &self.options)?;
+        Each { alloc, verb }.take_all(events, out)
+    }
+
+    fn finish(&mut self, _: Ctx, _: &mut Events) -> Result<(), NoMemory> {
+        Ok(())
+    }
+
+    fn is_shut(&self) -> bool {
+        false
+    }
+
+    fn never_shuts(&self) -> bool {
+        true
+    }
+}
+
+/// The search for the pattern of `grep`, for the records of one list.
+#[derive(Drop)]
+struct Search<'g> {
+    options: &'g Grep,
+    matcher: Matcher<'g>,
+}
+
+impl<'g> Search<'g> {
+    /// The search with these options. It makes a matcher.
+    fn of(alloc: Global, options: &'g Grep) -> Result<Self, NoMemory>
+        ensures options { IfOk result (λ made. made.options.now ≡ options.now) }
+        ensures matcher { IfOk result (λ made. matcher_pattern made.matcher
+            ≡ regex_pattern (arc_value made.options.now.pattern)) }
+    {
+        let matcher = options.pattern.matcher(alloc)?;
+        Ok(Search { options, matcher })
+    }
+}
+
+impl PerRecord for Search<'_> {
+    ghost use Rattle.std.specs.Prelude.{◌≡◌};
+    ghost use Rattle.std.specs.Arc.{arc_value};
+    ghost use Rattle.regex.specs.Bytes.{matcher_pattern, regex_pattern};
+    ghost use Rattle.verbs_base.specs.Records.{passes};
+    ghost use Rattle.verbs_pattern.specs.Grep.{grep};
+
+    ghost gives = { λ s. passes (grep s.options.now) };
+
+    ghost sound = { λ s. matcher_pattern s.matcher
+        ≡ regex_pattern (arc_value s.options.now.pattern) };
+
+    fn made(&mut self, alloc: Global, fields: Record) -> Result<Option<Record>, NoMemory> {
+        let found = text_matches(alloc, &mut self.matcher, &fields)?;
+        let passes = if self.options.others { !found } else { found };
+        Ok(passing(passes, fields))
+    }
+}
+
+fn text_matches(alloc: Global, matcher: &mut Matcher<'_>, fields: &Record) -> Result<bool, NoMemory>
+    ensures found { IfOk result (λ found. found ≡ has_match (matcher_pattern matcher.old)
         (record_text fields.now)) }
+    ensures same { matcher_pattern matcher.new ≡ matcher_pattern matcher.old }
 {
     let mut text = Bytes::new(alloc);
     append_dkvp(fields, &mut text)?;
-    matches(alloc, pattern, text.as_slice())
+    Ok(matcher.is_match(text.as_slice()))
 }
 
 /// Appends the text of a record to `out`.

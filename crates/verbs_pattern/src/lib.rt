@@ -1,22 +1,30 @@
-//! The verbs with patterns on one record: `sub`, `gsub`, `ssub`, `grep`, and the patterns of `cut -r`,
-//! `having-fields` and `rename -r`. The fields of a verb's struct are its words on the command line.
+//! The verbs that search for patterns or texts: `cut`, `having-fields`, `rename`, `grep`, `sub`, `gsub` and `ssub`. The
+//! fields of a verb's options are its words on the command line. A matcher borrows its pattern, so a verb with patterns
+//! makes its matchers once for a list of records.
 #![tactic(auto)]
 
-mod chosen;
+mod cut;
 mod grep;
+mod gsub;
+mod having_fields;
 mod laws;
-mod matching;
+mod passing;
+mod rename;
 mod rename_patterns;
 mod ssub;
 mod sub;
 mod sub_fields;
+mod substitution;
 #[cfg(test)]
 mod tests;
 
-pub use grep::Grep;
-pub use laws::renamed_law;
-pub use matching::{all_names_match, any_name_matches, keep_matching};
+pub use cut::{Cut, CutFields, CutVerb};
+pub use grep::{Grep, GrepVerb};
+pub use gsub::{Gsub, GsubVerb};
+pub use having_fields::{HavingFields, HavingFieldsVerb};
+pub use laws::{cut_law, rename_back_law, renamed_law};
+pub use rename::{Rename, RenameVerb};
 pub use rename_patterns::RenamePatterns;
 pub use ssub::Ssub;
-pub use sub::{Gsub, Sub};
+pub use sub::{Sub, SubVerb};
 pub use sub_fields::SubFields;

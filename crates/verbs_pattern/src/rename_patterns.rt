@@ -2,11 +2,12 @@
 ghost use Rattle.std.specs.Prelude.{◌≡◌, ◌+◌, ◌^◌, ◌<◌, ℕ, true, false, List, length, map, take, slice_index_or, IfOk, OnOk, MatchOption};
 ghost use Rattle.std.specs.Arc.{arc_value};
 ghost use Rattle.std.specs.Str.{bytes_eq};
+ghost use Rattle.regex.specs.Patterns.{Re};
 ghost use Rattle.regex.specs.Bytes.{regex_pattern, matcher_pattern};
 ghost use Rattle.mlr_spec.specs.Pairs.{are_distinct, keys_of, remove_at};
 ghost use Rattle.mlr_spec.specs.Tree.{Tree};
 ghost use Rattle.verbs_pattern.specs.Renaming.{renamed_by, renamed_by_each};
-ghost use Rattle.verbs_pattern.specs.Rules.{rules_in};
+ghost use Rattle.verbs_pattern.specs.Rules.{patterns_of, rules_in};
 ghost use Rattle.verbs_pattern.specs.RenamingSteps.{new_name, GoesOn, IsRenamedAt};
 
 use mlr_pattern::{Matcher, Pattern, Which, replaced_if_found};
@@ -26,14 +27,38 @@ pub struct RenamePatterns {
 }
 
 impl RenamePatterns {
-    /// The record with its fields renamed in place, by one pattern after another. It allocates one matcher
-    /// for each pattern, and names that change.
-    pub fn take(&self, alloc: Global, mut fields: Record) -> Result<Record, NoMemory>
-        ensures { IfOk result (λ made. made ≡ renamed_by_each self.now.which
-            (map (λ rule. (regex_pattern (arc_value rule.0), rule.1)) self.now.pairs.items)
-            fields) }
+    /// A matcher for each pattern.
+    pub(crate) fn matchers(&self, alloc: Global) -> Result<Vec<Matcher<'_>>, NoMemory>
+        ensures { IfOk result (λ made. map matcher_pattern made.items ≡ patterns_of self.now) }
     {
-        rename_by_each(alloc, self.pairs.as_slice(), self.which, &mut fields)?;
+        let rules = self.pairs.as_slice();
+        let mut matchers = Vec::with_capacity(alloc, rules.len())?;
+        for place in 0..rules.len() {
+            matchers.push(rules[place].0.matcher(alloc)?)?;
+        }
+        Ok(matchers)
+    }
+
+    /// The record with its fields renamed in place, by one pattern after another, each with its matcher. It
+    /// allocates names that change.
+    pub(crate) fn renamed(
+        &self,
+        alloc: Global,
+        matchers: &mut [Matcher<'_>],
+        mut fields: Record,
+    ) -> Result<Record, NoMemory>
+        requires { map matcher_pattern matchers.old ≡ patterns_of self.now }
+        ensures renamed { IfOk result (λ made. made ≡ renamed_by_each self.now.which
+            (rules_in self.now) fields) }
+        ensures same { map matcher_pattern matchers.new ≡ map matcher_pattern matchers.old }
+    {
+        rename_by_each(
+            alloc,
+            self.pairs.as_slice(),
+            matchers,
+            self.which,
+            &mut fields,
+        )?;
         Ok(fields)
     }
 
@@ -57,31 +82,38 @@ impl RenamePatterns {
 fn rename_by_each(
     alloc: Global,
     rules: &[(Arc<Pattern>, Bytes)],
+    matchers: &mut [Matcher<'_>],
     which: Which,
     fields: &mut Record,
 ) -> Result<(), NoMemory>
-    ensures { OnOk result (fields.new ≡ renamed_by_each which
+    requires { map matcher_pattern matchers.old
+        ≡ map (λ rule. regex_pattern (arc_value rule.0)) rules.now }
+    ensures renamed { OnOk result (fields.new ≡ renamed_by_each which
         (map (λ rule. (regex_pattern (arc_value rule.0), rule.1)) rules.now) fields.old) }
+    ensures same { map matcher_pattern matchers.new ≡ map matcher_pattern matchers.old }
 {
     for place in 0..rules.len() {
-        let rule = &rules[place];
-        rename_by(alloc, &rule.0, rule.1.as_slice(), which, fields)?;
+        let by = rules[place].1.as_slice();
+        rename_with(alloc, matchers, place, by, which, fields)?;
     }
     Ok(())
 }
 
-fn rename_by(
+/// Renames the fields by the pattern of the matcher at this place.
+fn rename_with(
     alloc: Global,
-    pattern: &Pattern,
+    matchers: &mut [Matcher<'_>],
+    place: usize,
     by: &[u8],
     which: Which,
     fields: &mut Record,
 ) -> Result<(), NoMemory>
-    ensures { OnOk result (fields.new ≡ renamed_by which (regex_pattern pattern.now) by.now
-        fields.old) }
+    requires { place < length matchers.old }
+    ensures renamed { OnOk result ((re : Re) → fields.new ≡ renamed_by which
+        (slice_index_or (map matcher_pattern matchers.old) place re) by.now fields.old) }
+    ensures same { map matcher_pattern matchers.new ≡ map matcher_pattern matchers.old }
 {
-    let mut matcher = pattern.matcher(alloc)?;
-    rename_all(alloc, &mut matcher, by, which, fields)
+    rename_all(alloc, &mut matchers[place], by, which, fields)
 }
 
 fn rename_all(
@@ -91,8 +123,9 @@ fn rename_all(
     which: Which,
     fields: &mut Record,
 ) -> Result<(), NoMemory>
-    ensures { OnOk result (fields.new ≡ renamed_by which (matcher_pattern matcher.old) by.now
-        fields.old) }
+    ensures renamed { OnOk result (fields.new ≡ renamed_by which (matcher_pattern matcher.old)
+        by.now fields.old) }
+    ensures same { matcher_pattern matcher.new ≡ matcher_pattern matcher.old }
 {
     let mut place = 0;
     while place < fields.len() {

@@ -1,16 +1,13 @@
 //! `ssub`: replaces a plain text in values.
 ghost use Rattle.std.specs.Prelude.{◌≡◌, ◌≤◌, length, IfOk, IsOk};
-ghost use Rattle.mlr_pattern.specs.Values.{ssub_of};
-ghost use Rattle.verbs_pattern.specs.Changing.{changed_fields};
 
-use crate::SubFields;
-use crate::chosen::names_of;
+use crate::sub_fields::{SubFields, names_of};
 use mlr_pattern::ssub_value;
 use mlr_record::Record;
 use mlr_spec::NoMemory;
 use mlr_value::{Bytes, Value};
 use std::alloc::Global;
-use verbs_base::{Change, change_record, is_taken};
+use verbs_base::{Change, PerRecord, change_record, is_taken};
 
 /// `ssub`: replaces the first occurrence of a plain text in the values of fields. No byte of the text is
 /// special.
@@ -22,14 +19,6 @@ pub struct Ssub {
 }
 
 impl Ssub {
-    /// The record with these values changed in place. It allocates for texts that change.
-    pub fn take(&self, alloc: Global, fields: Record) -> Result<Record, NoMemory>
-        ensures { IfOk result (λ made. made ≡ changed_fields self.now.fields
-            (ssub_of self.now.old self.now.by) fields) }
-    {
-        change_record(self, alloc, fields)
-    }
-
     /// A copy. It allocates for the names, and for texts of more than 16 bytes.
     pub fn copy(&self, alloc: Global) -> Result<Self, NoMemory>
         ensures same { IfOk result (λ copy. copy ≡ self.now) }
@@ -44,16 +33,30 @@ impl Ssub {
     }
 }
 
+impl PerRecord for Ssub {
+    ghost use Rattle.verbs_base.specs.Records.{maps};
+    ghost use Rattle.verbs_pattern.specs.Ssub.{ssub};
+
+    ghost gives = { λ verb. maps (ssub verb) };
+
+    ghost sound = { λ verb. Unit {0} };
+
+    fn made(&mut self, alloc: Global, fields: Record) -> Result<Option<Record>, NoMemory> {
+        let verb: &Ssub = self;
+        Ok(Some(change_record(verb, alloc, fields)?))
+    }
+}
+
 impl Change for &Ssub {
     ghost use Rattle.mlr_pattern.specs.Values.{ssub_of};
     ghost use Rattle.verbs_base.specs.Changing.{is_taken};
-    ghost use Rattle.verbs_pattern.specs.Changing.{names_of};
+    ghost use Rattle.verbs_pattern.specs.SubFields.{names_of};
 
     ghost takes = { λ verb name. is_taken (names_of verb.now.fields) name };
 
     ghost image = { λ verb value. ssub_of verb.now.old verb.now.by value };
 
-    fn takes(&self, name: &[u8]) -> bool {
+    fn takes(&self, name: &Bytes) -> bool {
         is_taken(names_of(&self.fields), name)
     }
 

@@ -1,20 +1,20 @@
-//! `sub` and `gsub`: replace matches of a pattern in values.
-ghost use Rattle.std.specs.Prelude.{◌≡◌, IfOk};
+//! `sub`: replaces the first match of a pattern in values.
+ghost use Rattle.std.specs.Prelude.{◌≡◌, [], IfOk};
 ghost use Rattle.std.specs.Arc.{arc_value};
 ghost use Rattle.regex.specs.Bytes.{regex_pattern};
-ghost use Rattle.mlr_pattern.specs.Values.{sub_of};
-ghost use Rattle.verbs_pattern.specs.Changing.{changed_fields};
+ghost use Rattle.verbs_base.specs.Records.{each, maps};
+ghost use Rattle.verbs_pattern.specs.Sub.{sub};
 
-use crate::SubFields;
-use crate::chosen::names_of;
-use mlr_event::Names;
-use mlr_pattern::{Matcher, Pattern, Which, sub_value};
+use crate::sub_fields::SubFields;
+use crate::substitution::Substitution;
+use mlr_event::{Ctx, Events};
+use mlr_pattern::{Pattern, Which};
 use mlr_record::Record;
 use mlr_spec::NoMemory;
-use mlr_value::{Bytes, Value};
+use mlr_value::Bytes;
 use std::alloc::Global;
 use std::sync::Arc;
-use verbs_base::{Change, change_from, first_taken, is_taken};
+use verbs_base::{Each, Stateful};
 
 /// `sub`: replaces the first match of a pattern in the values of fields. In `by`, `\0` to `\9` are the texts
 /// of the match and of its groups.
@@ -26,22 +26,13 @@ pub struct Sub {
 }
 
 impl Sub {
-    /// The record with these values changed in place. It allocates one matcher if the record has such a
-    /// field, and texts that change.
-    pub fn take(&self, alloc: Global, fields: Record) -> Result<Record, NoMemory>
-        ensures { IfOk result (λ made. made ≡ changed_fields self.now.fields
-            (sub_of Which.First (regex_pattern (arc_value self.now.pattern)) self.now.by) fields) }
-    {
-        let by = self.by.as_slice();
-        sub_fields(alloc, &self.fields, &self.pattern, by, Which::First, fields)
-    }
-
     /// A copy, which shares the pattern. It allocates for the names, and for a text of more than 16 bytes.
     pub fn copy(&self, alloc: Global) -> Result<Self, NoMemory>
         ensures fields { IfOk result (λ copy. copy.fields ≡ self.now.fields) }
         ensures pattern { IfOk result (λ copy. regex_pattern (arc_value copy.pattern)
             ≡ regex_pattern (arc_value self.now.pattern)) }
         ensures by { IfOk result (λ copy. copy.by ≡ self.now.by) }
+        ensures meaning { IfOk result (λ copy. sub copy ≡ sub self.now) }
     {
         Ok(Sub {
             fields: self.fields.copy(alloc)?,
@@ -51,93 +42,72 @@ impl Sub {
     }
 }
 
-/// `gsub`: as `Sub`, but replaces all matches.
+/// The verb `sub`. It makes one matcher for all records of a list.
 #[derive(Drop)]
-pub struct Gsub {
-    pub fields: SubFields,
-    pub pattern: Arc<Pattern>,
-    pub by: Bytes,
-}
-
-impl Gsub {
-    /// The record with these values changed in place. It allocates one matcher if the record has such a
-    /// field, and texts that change.
-    pub fn take(&self, alloc: Global, fields: Record) -> Result<Record, NoMemory>
-        ensures { IfOk result (λ made. made ≡ changed_fields self.now.fields
-            (sub_of Which.All (regex_pattern (arc_value self.now.pattern)) self.now.by) fields) }
-    {
-        let by = self.by.as_slice();
-        sub_fields(alloc, &self.fields, &self.pattern, by, Which::All, fields)
-    }
-
-    /// A copy, which shares the pattern. It allocates for the names, and for a text of more than 16 bytes.
-    pub fn copy(&self, alloc: Global) -> Result<Self, NoMemory>
-        ensures fields { IfOk result (λ copy. copy.fields ≡ self.now.fields) }
-        ensures pattern { IfOk result (λ copy. regex_pattern (arc_value copy.pattern)
-            ≡ regex_pattern (arc_value self.now.pattern)) }
-        ensures by { IfOk result (λ copy. copy.by ≡ self.now.by) }
-    {
-        Ok(Gsub {
-            fields: self.fields.copy(alloc)?,
-            pattern: Arc::try_clone(&self.pattern)?,
-            by: Bytes::copy_of(alloc, self.by.as_slice())?,
-        })
-    }
-}
-
-/// The record with the values of these fields changed. It makes one matcher, and only if the record has such
-/// a field.
-fn sub_fields(
+pub struct SubVerb {
     alloc: Global,
-    fields: &SubFields,
-    pattern: &Pattern,
-    by: &[u8],
-    which: Which,
-    from: Record,
-) -> Result<Record, NoMemory>
-    ensures { IfOk result (λ made. made ≡ changed_fields fields.now
-        (sub_of which (regex_pattern pattern.now) by.now) from) }
-{
-    let names = names_of(fields);
-    let first = first_taken(names, &from);
-    if first == from.len() {
-        return Ok(from);
-    }
-    let matcher = pattern.matcher(alloc)?;
-    let change = Substitution {
-        names,
-        matcher,
-        by,
-        which,
-    };
-    change_from(change, alloc, first, from)
+    options: Sub,
 }
 
-/// The change of values by `sub` or `gsub`, for one record.
-#[derive(Drop)]
-struct Substitution<'s> {
-    names: Option<&'s Names>,
-    matcher: Matcher<'s>,
-    by: &'s [u8],
-    which: Which,
+impl SubVerb {
+    /// The verb with these options, before the first record. It doesn't allocate.
+    pub fn new(alloc: Global, options: Sub) -> Self
+        ensures meaning { ⟦<SubVerb as Stateful>⟧.meaning result ≡ each (maps (sub options)) }
+        ensures represents { ⟦<SubVerb as Stateful>⟧.represents result [] }
+    {
+        SubVerb { alloc, options }
+    }
 }
 
-impl Change for Substitution<'_> {
-    ghost use Rattle.std.specs.Option.{option_map};
-    ghost use Rattle.regex.specs.Bytes.{matcher_pattern};
-    ghost use Rattle.mlr_pattern.specs.Values.{sub_of};
-    ghost use Rattle.verbs_base.specs.Changing.{is_taken};
+impl Stateful for SubVerb {
+    ghost use Rattle.verbs_base.specs.Laws.{stream-shuts};
+    ghost use Rattle.verbs_base.specs.Records.{each, maps};
+    ghost use Rattle.verbs_pattern.specs.Sub.{sub};
 
-    ghost takes = { λ verb name. is_taken (option_map (λ names. names.now) verb.names) name };
+    ghost meaning = { λ s. each (maps (sub s.options)) };
 
-    ghost image = { λ verb value. sub_of verb.which (matcher_pattern verb.matcher) verb.by.now
-        value };
+    ghost represents = { λ s before. Unit {0} };
 
-    fn takes(&self, name: &[u8]) -> bool {
-        is_taken(self.names, name)
+    ghost shuts = { λ s. stream-shuts (λ before. maps (sub s.options)) };
+
+    fn take(&mut self, fields: Record, ctx: Ctx, out: &mut Events) -> Result<(), NoMemory> {
+        let alloc = self.alloc;
+        let by = self.options.by.as_slice();
+        let verb = Substitution::of(
+            alloc,
+            &self.options.fields,
+            &self.options.pattern,
+            by,
+            Which::First,
+        )?;
+        Each { alloc, verb }.take(fields, ctx, out)
     }
 
-    fn image(&mut self, alloc: Global, value: Value) -> Result<Value, NoMemory> {
-        sub_value(alloc, &mut self.matcher, value, self.by, self.which)
+    fn take_all(&mut self, events: &mut Events, out: &mut Events) -> Result<(), NoMemory> {
+        if events.len() == 0 {
+            return Ok(());
+        }
+        let alloc = self.alloc;
+        let by = self.options.by.as_slice();
+        let verb = Substitution::of(
+            alloc,
+            &self.options.fields,
+            &self.options.pattern,
+            by,
+            Which::First,
+        )?;
+        Each { alloc, verb }.take_all(events, out)
+    }
+
+    fn finish(&mut self, _: Ctx, _: &mut Events) -> Result<(), NoMemory> {
+        Ok(())
+    }
+
+    fn is_shut(&self) -> bool {
+        false
+    }
+
+    fn never_shuts(&self) -> bool {
+        true
     }
 }

@@ -1,11 +1,12 @@
 //! Records that verbs with patterns change, keep or pass, and copies of these verbs.
+ghost use Rattle.std.specs.Prelude.{[]};
 
 use crate::grep::append_dkvp;
 use crate::{
-    Grep, Gsub, RenamePatterns, Ssub, Sub, SubFields, all_names_match, any_name_matches,
-    keep_matching,
+    Cut, CutFields, CutVerb, Grep, GrepVerb, Gsub, GsubVerb, HavingFields, HavingFieldsVerb,
+    Rename, RenamePatterns, RenameVerb, Ssub, Sub, SubFields, SubVerb,
 };
-use mlr_event::Names;
+use mlr_event::{Ctx, Event, Events, Names};
 use mlr_pattern::{Pattern, Patterns, Which, matches, read_pattern};
 use mlr_record::Record;
 use mlr_spec::{InferOpts, NoMemory};
@@ -13,6 +14,8 @@ use mlr_value::{Bytes, MapValue, Value, from_data};
 use std::alloc::Global;
 use std::sync::Arc;
 use std::test::Fail;
+use verbs_base::{Each, Stateful};
+use verbs_fields::Renaming;
 
 /// The record of a line such as `a=1,b=xyz`, whose values are inferred.
 fn record_of(alloc: Global, line: &str) -> Result<Record, NoMemory> {
@@ -33,6 +36,48 @@ fn text_of(alloc: Global, record: &Record) -> Result<Bytes, NoMemory> {
     Ok(text)
 }
 
+/// The texts of the records that came out, each with LF.
+fn texts_of(alloc: Global, out: &Events) -> Result<Bytes, NoMemory> {
+    let mut text = Bytes::new(alloc);
+    for place in 0..out.len() {
+        if let Some(Event::Rec(record, _)) = out.at(place) {
+            append_dkvp(record, &mut text)?;
+        }
+        text.push(b'\n')?;
+    }
+    Ok(text)
+}
+
+/// A text several times, each with LF.
+fn repeated(alloc: Global, text: &[u8], times: usize) -> Result<Bytes, NoMemory> {
+    let mut made = Bytes::new(alloc);
+    for _ in 0..times {
+        made.append(text)?;
+        made.push(b'\n')?;
+    }
+    Ok(made)
+}
+
+const CTX: Ctx = Ctx {
+    nr: 1,
+    fnr: 1,
+    filenum: 1,
+};
+
+/// The records that a verb gives for a record by itself, and then for a list of two.
+fn given<V: Stateful>(verb: &mut V, alloc: Global, line: &str) -> Result<Bytes, Fail>
+    requires { V.represents verb.old [] }
+{
+    let mut out = Events::new(alloc);
+    let mut events = Events::new(alloc);
+    events.push(Event::Rec(record_of(alloc, line)?, CTX))?;
+    events.push(Event::Rec(record_of(alloc, line)?, CTX))?;
+    let record = record_of(alloc, line)?;
+    verb.take(record, CTX, &mut out)?;
+    verb.take_all(&mut events, &mut out)?;
+    Ok(texts_of(alloc, &out)?)
+}
+
 fn pattern_of(alloc: Global, text: &[u8]) -> Result<Arc<Pattern>, Fail> {
     match read_pattern(alloc, text, false) {
         Ok(pattern) => Ok(Arc::new(alloc, pattern)?),
@@ -47,11 +92,15 @@ fn fields_of(alloc: Global, fields: Fields) -> Result<SubFields, NoMemory> {
     let Some(fields) = fields else {
         return Ok(SubFields::All);
     };
+    Ok(SubFields::Named(names_of(alloc, fields)?))
+}
+
+fn names_of(alloc: Global, fields: &[&[u8]]) -> Result<Names, NoMemory> {
     let mut names = Names::new(alloc);
     for name in fields {
         names.push(Bytes::copy_of(alloc, name)?)?;
     }
-    Ok(SubFields::Named(names))
+    Ok(names)
 }
 
 fn sub_of(alloc: Global, fields: Fields, pattern: &[u8], by: &[u8]) -> Result<Sub, Fail> {
@@ -62,7 +111,15 @@ fn sub_of(alloc: Global, fields: Fields, pattern: &[u8], by: &[u8]) -> Result<Su
     })
 }
 
-/// Patterns with their replacements.
+fn gsub_of(alloc: Global, fields: Fields, pattern: &[u8], by: &[u8]) -> Result<Gsub, Fail> {
+    Ok(Gsub {
+        fields: fields_of(alloc, fields)?,
+        pattern: pattern_of(alloc, pattern)?,
+        by: Bytes::copy_of(alloc, by)?,
+    })
+}
+
+/// Names or patterns with their replacements.
 type Pairs = &'static [(&'static [u8], &'static [u8])];
 
 fn rename_of(alloc: Global, which: Which, pairs: Pairs) -> Result<RenamePatterns, Fail> {
@@ -74,18 +131,38 @@ fn rename_of(alloc: Global, which: Which, pairs: Pairs) -> Result<RenamePatterns
     Ok(RenamePatterns { pairs: made, which })
 }
 
-/// The fields whose names match one of these patterns, or the others.
-fn fields_kept(
-    alloc: Global,
-    texts: &[&[u8]],
-    others: bool,
-    record: Record,
-) -> Result<Record, Fail> {
+fn renamings_of(alloc: Global, pairs: Pairs) -> Result<Vec<Renaming>, NoMemory> {
+    let mut made = Vec::new(alloc);
+    for pair in pairs {
+        let old = Bytes::copy_of(alloc, pair.0)?;
+        let new = Bytes::copy_of(alloc, pair.1)?;
+        made.push(Renaming { old, new })?;
+    }
+    Ok(made)
+}
+
+fn patterns_of(alloc: Global, texts: &[&[u8]]) -> Result<Patterns, Fail> {
     let mut patterns = Patterns::new(alloc);
     for text in texts {
         patterns.push(pattern_of(alloc, text)?)?;
     }
-    Ok(keep_matching(alloc, &patterns, others, record)?)
+    Ok(patterns)
+}
+
+/// `cut` of the record of a line.
+fn cut(
+    alloc: Global,
+    fields: CutFields,
+    ordered: bool,
+    complement: bool,
+    line: &str,
+) -> Result<Bytes, Fail> {
+    let options = Cut {
+        fields,
+        ordered,
+        complement,
+    };
+    given(&mut CutVerb::new(alloc, options), alloc, line)
 }
 
 /// A change of a record.
@@ -104,42 +181,77 @@ enum Change {
     Keep(&'static [&'static [u8]]),
     /// Drops them.
     Drop(&'static [&'static [u8]]),
+    /// Keeps the fields with these names.
+    KeepNamed(&'static [&'static [u8]]),
+    /// Keeps them in the order of the names.
+    PickNamed(&'static [&'static [u8]]),
+    /// Drops them.
+    DropNamed(&'static [&'static [u8]]),
+    /// Renames fields.
+    RenameNamed(Pairs),
 }
 
-fn changed(alloc: Global, change: &Change, record: Record) -> Result<Record, Fail> {
+fn changed(alloc: Global, change: &Change, line: &str) -> Result<Bytes, Fail> {
     match change {
         Change::Sub(fields) => {
             let sub = sub_of(alloc, *fields, b"x", b"<\\0>")?;
-            Ok(sub.take(alloc, record)?)
+            given(&mut SubVerb::new(alloc, sub), alloc, line)
         }
         Change::Gsub(fields) => {
-            let Sub {
-                fields,
-                pattern,
-                by,
-            } = sub_of(alloc, *fields, b"x", b"<\\0>")?;
-            Ok(Gsub {
-                fields,
-                pattern,
-                by,
-            }
-            .take(alloc, record)?)
+            let gsub = gsub_of(alloc, *fields, b"x", b"<\\0>")?;
+            given(&mut GsubVerb::new(alloc, gsub), alloc, line)
         }
         Change::Ssub(fields, old) => {
-            let ssub = Ssub {
+            let verb = Ssub {
                 fields: fields_of(alloc, *fields)?,
                 old: Bytes::copy_of(alloc, old)?,
                 by: Bytes::copy_of(alloc, b"\\0")?,
             };
-            Ok(ssub.take(alloc, record)?)
+            given(&mut Each { alloc, verb }, alloc, line)
         }
         Change::RenameFirst(pairs) => {
-            let rename = rename_of(alloc, Which::First, pairs)?;
-            Ok(rename.take(alloc, record)?)
+            let rules = rename_of(alloc, Which::First, pairs)?;
+            renamed(alloc, Rename::Patterns(rules), line)
         }
-        Change::RenameAll(pairs) => Ok(rename_of(alloc, Which::All, pairs)?.take(alloc, record)?),
-        Change::Keep(texts) => fields_kept(alloc, texts, false, record),
-        Change::Drop(texts) => fields_kept(alloc, texts, true, record),
+        Change::RenameAll(pairs) => {
+            let rules = rename_of(alloc, Which::All, pairs)?;
+            renamed(alloc, Rename::Patterns(rules), line)
+        }
+        Change::RenameNamed(pairs) => {
+            renamed(alloc, Rename::Names(renamings_of(alloc, pairs)?), line)
+        }
+        other => selected(alloc, other, line),
+    }
+}
+
+fn renamed(alloc: Global, rename: Rename, line: &str) -> Result<Bytes, Fail> {
+    given(&mut RenameVerb::new(alloc, rename), alloc, line)
+}
+
+/// The record of a line after `cut`, or no records for another change.
+fn selected(alloc: Global, change: &Change, line: &str) -> Result<Bytes, Fail> {
+    match change {
+        Change::Keep(texts) => {
+            let patterns = patterns_of(alloc, texts)?;
+            cut(alloc, CutFields::Patterns(patterns), false, false, line)
+        }
+        Change::Drop(texts) => {
+            let patterns = patterns_of(alloc, texts)?;
+            cut(alloc, CutFields::Patterns(patterns), false, true, line)
+        }
+        Change::KeepNamed(names) => {
+            let names = names_of(alloc, names)?;
+            cut(alloc, CutFields::Names(names), false, false, line)
+        }
+        Change::PickNamed(names) => {
+            let names = names_of(alloc, names)?;
+            cut(alloc, CutFields::Names(names), true, false, line)
+        }
+        Change::DropNamed(names) => {
+            let names = names_of(alloc, names)?;
+            cut(alloc, CutFields::Names(names), false, true, line)
+        }
+        _ => Ok(Bytes::new(alloc)),
     }
 }
 
@@ -155,7 +267,7 @@ type Row = (Change, &'static [u8]);
 const SOME: &str = "a=5,b=xyx,cx=x,d=";
 
 /// The record `SOME` after each change.
-const OF_SOME: [Row; 22] = [
+const OF_SOME: [Row; 25] = [
     (Change::Sub(None), b"a=5,b=<x>yx,cx=<x>,d="),
     (Change::Gsub(None), b"a=5,b=<x>y<x>,cx=<x>,d="),
     (Change::Sub(BZB), b"a=5,b=<x>yx,cx=x,d="),
@@ -178,10 +290,13 @@ const OF_SOME: [Row; 22] = [
     (Change::Drop(&[b".", b"z"]), b""),
     (Change::Keep(&[b"z", b"A"]), b""),
     (Change::Drop(&[b"z", b"A"]), b"a=5,b=xyx,cx=x,d="),
+    (Change::KeepNamed(&[b"d", b"a"]), b"a=5,d="),
+    (Change::PickNamed(&[b"d", b"a"]), b"d=,a=5"),
+    (Change::DropNamed(&[b"d", b"a"]), b"b=xyx,cx=x"),
 ];
 
 /// The record `ab=1,cbb=3`, whose names are rewritten, after each change.
-const OF_NAMED: [Row; 12] = [
+const OF_NAMED: [Row; 13] = [
     (Change::RenameFirst(&[(b"b", b"c")]), b"ac=1,ccb=3"),
     (Change::RenameAll(&[(b"b", b"c")]), b"ac=1,ccc=3"),
     (Change::RenameFirst(&[(b"^.b$", b"cbb")]), b"cbb=1"),
@@ -194,6 +309,10 @@ const OF_NAMED: [Row; 12] = [
     (Change::RenameFirst(&[(b"b", b"b")]), b"ab=1,cbb=3"),
     (Change::RenameFirst(&[(b"", b"x")]), b"xab=1,xcbb=3"),
     (Change::RenameAll(&[(b"^", b"a")]), b"aab=1,acbb=3"),
+    (
+        Change::RenameNamed(&[(b"ab", b"x"), (b"cbb", b"ab")]),
+        b"x=1,ab=3",
+    ),
 ];
 
 /// The second pattern matches the name that the first one made.
@@ -216,8 +335,12 @@ fn patterns_and_texts_change_records(rt: HostRuntime) -> Result<(), Fail> {
         let (line, rows) = *table;
         for (i, row) in rows.iter().enumerate() {
             let (change, want) = row;
-            let made = changed(alloc, change, record_of(alloc, line)?)?;
-            assert_eq!(rt; text_of(alloc, &made)?.as_slice(), *want, "{line} at {i}");
+            let made = changed(alloc, change, line)?;
+            assert_eq!(rt;
+                made.as_slice(),
+                repeated(alloc, want, 3)?.as_slice(),
+                "{line} at {i}"
+            );
         }
     }
     assert_eq!(rt;
@@ -255,39 +378,50 @@ const NAMES: [(&[u8], bool, bool); 4] = [
     (b"z", false, false),
 ];
 
+/// How many records `having-fields` gives of a line that is taken three times.
+fn count_having(alloc: Global, having: HavingFields, line: &str) -> Result<usize, Fail> {
+    let made = given(&mut HavingFieldsVerb::new(alloc, having), alloc, line)?;
+    Ok(
+        made.as_slice()
+            .iter()
+            .filter(|byte| **byte == b'\n')
+            .count(),
+    )
+}
+
 #[test]
 fn patterns_match_the_texts_and_names_of_records(rt: HostRuntime) -> Result<(), Fail> {
     let alloc = rt.alloc();
-    let record = record_of(alloc, SOME)?;
     for (i, row) in PASSES.iter().enumerate() {
         let (text, passes) = *row;
         for others in [false, true] {
-            let pattern = pattern_of(alloc, text)?;
             let grep = Grep {
                 either_case: false,
                 others,
-                pattern,
+                pattern: pattern_of(alloc, text)?,
             };
-            assert_eq!(rt; grep.passes(alloc, &record)?, passes != others, "text {i}");
+            let made = given(&mut GrepVerb::new(alloc, grep), alloc, SOME)?;
+            let times = if passes != others { 3 } else { 0 };
+            let want = repeated(alloc, SOME.as_bytes(), times)?;
+            assert_eq!(rt; made.as_slice(), want.as_slice(), "text {i}");
         }
     }
-    let none = Record::new(alloc)?;
     for (i, row) in NAMES.iter().enumerate() {
         let (text, all, any) = *row;
-        let pattern = pattern_of(alloc, text)?;
-        assert_eq!(rt;
-            all_names_match(alloc, &pattern, &record)?,
-            all,
-            "names {i}"
-        );
-        assert_eq!(rt;
-            any_name_matches(alloc, &pattern, &record)?,
-            any,
-            "names {i}"
-        );
-        assert!(rt; !all_names_match(alloc, &pattern, &none)?, "names {i}");
-        assert!(rt; !any_name_matches(alloc, &pattern, &none)?, "names {i}");
+        for line in [SOME, ""] {
+            let times = if line == SOME { 3 } else { 0 };
+            let having = HavingFields::AllMatching(pattern_of(alloc, text)?);
+            let count = count_having(alloc, having, line)?;
+            assert_eq!(rt; count, if all { times } else { 0 }, "names {i}");
+            let having = HavingFields::AnyMatching(pattern_of(alloc, text)?);
+            let count = count_having(alloc, having, line)?;
+            assert_eq!(rt; count, if any { times } else { 0 }, "names {i}");
+        }
     }
+    let having = HavingFields::AllDefined(names_of(alloc, &[b"a", b"d"])?);
+    assert_eq!(rt; count_having(alloc, having, SOME)?, 0);
+    let having = HavingFields::AtLeast(names_of(alloc, &[b"a", b"d"])?);
+    assert_eq!(rt; count_having(alloc, having, SOME)?, 3);
     Ok(())
 }
 
@@ -305,6 +439,30 @@ fn are_two(fields: &SubFields) -> bool {
     match fields {
         SubFields::All => false,
         SubFields::Named(names) => names.len() == 2 && names.has(b"a") && names.has(LONG),
+    }
+}
+
+/// Whether the fields are those of one pattern.
+fn is_one_pattern(fields: &CutFields) -> bool {
+    match fields {
+        CutFields::Names(_) => false,
+        CutFields::Patterns(patterns) => patterns.len() == 1,
+    }
+}
+
+/// Whether a record passes that has no other field than one.
+fn is_at_most_one(having: &HavingFields) -> bool {
+    match having {
+        HavingFields::AtMost(names) => names.len() == 1,
+        _ => false,
+    }
+}
+
+/// Whether one field is renamed by its name.
+fn is_one_renaming(rename: &Rename) -> bool {
+    match rename {
+        Rename::Names(renamings) => renamings.len() == 1,
+        Rename::Patterns(_) => false,
     }
 }
 
@@ -346,5 +504,18 @@ fn copies_have_the_parts_of_their_verbs(rt: HostRuntime) -> Result<(), Fail> {
     for (rule, copied) in rename.pairs.iter().zip(copy.pairs.iter()) {
         assert!(rt; copied.1 == rule.1 && is_xy(alloc, &copied.0)?);
     }
+    let cut = Cut {
+        fields: CutFields::Patterns(patterns_of(alloc, &[XY])?),
+        ordered: true,
+        complement: true,
+    };
+    let copy = cut.copy(alloc)?;
+    assert!(rt; copy.ordered && copy.complement && is_one_pattern(&copy.fields));
+    let having = HavingFields::AtMost(names_of(alloc, &[b"a"])?);
+    let copy = having.copy(alloc)?;
+    assert!(rt; is_at_most_one(&copy));
+    let rename = Rename::Names(renamings_of(alloc, &[(b"a", LONG)])?);
+    let copy = rename.copy(alloc)?;
+    assert!(rt; is_one_renaming(&copy));
     Ok(())
 }

@@ -1,7 +1,7 @@
 -- The last element of a list.
 use Rattle.std.proofs.Common.{◌≡◌, List, [], ◌∷◌, ◌++◌, Some, refl, ap}
 use Rattle.std.specs.Option.{unwrap_or}
-use Rattle.verbs_state.specs.Streaming.{last}
+use Rattle.verbs_state.specs.Last.{last}
 
 pub last-push : {A : Type 0} (xs : List A) (x : A) → last (xs ++ x ∷ []) ≡ Some x
 last-push [] x = refl

@@ -1,6 +1,9 @@
+mod Rows
 mod Lasts
-mod FillingDown
+mod Filling
 mod Gaps
 mod Names
-mod Regularizing
+mod Regular
+mod Rearranged
+mod Whole
 pub mod Crosses

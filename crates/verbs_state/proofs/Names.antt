@@ -1,22 +1,22 @@
 -- The names of a record's fields, in the record's order and sorted.
-use Rattle.std.proofs.Common.{Bor, ◌≡◌, ℕ, ◌+◌, ◌<◌, Bool, true, false, cond, not, ◌||◌, List, [], ◌∷◌, ◌++◌, map, length, drop, take, get_or, Option, Some, None, slice_get, refl, ap, ap₂, sym, ◌∙◌, append_assoc, arith}
+use Rattle.std.proofs.Common.{Bor, ◌≡◌, ℕ, ◌+◌, ◌<◌, Bool, true, false, cond, not, List, [], ◌∷◌, ◌++◌, map, length, drop, take, get_or, Some, slice_get, refl, ap, sym, ◌∙◌, append_assoc, arith}
 use Rattle.std.specs.List.{filter, filter_map, list_any}
 use Rattle.std.specs.Option.{option_map}
 use Rattle.std.specs.Str.{bytes_eq}
-use Rattle.std.proofs.lemmas.Bool.{and_from, and_parts, cond_both, not-true, not_from_false, or_from, or_parts}
+use Rattle.std.proofs.lemmas.Bool.{and_from, and_parts, not-true, not_from_false, or_from, or_parts}
 use Rattle.std.proofs.lemmas.List.{take_more_same}
 use Rattle.std.proofs.lemmas.Option.{get_or_from_slice_get, slice_get-map}
 use Rattle.std.proofs.lemmas.Slice.Eq.{bytes_eq-Decides}
 use Rattle.mlr_spec.specs.Tree.{Tree, absent}
-use Rattle.mlr_spec.specs.Pairs.{are_distinct, keys_of, value_at}
+use Rattle.mlr_spec.specs.Pairs.{are_distinct, keys_of}
 use Rattle.mlr_spec.proofs.Flattening.{drop-more}
 use Rattle.mlr_event.specs.Reading.{is_among}
 use Rattle.mlr_event.proofs.Distinct.{bytes_eq-swap}
 use Rattle.mlr_event.proofs.Putting.{length-keys}
-use Rattle.verbs_fields.specs.Choosing.{named, once, picked}
+use Rattle.verbs_base.specs.Choosing.{named, once, picked}
 use Rattle.verbs_fields.specs.Sorting.{by_name, insert_by_name, is_before}
-use Rattle.verbs_state.specs.Regularizing.{sorted_names}
-use Rattle.verbs_state.specs.Streaming.{Fields}
+use Rattle.verbs_state.specs.Regularize.{sorted_names}
+use Rattle.verbs_base.specs.Records.{Fields}
 
 -- one more name after those that were taken
 pub names-more : (into after : List (List ℕ)) (pairs : Fields) (place : ℕ) (entry : List ℕ × Tree) → slice_get pairs place ≡ Some entry → after ≡ into ++ entry.0 ∷ [] → into ++ keys_of (drop place pairs) ≡ keys_of pairs

@@ -1,21 +1,40 @@
-//! `fill-down`: fields filled with the last values of earlier records.
+//! `fill-down`: fills fields with the last values of earlier records.
 ghost use Rattle.std.specs.Prelude.{◌≡◌, ◌++◌, ◌∷◌, [], List, None, Some, true, IfOk, OnOk, length, map, replicate, vec_len};
 ghost use Rattle.std.specs.List.{fold};
 ghost use Rattle.std.specs.Option.{option_map, option_or};
 ghost use Rattle.mlr_value.specs.Value.{tree_of};
-ghost use Rattle.verbs_state.specs.FillingDown.{KeepsLast, fill_down, filled, is_wanting, last_carried, carried};
-ghost use Rattle.verbs_state.specs.Streaming.{Fields};
+ghost use Rattle.verbs_base.specs.Records.{Fields};
+ghost use Rattle.verbs_state.specs.FillDown.{KeepsLast, fill_down, filled, is_wanting, last_carried, carried};
 
-use crate::options::FillDown;
-use crate::streaming::Stream;
-use mlr_event::{Ctx, Event, Events};
+use mlr_event::{Ctx, Event, Events, Names};
 use mlr_record::Record;
 use mlr_spec::NoMemory;
 use mlr_value::Value;
 use std::alloc::Global;
 use std::mem::replace;
+use verbs_base::Stateful;
 
-/// `fill-down`: it keeps the last value of each named field.
+/// The options of `fill-down`.
+#[derive(Drop)]
+pub struct FillDown {
+    pub names: Names,
+    /// Whether the fields to fill are those that are present and empty, rather than those that are absent.
+    pub blank: bool,
+}
+
+impl FillDown {
+    /// A copy. It allocates for the names.
+    pub fn copy(&self, _: Global) -> Result<Self, NoMemory>
+        ensures { IfOk result (λ copy. copy ≡ self.now) }
+    {
+        Ok(FillDown {
+            names: self.names.copy()?,
+            blank: self.blank,
+        })
+    }
+}
+
+/// The verb `fill-down`, which keeps the last value of each named field.
 #[derive(Drop)]
 pub struct FillDownVerb {
     alloc: Global,
@@ -26,9 +45,9 @@ pub struct FillDownVerb {
 impl FillDownVerb {
     /// The verb with these options, before the first record. It allocates room for a value for each name.
     pub fn new(alloc: Global, options: FillDown) -> Result<Self, NoMemory>
-        ensures meaning { IfOk result (λ made. ⟦<FillDownVerb as Stream>⟧.meaning made
+        ensures meaning { IfOk result (λ made. ⟦<FillDownVerb as Stateful>⟧.meaning made
             ≡ fill_down options) }
-        ensures represents { IfOk result (λ made. ⟦<FillDownVerb as Stream>⟧.represents made []) }
+        ensures represents { IfOk result (λ made. ⟦<FillDownVerb as Stateful>⟧.represents made []) }
     {
         let kept = no_values(alloc, options.names.len())?;
         Ok(FillDownVerb {
@@ -39,15 +58,16 @@ impl FillDownVerb {
     }
 }
 
-impl Stream for FillDownVerb {
-    ghost use Rattle.verbs_state.specs.FillingDown.{KeepsLast, fill_down};
-    ghost use Rattle.verbs_state.specs.Laws.{never-shuts};
+impl Stateful for FillDownVerb {
+    ghost use Rattle.verbs_base.specs.Laws.{stream-shuts};
+    ghost use Rattle.verbs_base.specs.Records.{records};
+    ghost use Rattle.verbs_state.specs.FillDown.{FillDownRepresents, fill_down, fill_down_gives};
 
     ghost meaning = { λ s. fill_down s.options };
 
-    ghost represents = { λ s before. KeepsLast s.options s.kept.items before };
+    ghost represents = { λ s before. FillDownRepresents s (records before) };
 
-    ghost shuts = { λ s. never-shuts (fill_down s.options).gives };
+    ghost shuts = { λ s. stream-shuts (fill_down_gives s.options) };
 
     fn take(&mut self, fields: Record, ctx: Ctx, out: &mut Events) -> Result<(), NoMemory> {
         let mut fields = fields;
@@ -55,8 +75,16 @@ impl Stream for FillDownVerb {
         out.push(Event::Rec(fields, ctx))
     }
 
+    fn finish(&mut self, _: Ctx, _: &mut Events) -> Result<(), NoMemory> {
+        Ok(())
+    }
+
     fn is_shut(&self) -> bool {
         false
+    }
+
+    fn never_shuts(&self) -> bool {
+        true
     }
 }
 

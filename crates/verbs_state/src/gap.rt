@@ -1,13 +1,11 @@
-//! `gap`: records without fields between other records.
-ghost use Rattle.std.specs.Prelude.{◌≡◌, ◌++◌, ◌∷◌, ◌+◌, [], List, ℕ, IfOk, OnOk, not, if◌then◌else◌};
+//! `gap`: puts records without fields between others.
+ghost use Rattle.std.specs.Prelude.{◌≡◌, ◌++◌, ◌∷◌, ◌+◌, [], List, ℕ, IfOk, IsOk, OnOk, not, if◌then◌else◌};
 ghost use Rattle.std.specs.Str.{bytes_eq};
 ghost use Rattle.mlr_groups.specs.Grouping.{texts_of};
 ghost use Rattle.mlr_groups.specs.Keys.{key_of};
-ghost use Rattle.verbs_state.specs.Gaps.{IsLastKey, IsSoundGap, RepresentsAfter, gap_of, is_apart};
-ghost use Rattle.verbs_state.specs.Streaming.{Fields, rows};
+ghost use Rattle.verbs_base.specs.Records.{Fields, with_context};
+ghost use Rattle.verbs_state.specs.Gap.{IsLastKey, IsSoundGap, RepresentsAfter, gap, is_apart};
 
-use crate::options::Gap;
-use crate::streaming::Stream;
 use mlr_event::{Ctx, Event, Events, Names};
 use mlr_groups::{append_texts, next_count};
 use mlr_record::Record;
@@ -15,8 +13,31 @@ use mlr_spec::NoMemory;
 use mlr_value::Bytes;
 use std::alloc::Global;
 use std::mem::swap;
+use verbs_base::Stateful;
 
-/// `gap`: it counts the records, and keeps the key of the last record's grouping texts.
+/// Where `gap` puts a record without fields.
+#[derive(Drop)]
+pub enum Gap {
+    /// After every this many records; at least 1.
+    Count(u64),
+    /// Where the texts of these fields change.
+    Groups(Names),
+}
+
+impl Gap {
+    /// A copy. It allocates for the names of the grouping fields.
+    pub fn copy(&self, _: Global) -> Result<Self, NoMemory>
+        ensures same { IfOk result (λ copy. copy ≡ self.now) }
+        ensures count { (n : ℕ) → self.now ≡ Gap.Count n → IsOk result }
+    {
+        Ok(match self {
+            Gap::Count(count) => Gap::Count(*count),
+            Gap::Groups(names) => Gap::Groups(names.copy()?),
+        })
+    }
+}
+
+/// The verb `gap`, which counts the records, and keeps the key of the last record's grouping texts.
 #[derive(Drop)]
 pub struct GapVerb {
     alloc: Global,
@@ -30,8 +51,8 @@ impl GapVerb {
     /// The verb with these options, before the first record. It doesn't allocate.
     pub fn new(alloc: Global, options: Gap) -> Self
         requires { IsSoundGap options }
-        ensures meaning { ⟦<GapVerb as Stream>⟧.meaning result ≡ gap_of options }
-        ensures represents { ⟦<GapVerb as Stream>⟧.represents result [] }
+        ensures meaning { ⟦<GapVerb as Stateful>⟧.meaning result ≡ gap options }
+        ensures represents { ⟦<GapVerb as Stateful>⟧.represents result [] }
     {
         GapVerb {
             alloc,
@@ -43,15 +64,16 @@ impl GapVerb {
     }
 }
 
-impl Stream for GapVerb {
-    ghost use Rattle.verbs_state.specs.Gaps.{RepresentsAfter, gap_of};
-    ghost use Rattle.verbs_state.specs.Laws.{never-shuts};
+impl Stateful for GapVerb {
+    ghost use Rattle.verbs_base.specs.Laws.{stream-shuts};
+    ghost use Rattle.verbs_base.specs.Records.{records};
+    ghost use Rattle.verbs_state.specs.Gap.{GapRepresents, gap, gap_gives};
 
-    ghost meaning = { λ s. gap_of s.options };
+    ghost meaning = { λ s. gap s.options };
 
-    ghost represents = { λ s before. RepresentsAfter s.options s.count s.key before };
+    ghost represents = { λ s before. GapRepresents s (records before) };
 
-    ghost shuts = { λ s. never-shuts (gap_of s.options).gives };
+    ghost shuts = { λ s. stream-shuts (gap_gives s.options) };
 
     fn take(&mut self, fields: Record, ctx: Ctx, out: &mut Events) -> Result<(), NoMemory> {
         let (key, room) = (&mut self.key, &mut self.room);
@@ -60,8 +82,16 @@ impl Stream for GapVerb {
         push_after(self.alloc, apart, fields, ctx, out)
     }
 
+    fn finish(&mut self, _: Ctx, _: &mut Events) -> Result<(), NoMemory> {
+        Ok(())
+    }
+
     fn is_shut(&self) -> bool {
         false
+    }
+
+    fn never_shuts(&self) -> bool {
+        true
     }
 }
 
@@ -100,7 +130,7 @@ fn push_after(
     out: &mut Events,
 ) -> Result<(), NoMemory>
     ensures { OnOk result (out.new ≡ out.old
-        ++ rows ctx (if apart then [] ∷ fields ∷ [] else fields ∷ [])) }
+        ++ with_context ctx (if apart then [] ∷ fields ∷ [] else fields ∷ [])) }
 {
     if apart {
         out.push(Event::Rec(Record::of_fields(alloc, Vec::new(alloc)), ctx))?;

@@ -1,20 +1,26 @@
-//! The streaming verbs that keep state: the records that each gives for a record depend on the records before
-//! it. `Stream` is the contract of all streaming verbs, also of those without state.
+//! The verbs whose output for a record depends on the records before it, with `repeat`, which gives a record
+//! several times, and `nothing`, which gives none.
 #![tactic(auto)]
 
-mod copies;
-mod counting;
+mod cat;
+mod counted;
+mod decimate;
 mod fill_down;
 mod gap;
-mod options;
+mod head;
+mod laws;
+mod nothing;
 mod regularize;
-mod streaming;
+mod repeat;
 #[cfg(test)]
 mod tests;
 
-pub use counting::{CatVerb, DecimateVerb, HeadVerb};
-pub use fill_down::FillDownVerb;
-pub use gap::GapVerb;
-pub use options::{Cat, Decimate, FillDown, Gap, Head};
+pub use cat::{Cat, CatVerb};
+pub use decimate::{Decimate, DecimateVerb};
+pub use fill_down::{FillDown, FillDownVerb};
+pub use gap::{Gap, GapVerb};
+pub use head::{Head, HeadVerb};
+pub use laws::{cat_law, head_law, nothing_law, regularize_law};
+pub use nothing::Nothing;
 pub use regularize::RegularizeVerb;
-pub use streaming::{Stream, step};
+pub use repeat::{Repeat, RepeatVerb};

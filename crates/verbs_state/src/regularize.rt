@@ -1,23 +1,22 @@
-//! `regularize`: records with the same names get the same order of fields.
+//! `regularize`: gives records with the same names the same order of fields.
 ghost use Rattle.std.specs.Prelude.{◌≡◌, ◌<◌, ◌++◌, ◌∷◌, [], true, List, ℕ, Some, IfOk, OnOk, length, map, slice_get, slice_index_or};
 ghost use Rattle.mlr_spec.specs.Pairs.{are_distinct, keys_of};
 ghost use Rattle.mlr_groups.specs.Keys.{key_of};
-ghost use Rattle.verbs_fields.specs.Choosing.{picked};
+ghost use Rattle.verbs_base.specs.Choosing.{picked};
+ghost use Rattle.verbs_base.specs.Records.{Fields};
 ghost use Rattle.verbs_fields.specs.Sorting.{by_name};
-ghost use Rattle.verbs_state.specs.Regularizing.{KeepsFirsts, regular, regularize, sorted_names};
-ghost use Rattle.verbs_state.specs.Streaming.{Fields};
+ghost use Rattle.verbs_state.specs.Regularize.{KeepsFirsts, regular, regularize, sorted_names};
 
-use crate::streaming::Stream;
 use mlr_event::{Ctx, Event, Events, Names};
 use mlr_groups::{KeyTable, append_text};
 use mlr_record::Record;
 use mlr_spec::NoMemory;
 use mlr_value::Bytes;
 use std::alloc::Global;
-use verbs_fields::pick_named;
+use verbs_base::{Stateful, pick_named};
 
-/// `regularize`: it keeps the sets of names so far, and for each set the order of the names in its first
-/// record.
+/// The verb `regularize`, which has no options. It keeps the sets of names so far, and for each set the order of
+/// the names in its first record.
 #[derive(Drop)]
 pub struct RegularizeVerb {
     alloc: Global,
@@ -31,8 +30,8 @@ pub struct RegularizeVerb {
 impl RegularizeVerb {
     /// The verb before the first record. It doesn't allocate.
     pub fn new(alloc: Global) -> Self
-        ensures meaning { ⟦<RegularizeVerb as Stream>⟧.meaning result ≡ regularize }
-        ensures represents { ⟦<RegularizeVerb as Stream>⟧.represents result [] }
+        ensures meaning { ⟦<RegularizeVerb as Stateful>⟧.meaning result ≡ regularize }
+        ensures represents { ⟦<RegularizeVerb as Stateful>⟧.represents result [] }
     {
         RegularizeVerb {
             alloc,
@@ -44,15 +43,16 @@ impl RegularizeVerb {
     }
 }
 
-impl Stream for RegularizeVerb {
-    ghost use Rattle.verbs_state.specs.Regularizing.{KeepsFirsts, regularize};
-    ghost use Rattle.verbs_state.specs.Laws.{never-shuts};
+impl Stateful for RegularizeVerb {
+    ghost use Rattle.verbs_base.specs.Laws.{stream-shuts};
+    ghost use Rattle.verbs_base.specs.Records.{records};
+    ghost use Rattle.verbs_state.specs.Regularize.{RegularizeRepresents, regularize};
 
     ghost meaning = { λ s. regularize };
 
-    ghost represents = { λ s before. KeepsFirsts s.sets s.orders.items before };
+    ghost represents = { λ s before. RegularizeRepresents s (records before) };
 
-    ghost shuts = { λ s. never-shuts regularize.gives };
+    ghost shuts = { λ s. stream-shuts regularize.gives };
 
     fn take(&mut self, fields: Record, ctx: Ctx, out: &mut Events) -> Result<(), NoMemory> {
         let (sets, orders, key) = (&mut self.sets, &mut self.orders, &mut self.key);
@@ -60,8 +60,16 @@ impl Stream for RegularizeVerb {
         out.push(Event::Rec(made, ctx))
     }
 
+    fn finish(&mut self, _: Ctx, _: &mut Events) -> Result<(), NoMemory> {
+        Ok(())
+    }
+
     fn is_shut(&self) -> bool {
         false
+    }
+
+    fn never_shuts(&self) -> bool {
+        true
     }
 }
 

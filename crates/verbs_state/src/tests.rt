@@ -1,10 +1,10 @@
 //! The verbs on records that are written as texts, and copies of their options.
 ghost use Rattle.std.specs.Prelude.{◌≡◌, ◌∷◌, ◌++◌, [], List, OnOk};
-ghost use Rattle.mlr_event.specs.declared.event.Event.{Event as SpecEvent};
-ghost use Rattle.verbs_state.specs.Streaming.{records_in};
+ghost use Rattle.verbs_base.specs.Records.{Row};
 
 use crate::{
-    Cat, Decimate, FillDown, FillDownVerb, Gap, GapVerb, Head, RegularizeVerb, Stream, step,
+    Cat, CatVerb, Decimate, DecimateVerb, FillDown, FillDownVerb, Gap, GapVerb, Head, HeadVerb,
+    Nothing, RegularizeVerb, Repeat, RepeatVerb,
 };
 use mlr_event::{Ctx, Event, Events, Names};
 use mlr_record::Record;
@@ -12,6 +12,7 @@ use mlr_spec::{InferOpts, NoMemory};
 use mlr_value::{Bytes, from_data};
 use std::alloc::Global;
 use text_forms::append_shown;
+use verbs_base::{Each, Stateful};
 
 /// The record of a line such as `a=1,b=xyz`, whose values are inferred.
 fn record_of(alloc: Global, line: &str) -> Result<Record, NoMemory> {
@@ -53,47 +54,43 @@ fn shown(alloc: Global, out: &Events) -> Result<Bytes, NoMemory> {
 }
 
 /// Gives a verb a record with its number.
-fn step_record<S: Stream>(
-    verb: &mut S,
+fn step_record<V: Stateful>(
+    verb: &mut V,
     record: Record,
     nr: u64,
     out: &mut Events,
 ) -> Result<(), NoMemory>
-    requires { (given : List SpecEvent) × S.represents verb.old (records_in given) }
-    ensures { OnOk result ((given : List SpecEvent) × S.represents verb.new (records_in given)) }
+    requires { (before : List Row) × V.represents verb.old before }
+    ensures { OnOk result ((before : List Row) × V.represents verb.new before) }
 {
     let at = Ctx {
         nr,
         fnr: nr,
         filenum: 1,
     };
-    step(verb, Event::Rec(record, at), out)
+    verb.pass(Event::Rec(record, at), out)
 }
 
 /// The output of the verb for records, a line for each, and for a text that follows them.
-fn tried<S: Stream + Drop>(alloc: Global, verb: S, lines: &str) -> Result<Bytes, NoMemory>
-    requires { S.represents verb [] }
+fn tried<V: Stateful + Drop>(alloc: Global, verb: V, lines: &str) -> Result<Bytes, NoMemory>
+    requires { V.represents verb [] }
 {
     let mut verb = verb;
     let mut out = Events::new(alloc);
     step_lines(alloc, &mut verb, lines, &mut out)?;
-    step(
-        &mut verb,
-        Event::Text(Bytes::copy_of(alloc, b"text\n")?),
-        &mut out,
-    )?;
+    verb.pass(Event::Text(Bytes::copy_of(alloc, b"text\n")?), &mut out)?;
     shown(alloc, &out)
 }
 
 /// Gives a verb a record for each line.
-fn step_lines<S: Stream>(
+fn step_lines<V: Stateful>(
     alloc: Global,
-    verb: &mut S,
+    verb: &mut V,
     lines: &str,
     out: &mut Events,
 ) -> Result<(), NoMemory>
-    requires { (given : List SpecEvent) × S.represents verb.old (records_in given) }
-    ensures { OnOk result ((given : List SpecEvent) × S.represents verb.new (records_in given)) }
+    requires { (before : List Row) × V.represents verb.old before }
+    ensures { OnOk result ((before : List Row) × V.represents verb.new before) }
 {
     for (nr, line) in lines.split('\n').enumerate() {
         step_record(verb, record_of(alloc, line)?, nr as u64, out)?;
@@ -110,14 +107,62 @@ fn names(alloc: Global, text: &str) -> Result<Names, NoMemory> {
     Ok(made)
 }
 
+/// The names of a text, or None if the text is empty.
+fn groups(alloc: Global, text: &str) -> Result<Option<Names>, NoMemory> {
+    if text.is_empty() {
+        return Ok(None);
+    }
+    Ok(Some(names(alloc, text)?))
+}
+
 /// A verb with its options as plain words, where names are such as `a,b`.
 #[derive(Clone, Copy)]
 enum Verb {
+    /// Whether records are numbered, and the grouping fields.
+    Cat(bool, &'static str),
+    /// The count, whether the first passes, and the grouping fields.
+    Decimate(u64, bool, &'static str),
+    /// The count, and the grouping fields.
+    Head(u64, &'static str),
     /// The names, and whether only empty fields are filled.
     FillDown(&'static str, bool),
     GapAfter(u64),
     GapBetween(&'static str),
+    Nothing,
     Regularize,
+    Repeat(u64),
+    RepeatBy(&'static str),
+}
+
+/// The output of a verb that counts records, for records and a text. One of no records isn't a verb, and has no
+/// output.
+fn counted(alloc: Global, verb: Verb, lines: &str) -> Result<Bytes, NoMemory> {
+    match verb {
+        Verb::Cat(number, text) => {
+            let name = Bytes::copy_of(alloc, b"n")?;
+            let groups = groups(alloc, text)?;
+            let options = Cat {
+                number,
+                name,
+                groups,
+            };
+            tried(alloc, CatVerb::new(alloc, options)?, lines)
+        }
+        Verb::Decimate(count, first, text) if 0 < count => {
+            let groups = groups(alloc, text)?;
+            let options = Decimate {
+                count,
+                first,
+                groups,
+            };
+            tried(alloc, DecimateVerb::new(alloc, options)?, lines)
+        }
+        Verb::Head(count, text) => {
+            let groups = groups(alloc, text)?;
+            tried(alloc, HeadVerb::new(alloc, Head { count, groups })?, lines)
+        }
+        _ => Ok(Bytes::new(alloc)),
+    }
 }
 
 /// The output of a verb for records and a text. A gap after no record isn't a verb, and has no output.
@@ -136,12 +181,22 @@ fn made(alloc: Global, verb: Verb, lines: &str) -> Result<Bytes, NoMemory> {
             let verb = GapVerb::new(alloc, Gap::Groups(names(alloc, text)?));
             tried(alloc, verb, lines)
         }
+        Verb::Nothing => {
+            let verb = Nothing;
+            tried(alloc, Each { alloc, verb }, lines)
+        }
         Verb::Regularize => tried(alloc, RegularizeVerb::new(alloc), lines),
+        Verb::Repeat(count) => tried(alloc, RepeatVerb::new(Repeat::Count(count)), lines),
+        Verb::RepeatBy(name) => {
+            let options = Repeat::Field(Bytes::copy_of(alloc, name.as_bytes())?);
+            tried(alloc, RepeatVerb::new(options), lines)
+        }
+        counting => counted(alloc, counting, lines),
     }
 }
 
 /// A verb, records, and the output for them and for the text.
-const TABLE: [(Verb, &str, &str); 21] = [
+const TABLE: [(Verb, &str, &str); 33] = [
     (
         Verb::FillDown("b", false),
         "a=1,b=2\na=3\na=4,b=\na=5",
@@ -243,6 +298,42 @@ const TABLE: [(Verb, &str, &str); 21] = [
         "ab=1,c=2\na=3,bc=4\nbc=5,a=6\nc=7,ab=8",
         "ab=1,c=2\na=3,bc=4\na=6,bc=5\nab=8,c=7\ntext\n",
     ),
+    (Verb::Cat(false, ""), "a=1\nb=2", "a=1\nb=2\ntext\n"),
+    (
+        Verb::Cat(true, ""),
+        "a=1\nb=2,n=7",
+        "n=1,a=1\nn=2,b=2\ntext\n",
+    ),
+    (
+        Verb::Cat(true, "a"),
+        "a=1\na=2\nb=3\na=1",
+        "n=1,a=1\nn=1,a=2\nn=2,a=1\ntext\n",
+    ),
+    (
+        Verb::Decimate(2, false, ""),
+        "a=1\na=2\na=3\na=4\na=5",
+        "a=2\na=4\ntext\n",
+    ),
+    (
+        Verb::Decimate(2, true, "a"),
+        "a=1\na=2\nb=3\na=1\na=1",
+        "a=1\na=2\na=1\ntext\n",
+    ),
+    (Verb::Head(2, ""), "a=1\na=2\na=3", "a=1\na=2\ntext\n"),
+    (
+        Verb::Head(1, "a"),
+        "a=1,b=2\na=2\nb=3\na=1",
+        "a=1,b=2\na=2\ntext\n",
+    ),
+    (Verb::Nothing, "a=1\na=2", "text\n"),
+    (Verb::Repeat(0), "a=1\na=2", "text\n"),
+    (Verb::Repeat(2), "a=1\na=2", "a=1\na=1\na=2\na=2\ntext\n"),
+    (
+        Verb::RepeatBy("n"),
+        "n=2\na=1\nn=-1\nn=2.0\nn=1",
+        "n=2\nn=2\nn=1\ntext\n",
+    ),
+    (Verb::RepeatBy("n"), "n=0x2", "n=0x2\nn=0x2\ntext\n"),
 ];
 
 #[test]

@@ -1,101 +1,152 @@
 -- A streaming verb may be moved to another thread.
 use denote.Param.Send.{IsSend, sendable}
+use denote.Param.SendFields.{as_row_send, variants_send}
 use Rattle.std.proofs.Crossing.{crosses}
-use Rattle.mlr_value.proofs.bytes.Bytes.TheSendSync as bytes
-use Rattle.mlr_event.proofs.field_names.Names.TheSendSync as names
-use Rattle.mlr_pattern.proofs.Crosses.{crosses_regex}
-use Rattle.mlr_pattern.specs.contracts.patterns.Patterns
-use Rattle.verbs_fields.proofs.naming.Renaming.TheSendSync as renaming
-use Rattle.verbs_fields.proofs.spaces.Unspace.TheSendSync as unspace
-use Rattle.verbs_pattern.proofs.Crosses.{crosses_patterned}
-use Rattle.verbs_pattern.proofs.ssub.Ssub.TheSendSync as ssub
-use Rattle.verbs_state.proofs.Crosses.{crosses_options, crosses_state}
-use Rattle.verbs_values.proofs.fill_empty.FillEmpty.TheSendSync as fill_empty
-use Rattle.verbs_values.proofs.flatten.Flatten.TheSendSync as flatten
-use Rattle.verbs_values.proofs.json.JsonParse.TheSendSync as json_parse
-use Rattle.verbs_values.proofs.json.JsonStringify.TheSendSync as json_stringify
-use Rattle.verbs_values.proofs.sec2gmt.Sec2Gmt.TheSendSync as sec2gmt
-use Rattle.verbs_values.proofs.sec2gmt.Sec2GmtDate.TheSendSync as sec2gmtdate
-use Rattle.verbs_values.proofs.unflatten.Unflatten.TheSendSync as unflatten
-use Rattle.verbs_stream.specs.contracts.each.Each
-use Rattle.verbs_stream.specs.contracts.kind.Kind
-use Rattle.verbs_stream.specs.contracts.spec.Cut
-use Rattle.verbs_stream.specs.contracts.spec.CutFields
-use Rattle.verbs_stream.specs.contracts.spec.HavingFields
-use Rattle.verbs_stream.specs.contracts.spec.Label
-use Rattle.verbs_stream.specs.contracts.spec.Rename
-use Rattle.verbs_stream.specs.contracts.spec.Reorder
-use Rattle.verbs_stream.specs.contracts.spec.Repeat
-use Rattle.verbs_stream.specs.contracts.spec.Sparsify
-use Rattle.verbs_stream.specs.contracts.spec.Spec
-use Rattle.verbs_stream.specs.contracts.spec.Template
+use Rattle.verbs_base.proofs.over_events.OverEvents.TheSendSync as over_events
+use Rattle.verbs_base.proofs.per_record.Each.TheSendSync as each
+use Rattle.verbs_fields.proofs.Crosses.{crosses_fields}
+use Rattle.verbs_pattern.proofs.Crosses.{CutVerb-send, GrepVerb-send, GsubVerb-send, HavingFieldsVerb-send, RenameVerb-send, SubVerb-send, crosses_patterned}
+use Rattle.verbs_state.proofs.Crosses.{CatVerb-send, DecimateVerb-send, FillDownVerb-send, GapVerb-send, HeadVerb-send, RegularizeVerb-send, RepeatVerb-send, crosses_state}
+use Rattle.verbs_values.proofs.Crosses.{crosses_values}
+use Rattle.verbs_base.specs.contracts.over_events.OverEvents
+use Rattle.verbs_base.specs.contracts.per_record.Each
+use Rattle.verbs_fields.specs.contracts.altkv.Altkv
+use Rattle.verbs_fields.specs.contracts.label.Label
+use Rattle.verbs_fields.specs.contracts.reorder.Reorder
+use Rattle.verbs_fields.specs.contracts.sort_within_records.SortWithinRecords
+use Rattle.verbs_fields.specs.contracts.sparsify.Sparsify
+use Rattle.verbs_fields.specs.contracts.template.Template
+use Rattle.verbs_fields.specs.contracts.unspace.Unspace
+use Rattle.verbs_pattern.specs.contracts.ssub.Ssub
+use Rattle.verbs_state.specs.contracts.nothing.Nothing
+use Rattle.verbs_values.specs.contracts.fill_empty.FillEmpty
+use Rattle.verbs_values.specs.contracts.flatten.Flatten
+use Rattle.verbs_values.specs.contracts.json_parse.JsonParse
+use Rattle.verbs_values.specs.contracts.json_stringify.JsonStringify
+use Rattle.verbs_values.specs.contracts.sec2gmt.Sec2Gmt
+use Rattle.verbs_values.specs.contracts.sec2gmtdate.Sec2GmtDate
+use Rattle.verbs_values.specs.contracts.unflatten.Unflatten
+use Rattle.verbs_pattern.specs.contracts.cut.CutVerb
+use Rattle.verbs_pattern.specs.contracts.grep.GrepVerb
+use Rattle.verbs_pattern.specs.contracts.gsub.GsubVerb
+use Rattle.verbs_pattern.specs.contracts.having_fields.HavingFieldsVerb
+use Rattle.verbs_pattern.specs.contracts.rename.RenameVerb
+use Rattle.verbs_pattern.specs.contracts.sub.SubVerb
+use Rattle.verbs_state.specs.contracts.cat.CatVerb
+use Rattle.verbs_state.specs.contracts.decimate.DecimateVerb
+use Rattle.verbs_state.specs.contracts.fill_down.FillDownVerb
+use Rattle.verbs_state.specs.contracts.gap.GapVerb
+use Rattle.verbs_state.specs.contracts.head.HeadVerb
+use Rattle.verbs_state.specs.contracts.regularize.RegularizeVerb
+use Rattle.verbs_state.specs.contracts.repeat.RepeatVerb
+use Rattle.verbs_stream.specs.contracts.running.Running
 use Rattle.verbs_stream.specs.contracts.verb.StreamVerb
 
--- each of the options
-Patterns-send : IsSend Patterns.the_field.row
-Patterns-send = search (crosses_regex, crosses, sendable) depth 60 fits 20000
+-- the verbs that take each record by itself, as arguments of `Each`
+Altkv-row-send : IsSend Altkv.the_row
+Altkv-row-send = search (crosses_fields, crosses, sendable) depth 60 fits 20000
 
-CutFields-send : IsSend CutFields.the_field.row
-CutFields-send = search (Patterns-send, names.the_send, crosses, sendable) depth 60 fits 20000
+Altkv-send : IsSend (Each.the_field Altkv.the_row).row
+Altkv-send = each.the_field_send Altkv.the_row Altkv-row-send
 
-Cut-send : IsSend Cut.the_field.row
-Cut-send = search (CutFields-send, crosses, sendable) depth 60 fits 20000
+Label-row-send : IsSend Label.the_row
+Label-row-send = search (crosses_fields, crosses, sendable) depth 60 fits 20000
 
-HavingFields-send : IsSend HavingFields.the_field.row
-HavingFields-send = search (crosses_regex, names.the_send, crosses, sendable) depth 60 fits 20000
+Label-send : IsSend (Each.the_field Label.the_row).row
+Label-send = each.the_field_send Label.the_row Label-row-send
 
-Label-send : IsSend Label.the_field.row
-Label-send = search (names.the_send, crosses, sendable) depth 60 fits 20000
+Reorder-row-send : IsSend Reorder.the_row
+Reorder-row-send = search (crosses_fields, crosses, sendable) depth 60 fits 20000
 
-Rename-send : IsSend Rename.the_field.row
-Rename-send = search (crosses_patterned, renaming.the_send, crosses, sendable) depth 60 fits 20000
+Reorder-send : IsSend (Each.the_field Reorder.the_row).row
+Reorder-send = each.the_field_send Reorder.the_row Reorder-row-send
 
-Reorder-send : IsSend Reorder.the_field.row
-Reorder-send = search (names.the_send, crosses, sendable) depth 60 fits 20000
+SortWithinRecords-row-send : IsSend SortWithinRecords.the_row
+SortWithinRecords-row-send = search (crosses_fields, crosses, sendable) depth 60 fits 20000
 
-Repeat-send : IsSend Repeat.the_field.row
-Repeat-send = search (bytes.the_send, crosses, sendable) depth 60 fits 20000
+SortWithinRecords-send : IsSend (Each.the_field SortWithinRecords.the_row).row
+SortWithinRecords-send = each.the_field_send SortWithinRecords.the_row SortWithinRecords-row-send
 
-Sparsify-send : IsSend Sparsify.the_field.row
-Sparsify-send = search (names.the_send, crosses, sendable) depth 60 fits 20000
+Sparsify-row-send : IsSend Sparsify.the_row
+Sparsify-row-send = search (crosses_fields, crosses, sendable) depth 60 fits 20000
 
-Template-send : IsSend Template.the_field.row
-Template-send = search (names.the_send, bytes.the_send, crosses, sendable) depth 60 fits 20000
+Sparsify-send : IsSend (Each.the_field Sparsify.the_row).row
+Sparsify-send = each.the_field_send Sparsify.the_row Sparsify-row-send
 
--- all options, and the verb
-ruleset of_options = (
-  crosses_patterned,
-  Cut-send,
-  HavingFields-send,
-  Label-send,
-  Rename-send,
-  Reorder-send,
-  Repeat-send,
-  Sparsify-send,
-  Template-send,
-  unspace.the_field_send,
-  ssub.the_field_send,
-  fill_empty.the_field_send,
-  flatten.the_field_send,
-  json_parse.the_field_send,
-  json_stringify.the_field_send,
-  sec2gmt.the_field_send,
-  sec2gmtdate.the_field_send,
-  unflatten.the_field_send,
-  crosses_options,
-)
+Template-row-send : IsSend Template.the_row
+Template-row-send = search (crosses_fields, crosses, sendable) depth 60 fits 20000
 
-Spec-send : IsSend Spec.the_field.row
-Spec-send = search (of_options, crosses, sendable) depth 60 fits 20000
+Template-send : IsSend (Each.the_field Template.the_row).row
+Template-send = each.the_field_send Template.the_row Template-row-send
 
-Each-send : IsSend Each.the_field.row
-Each-send = search (Spec-send, crosses, sendable) depth 60 fits 20000
+Unspace-row-send : IsSend Unspace.the_row
+Unspace-row-send = search (crosses_fields, crosses, sendable) depth 60 fits 20000
 
-Kind-send : IsSend Kind.the_field.row
-Kind-send = search (Each-send, crosses_state, crosses, sendable) depth 60 fits 20000
+Unspace-send : IsSend (Each.the_field Unspace.the_row).row
+Unspace-send = each.the_field_send Unspace.the_row Unspace-row-send
+
+Ssub-row-send : IsSend Ssub.the_row
+Ssub-row-send = search (crosses_patterned, crosses, sendable) depth 60 fits 20000
+
+Ssub-send : IsSend (Each.the_field Ssub.the_row).row
+Ssub-send = each.the_field_send Ssub.the_row Ssub-row-send
+
+Nothing-row-send : IsSend Nothing.the_row
+Nothing-row-send = search (crosses_state, crosses, sendable) depth 60 fits 20000
+
+Nothing-send : IsSend (Each.the_field Nothing.the_row).row
+Nothing-send = each.the_field_send Nothing.the_row Nothing-row-send
+
+FillEmpty-row-send : IsSend FillEmpty.the_row
+FillEmpty-row-send = search (crosses_values, crosses, sendable) depth 60 fits 20000
+
+FillEmpty-send : IsSend (Each.the_field FillEmpty.the_row).row
+FillEmpty-send = each.the_field_send FillEmpty.the_row FillEmpty-row-send
+
+Flatten-row-send : IsSend Flatten.the_row
+Flatten-row-send = search (crosses_values, crosses, sendable) depth 60 fits 20000
+
+Flatten-send : IsSend (Each.the_field Flatten.the_row).row
+Flatten-send = each.the_field_send Flatten.the_row Flatten-row-send
+
+JsonParse-row-send : IsSend JsonParse.the_row
+JsonParse-row-send = search (crosses_values, crosses, sendable) depth 60 fits 20000
+
+JsonParse-send : IsSend (Each.the_field JsonParse.the_row).row
+JsonParse-send = each.the_field_send JsonParse.the_row JsonParse-row-send
+
+JsonStringify-row-send : IsSend JsonStringify.the_row
+JsonStringify-row-send = search (crosses_values, crosses, sendable) depth 60 fits 20000
+
+JsonStringify-send : IsSend (Each.the_field JsonStringify.the_row).row
+JsonStringify-send = each.the_field_send JsonStringify.the_row JsonStringify-row-send
+
+Sec2Gmt-row-send : IsSend Sec2Gmt.the_row
+Sec2Gmt-row-send = search (crosses_values, crosses, sendable) depth 60 fits 20000
+
+Sec2Gmt-send : IsSend (Each.the_field Sec2Gmt.the_row).row
+Sec2Gmt-send = each.the_field_send Sec2Gmt.the_row Sec2Gmt-row-send
+
+Sec2GmtDate-row-send : IsSend Sec2GmtDate.the_row
+Sec2GmtDate-row-send = search (crosses_values, crosses, sendable) depth 60 fits 20000
+
+Sec2GmtDate-send : IsSend (Each.the_field Sec2GmtDate.the_row).row
+Sec2GmtDate-send = each.the_field_send Sec2GmtDate.the_row Sec2GmtDate-row-send
+
+Unflatten-row-send : IsSend Unflatten.the_row
+Unflatten-row-send = search (crosses_values, crosses, sendable) depth 60 fits 20000
+
+Unflatten-send : IsSend (Each.the_field Unflatten.the_row).row
+Unflatten-send = each.the_field_send Unflatten.the_row Unflatten-row-send
+
+Running-row-send : IsSend Running.the_row
+Running-row-send = variants_send Running.enum ((as_row_send (Each.the_field Altkv.the_row) Altkv-send, tt), ((as_row_send CatVerb.the_field CatVerb-send, tt), ((as_row_send CutVerb.the_field CutVerb-send, tt), ((as_row_send DecimateVerb.the_field DecimateVerb-send, tt), ((as_row_send FillDownVerb.the_field FillDownVerb-send, tt), ((as_row_send (Each.the_field FillEmpty.the_row) FillEmpty-send, tt), ((as_row_send (Each.the_field Flatten.the_row) Flatten-send, tt), ((as_row_send GapVerb.the_field GapVerb-send, tt), ((as_row_send GrepVerb.the_field GrepVerb-send, tt), ((as_row_send GsubVerb.the_field GsubVerb-send, tt), ((as_row_send HavingFieldsVerb.the_field HavingFieldsVerb-send, tt), ((as_row_send HeadVerb.the_field HeadVerb-send, tt), ((as_row_send (Each.the_field JsonParse.the_row) JsonParse-send, tt), ((as_row_send (Each.the_field JsonStringify.the_row) JsonStringify-send, tt), ((as_row_send (Each.the_field Label.the_row) Label-send, tt), ((as_row_send (Each.the_field Nothing.the_row) Nothing-send, tt), ((as_row_send RegularizeVerb.the_field RegularizeVerb-send, tt), ((as_row_send RenameVerb.the_field RenameVerb-send, tt), ((as_row_send (Each.the_field Reorder.the_row) Reorder-send, tt), ((as_row_send RepeatVerb.the_field RepeatVerb-send, tt), ((as_row_send (Each.the_field Sec2Gmt.the_row) Sec2Gmt-send, tt), ((as_row_send (Each.the_field Sec2GmtDate.the_row) Sec2GmtDate-send, tt), ((as_row_send (Each.the_field SortWithinRecords.the_row) SortWithinRecords-send, tt), ((as_row_send (Each.the_field Sparsify.the_row) Sparsify-send, tt), ((as_row_send (Each.the_field Ssub.the_row) Ssub-send, tt), ((as_row_send SubVerb.the_field SubVerb-send, tt), ((as_row_send (Each.the_field Template.the_row) Template-send, tt), ((as_row_send (Each.the_field Unflatten.the_row) Unflatten-send, tt), ((as_row_send (Each.the_field Unspace.the_row) Unspace-send, tt), tt)))))))))))))))))))))))))))))
+
+OverEvents-send : IsSend (OverEvents.the_field Running.the_row).row
+OverEvents-send = over_events.the_field_send Running.the_row Running-row-send
 
 pub StreamVerb-field-send : IsSend StreamVerb.the_field.row
-StreamVerb-field-send = search (Kind-send, crosses, sendable) depth 60 fits 20000
+StreamVerb-field-send = search (OverEvents-send, crosses, sendable) depth 60 fits 20000
 
 pub StreamVerb-send : IsSend StreamVerb.the_row
 StreamVerb-send = search (StreamVerb-field-send, crosses, sendable) depth 60 fits 20000

@@ -1,4 +1,3 @@
-pub mod Kinds
+pub mod Meaning
+pub mod Running
 pub mod TestVerb
-pub mod Each
-pub mod Copies

@@ -1,13 +1,8 @@
-//! The streaming verbs: they give records for each record, which depend on the records before it, and nothing
-//! at the end. `Spec` is a verb with its options, and `StreamVerb` is the verb in a chain.
+//! The streaming verbs: `Spec` is a verb with its options, and `StreamVerb` is the verb in a chain. Each verb has a file of
+//! its own in one of the crates below: verbs on fields, on values, with patterns, and with state.
 #![tactic(auto)]
 
-mod copies;
-mod each;
-mod kind;
-mod options;
-mod outcome;
-mod repeat;
+mod running;
 mod spec;
 #[cfg(test)]
 mod test_rows;
@@ -17,9 +12,15 @@ mod test_verbs;
 mod tests;
 mod verb;
 
-pub use spec::{
-    Cut, CutFields, HavingFields, Label, Rename, Reorder, Repeat, SortWithinRecords, Sparsify,
-    Spec, Template,
-};
+pub use spec::Spec;
 pub use verb::StreamVerb;
-pub use verbs_state::{Cat, Decimate, FillDown, Gap, Head};
+pub use verbs_fields::{
+    Label, Reorder, SortWithinRecords, Sparsify, Template, Unspace, UnspacePart,
+};
+pub use verbs_pattern::{
+    Cut, CutFields, Grep, Gsub, HavingFields, Rename, RenamePatterns, Ssub, Sub, SubFields,
+};
+pub use verbs_state::{Cat, Decimate, FillDown, Gap, Head, Repeat};
+pub use verbs_values::{
+    FillEmpty, Flatten, JsonParse, JsonStringify, Sec2Gmt, Sec2GmtDate, Unflatten,
+};

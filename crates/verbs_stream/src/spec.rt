@@ -1,20 +1,19 @@
 //! The streaming verbs with their options.
-ghost use Rattle.std.specs.Prelude.{◌≡◌, [], IfOk};
-ghost use Rattle.verbs_stream.specs.Each.{IsSound, streaming_of};
+ghost use Rattle.std.specs.Prelude.{◌≡◌, [], IfOk, IsOk};
+ghost use Rattle.verbs_stream.specs.Meaning.{IsShort, IsSound, meaning_of};
 
-use crate::each::Each;
-use crate::kind::Kind;
-use mlr_event::Names;
-use mlr_pattern::{Pattern, Patterns};
+use crate::running::Running;
 use mlr_spec::NoMemory;
-use mlr_value::Bytes;
 use std::alloc::Global;
-use std::sync::Arc;
-use verbs_fields::{Renaming, Unspace};
-use verbs_pattern::{Grep, Gsub, RenamePatterns, Ssub, Sub};
+use verbs_base::{Each, Stateful};
+use verbs_fields::{Altkv, Label, Reorder, SortWithinRecords, Sparsify, Template, Unspace};
+use verbs_pattern::{
+    Cut, CutVerb, Grep, GrepVerb, Gsub, GsubVerb, HavingFields, HavingFieldsVerb, Rename,
+    RenameVerb, Ssub, Sub, SubVerb,
+};
 use verbs_state::{
     Cat, CatVerb, Decimate, DecimateVerb, FillDown, FillDownVerb, Gap, GapVerb, Head, HeadVerb,
-    RegularizeVerb, Stream,
+    Nothing, RegularizeVerb, Repeat, RepeatVerb,
 };
 use verbs_values::{FillEmpty, Flatten, JsonParse, JsonStringify, Sec2Gmt, Sec2GmtDate, Unflatten};
 
@@ -117,113 +116,88 @@ impl Drop for Spec {
     }
 }
 
-/// The options of `cut`.
-#[derive(Drop)]
-pub struct Cut {
-    pub fields: CutFields,
-    /// Whether the kept fields are in the order of the names. It has no effect for patterns.
-    pub ordered: bool,
-    /// Whether the other fields are kept.
-    pub complement: bool,
-}
-
-/// The fields that `cut` selects.
-#[derive(Drop)]
-pub enum CutFields {
-    Names(Names),
-    Patterns(Patterns),
-}
-
-/// The records that `having-fields` passes.
-#[derive(Drop)]
-pub enum HavingFields {
-    /// Those that have fields of all the names.
-    AtLeast(Names),
-    /// Those that have no fields of other names.
-    AtMost(Names),
-    /// Those that have exactly the fields of the names.
-    WhichAre(Names),
-    /// Those that have fields of all the names, none of them empty.
-    AllDefined(Names),
-    /// Those that have a field of one of the names that isn't empty.
-    AnyDefined(Names),
-    /// Those that have a field, and whose names all match the pattern.
-    AllMatching(Arc<Pattern>),
-    /// Those with a name that matches the pattern.
-    AnyMatching(Arc<Pattern>),
-}
-
-/// The names that `label` gives to fields. They are distinct.
-#[derive(Drop)]
-pub struct Label {
-    pub names: Names,
-}
-
-/// The renamings of `rename`.
-#[derive(Drop)]
-pub enum Rename {
-    /// Each name in turn is replaced by another.
-    Names(Vec<Renaming>),
-    /// Each pattern in turn rewrites the names that match it.
-    Patterns(RenamePatterns),
-}
-
-/// The options of `reorder`.
-#[derive(Drop)]
-pub struct Reorder {
-    pub names: Names,
-    /// Whether the named fields are moved to the end.
-    pub last: bool,
-}
-
-/// How many times `repeat` gives a record.
-#[derive(Drop)]
-pub enum Repeat {
-    /// This many times.
-    Count(u64),
-    /// As many times as the int in this field says; not at all if the field is absent, isn't an int or is
-    /// negative.
-    Field(Bytes),
-}
-
-/// The options of `sort-within-records`.
-#[derive(Drop)]
-pub struct SortWithinRecords {
-    /// Whether maps inside are sorted too.
-    pub deep: bool,
-}
-
-/// The options of `sparsify`.
-#[derive(Drop)]
-pub struct Sparsify {
-    /// The fields that may be dropped, or None for all.
-    pub names: Option<Names>,
-}
-
-/// The options of `template`.
-#[derive(Drop)]
-pub struct Template {
-    pub names: Names,
-    /// The value of a missing field.
-    pub fill: Bytes,
-}
-
 impl Spec {
-    /// The verb with these options, before the first record.
-    pub(crate) fn kind(self, alloc: Global) -> Result<Kind, NoMemory>
-        requires { IsSound self }
-        ensures meaning { IfOk result (λ made. ⟦<Kind as Stream>⟧.meaning made
-            ≡ streaming_of self) }
-        ensures represents { IfOk result (λ made. ⟦<Kind as Stream>⟧.represents made []) }
+    /// A copy, which shares the patterns. It allocates lists, and texts of more than 16 bytes.
+    pub fn copy(&self, alloc: Global) -> Result<Self, NoMemory>
+        ensures meaning { IfOk result (λ copy. meaning_of copy ≡ meaning_of self.now) }
+        ensures sound { IfOk result (λ copy. IsSound self.now → IsSound copy) }
+        ensures short { IsShort self.now → IsOk result }
     {
         match self {
-            Spec::Cat(options) => Ok(Kind::Cat(CatVerb::new(alloc, options)?)),
-            Spec::Decimate(options) => Ok(Kind::Decimate(DecimateVerb::new(alloc, options)?)),
-            Spec::FillDown(options) => Ok(Kind::FillDown(FillDownVerb::new(alloc, options)?)),
-            Spec::Gap(options) => Ok(Kind::Gap(GapVerb::new(alloc, options))),
-            Spec::Head(options) => Ok(Kind::Head(HeadVerb::new(alloc, options)?)),
-            Spec::Regularize => Ok(Kind::Regularize(RegularizeVerb::new(alloc))),
-            spec => Ok(Kind::Each(Each { alloc, spec })),
+            Spec::Altkv => Ok(Spec::Altkv),
+            Spec::Cat(options) => Ok(Spec::Cat(options.copy(alloc)?)),
+            Spec::Cut(options) => Ok(Spec::Cut(options.copy(alloc)?)),
+            Spec::Decimate(options) => Ok(Spec::Decimate(options.copy(alloc)?)),
+            Spec::FillDown(options) => Ok(Spec::FillDown(options.copy(alloc)?)),
+            Spec::FillEmpty(options) => Ok(Spec::FillEmpty(options.copy(alloc)?)),
+            Spec::Flatten(options) => Ok(Spec::Flatten(options.copy(alloc)?)),
+            Spec::Gap(options) => Ok(Spec::Gap(options.copy(alloc)?)),
+            Spec::Grep(options) => Ok(Spec::Grep(options.copy(alloc)?)),
+            Spec::Gsub(options) => Ok(Spec::Gsub(options.copy(alloc)?)),
+            Spec::HavingFields(options) => Ok(Spec::HavingFields(options.copy(alloc)?)),
+            Spec::Head(options) => Ok(Spec::Head(options.copy(alloc)?)),
+            Spec::JsonParse(options) => Ok(Spec::JsonParse(options.copy(alloc)?)),
+            Spec::JsonStringify(options) => Ok(Spec::JsonStringify(options.copy(alloc)?)),
+            Spec::Label(options) => Ok(Spec::Label(options.copy(alloc)?)),
+            Spec::Nothing => Ok(Spec::Nothing),
+            Spec::Regularize => Ok(Spec::Regularize),
+            Spec::Rename(options) => Ok(Spec::Rename(options.copy(alloc)?)),
+            Spec::Reorder(options) => Ok(Spec::Reorder(options.copy(alloc)?)),
+            Spec::Repeat(options) => Ok(Spec::Repeat(options.copy(alloc)?)),
+            Spec::Sec2Gmt(options) => Ok(Spec::Sec2Gmt(options.copy(alloc)?)),
+            Spec::Sec2GmtDate(options) => Ok(Spec::Sec2GmtDate(options.copy(alloc)?)),
+            Spec::SortWithinRecords(options) => Ok(Spec::SortWithinRecords(options.copy(alloc)?)),
+            Spec::Sparsify(options) => Ok(Spec::Sparsify(options.copy(alloc)?)),
+            Spec::Ssub(options) => Ok(Spec::Ssub(options.copy(alloc)?)),
+            Spec::Sub(options) => Ok(Spec::Sub(options.copy(alloc)?)),
+            Spec::Template(options) => Ok(Spec::Template(options.copy(alloc)?)),
+            Spec::Unflatten(options) => Ok(Spec::Unflatten(options.copy(alloc)?)),
+            Spec::Unspace(options) => Ok(Spec::Unspace(options.copy(alloc)?)),
+        }
+    }
+
+    /// The verb with these options, before the first record. It allocates for the verb's state.
+    pub(crate) fn running(self, alloc: Global) -> Result<Running, NoMemory>
+        requires { IsSound self }
+        ensures meaning { IfOk result (λ made. ⟦<Running as Stateful>⟧.meaning made
+            ≡ meaning_of self) }
+        ensures represents { IfOk result (λ made. ⟦<Running as Stateful>⟧.represents made []) }
+    {
+        match self {
+            Spec::Altkv => Ok(Running::Altkv(Each { alloc, verb: Altkv })),
+            Spec::Cat(verb) => Ok(Running::Cat(CatVerb::new(alloc, verb)?)),
+            Spec::Cut(verb) => Ok(Running::Cut(CutVerb::new(alloc, verb))),
+            Spec::Decimate(verb) => Ok(Running::Decimate(DecimateVerb::new(alloc, verb)?)),
+            Spec::FillDown(verb) => Ok(Running::FillDown(FillDownVerb::new(alloc, verb)?)),
+            Spec::FillEmpty(verb) => Ok(Running::FillEmpty(Each { alloc, verb })),
+            Spec::Flatten(verb) => Ok(Running::Flatten(Each { alloc, verb })),
+            Spec::Gap(verb) => Ok(Running::Gap(GapVerb::new(alloc, verb))),
+            Spec::Grep(verb) => Ok(Running::Grep(GrepVerb::new(alloc, verb))),
+            Spec::Gsub(verb) => Ok(Running::Gsub(GsubVerb::new(alloc, verb))),
+            Spec::HavingFields(verb) => Ok(Running::HavingFields(HavingFieldsVerb::new(
+                alloc, verb,
+            ))),
+            Spec::Head(verb) => Ok(Running::Head(HeadVerb::new(alloc, verb)?)),
+            Spec::JsonParse(verb) => Ok(Running::JsonParse(Each { alloc, verb })),
+            Spec::JsonStringify(verb) => Ok(Running::JsonStringify(Each { alloc, verb })),
+            Spec::Label(verb) => Ok(Running::Label(Each { alloc, verb })),
+            Spec::Nothing => Ok(Running::Nothing(Each {
+                alloc,
+                verb: Nothing,
+            })),
+            Spec::Regularize => Ok(Running::Regularize(RegularizeVerb::new(alloc))),
+            Spec::Rename(verb) => Ok(Running::Rename(RenameVerb::new(alloc, verb))),
+            Spec::Reorder(verb) => Ok(Running::Reorder(Each { alloc, verb })),
+            Spec::Repeat(verb) => Ok(Running::Repeat(RepeatVerb::new(verb))),
+            Spec::Sec2Gmt(verb) => Ok(Running::Sec2Gmt(Each { alloc, verb })),
+            Spec::Sec2GmtDate(verb) => Ok(Running::Sec2GmtDate(Each { alloc, verb })),
+            Spec::SortWithinRecords(verb) => Ok(Running::SortWithinRecords(Each { alloc, verb })),
+            Spec::Sparsify(verb) => Ok(Running::Sparsify(Each { alloc, verb })),
+            Spec::Ssub(verb) => Ok(Running::Ssub(Each { alloc, verb })),
+            Spec::Sub(verb) => Ok(Running::Sub(SubVerb::new(alloc, verb))),
+            Spec::Template(verb) => Ok(Running::Template(Each { alloc, verb })),
+            Spec::Unflatten(verb) => Ok(Running::Unflatten(Each { alloc, verb })),
+            Spec::Unspace(verb) => Ok(Running::Unspace(Each { alloc, verb })),
         }
     }
 }

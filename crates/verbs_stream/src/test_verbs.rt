@@ -1,6 +1,6 @@
 //! Verbs as plain words and numbers, and their options.
 ghost use Rattle.std.specs.Prelude.{IfOk};
-ghost use Rattle.verbs_stream.specs.Each.{IsSound};
+ghost use Rattle.verbs_stream.specs.Meaning.{IsSound};
 
 use crate::{
     Cat, Cut, CutFields, Decimate, FillDown, Gap, HavingFields, Head, Label, Rename, Reorder,

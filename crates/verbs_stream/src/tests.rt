@@ -1,6 +1,6 @@
 //! The output of verbs for records that are written as texts, and a verb in another thread.
 ghost use Rattle.std.specs.Prelude.{[], OnOk};
-ghost use Rattle.verbs_stream.specs.Each.{IsSound};
+ghost use Rattle.verbs_stream.specs.Meaning.{IsSound};
 ghost use Rattle.verbs_stream.specs.TestVerb.{CanStep};
 
 use crate::test_rows::{COUNTS, FIELDS, ORDERS, RECORDS, Row, VALUES};

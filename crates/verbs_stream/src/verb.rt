@@ -1,25 +1,24 @@
-//! A streaming verb as a verb in a chain.
+//! A streaming verb as a verb of a chain.
 ghost use Rattle.std.specs.Prelude.{◌≡◌, [], IfOk};
-ghost use Rattle.verbs_state.specs.Streaming.{verb_of};
-ghost use Rattle.verbs_stream.specs.Each.{IsSound, streaming_of};
+ghost use Rattle.verbs_base.specs.Records.{verb_of};
+ghost use Rattle.verbs_stream.specs.Meaning.{IsSound, meaning_of};
 
-use crate::kind::Kind;
+use crate::running::Running;
 use crate::spec::Spec;
 use mlr_event::{Event, Events, Step};
 use mlr_spec::NoMemory;
 use std::alloc::Global;
-use verbs_state::{Stream, step};
+use verbs_base::OverEvents;
 
 /// A streaming verb in a chain.
 pub struct StreamVerb {
-    verb: Kind,
-    broken: bool,
+    verb: OverEvents<Running>,
 }
 
 // Written by hand, so that the crates above call it instead of dropping the verbs themselves.
 impl Drop for StreamVerb {
     fn drop(self) {
-        let StreamVerb { verb, broken: _ } = self;
+        let StreamVerb { verb } = self;
         drop(verb);
     }
 }
@@ -29,12 +28,11 @@ impl StreamVerb {
     pub fn new(alloc: Global, spec: Spec) -> Result<Self, NoMemory>
         requires { IsSound spec }
         ensures verb { IfOk result (λ made. ⟦<StreamVerb as Step>⟧.verb made
-            ≡ verb_of (streaming_of spec)) }
+            ≡ verb_of (meaning_of spec)) }
         ensures represents { IfOk result (λ made. ⟦<StreamVerb as Step>⟧.represents made []) }
     {
         Ok(StreamVerb {
-            verb: spec.kind(alloc)?,
-            broken: false,
+            verb: OverEvents::new(spec.running(alloc)?),
         })
     }
 
@@ -42,7 +40,7 @@ impl StreamVerb {
     pub fn of(alloc: Global, spec: &Spec) -> Result<Self, NoMemory>
         requires { IsSound spec.now }
         ensures verb { IfOk result (λ made. ⟦<StreamVerb as Step>⟧.verb made
-            ≡ verb_of (streaming_of spec.now)) }
+            ≡ verb_of (meaning_of spec.now)) }
         ensures represents { IfOk result (λ made. ⟦<StreamVerb as Step>⟧.represents made []) }
     {
         match spec.copy(alloc) {
@@ -53,40 +51,44 @@ impl StreamVerb {
 }
 
 impl Step for StreamVerb {
-    ghost use Rattle.std.specs.Prelude.{◌≡◌, false, true};
     ghost use Rattle.mlr_event.specs.Models.{never-both};
-    ghost use Rattle.verbs_state.specs.Laws.{verb-closes, verb-orderly, verb-quiet};
-    ghost use Rattle.verbs_state.specs.Streaming.{records_in, verb_of};
-    ghost use Rattle.verbs_stream.specs.Kinds.{Represents, kind-shuts, meaning_of};
+    ghost use Rattle.verbs_base.specs.Laws.{verb-closes, verb-orderly, verb-quiet};
+    ghost use Rattle.verbs_stream.specs.Meaning.{meaning_of};
+    ghost use Rattle.verbs_stream.specs.Running.{options_of, stays-shut};
 
-    ghost verb = { λ s. verb_of (meaning_of s.verb) };
+    ghost verb = { λ s. ⟦<OverEvents<Running> as Step>⟧.verb s.verb };
 
-    ghost represents = { λ s given. (s.broken ≡ false) × Represents s.verb (records_in given) };
+    ghost represents = { λ s given. ⟦<OverEvents<Running> as Step>⟧.represents s.verb given };
 
-    ghost broken = { λ s. s.broken ≡ true };
+    ghost broken = { λ s. ⟦<OverEvents<Running> as Step>⟧.broken s.verb };
 
-    ghost whole = { λ s given holds is. never-both s.broken holds.0 is };
+    ghost whole = { λ s given holds is. never-both s.verb.broken holds.0 is };
 
-    ghost quiet = { λ s. verb-quiet (meaning_of s.verb) };
+    ghost quiet = { λ s. verb-quiet (meaning_of (options_of s.verb.verb)) };
 
-    ghost orderly = { λ s. verb-orderly (meaning_of s.verb) };
+    ghost orderly = { λ s. verb-orderly (meaning_of (options_of s.verb.verb)) };
 
-    ghost closes = { λ s. verb-closes (meaning_of s.verb) (kind-shuts s.verb) };
+    ghost closes = { λ s. verb-closes (meaning_of (options_of s.verb.verb))
+        (stays-shut (options_of s.verb.verb)) };
 
     fn step(&mut self, event: Event, out: &mut Events) -> Result<(), NoMemory> {
-        if let Err(error) = step(&mut self.verb, event, out) {
-            self.broken = true;
-            return Err(error);
-        }
-        Ok(())
+        self.verb.step(event, out)
+    }
+
+    fn step_all(&mut self, events: &mut Events, out: &mut Events) -> Result<(), NoMemory> {
+        self.verb.step_all(events, out)
+    }
+
+    fn never_closes(&self) -> bool {
+        self.verb.never_closes()
     }
 
     fn closed(&self) -> bool {
-        self.verb.is_shut()
+        self.verb.closed()
     }
 
     fn has_effects(&self) -> bool {
-        false
+        self.verb.has_effects()
     }
 
     fn passes_all(&self) -> bool {
@@ -94,6 +96,6 @@ impl Step for StreamVerb {
     }
 
     fn is_broken(&self) -> bool {
-        self.broken
+        self.verb.is_broken()
     }
 }

@@ -7,7 +7,7 @@ use Rattle.mlr_json.specs.Answer.{Says}
 use Rattle.mlr_json.specs.Machine.{Outcome, read, syntax, deep, outcome_of}
 use Rattle.mlr_json.specs.Readable.{plain}
 use Rattle.mlr_json.proofs.GrammarAnswer.{outcome-says, outcome-only}
-use Rattle.verbs_values.specs.Json.{value_or_error, decoded}
+use Rattle.verbs_values.specs.JsonValues.{value_or_error, decoded}
 
 said : (text : List ℕ) (outcome : Outcome) → Says plain text outcome → decoded text ≡ value_or_error outcome
 unfolding decoded

@@ -7,7 +7,7 @@ use Rattle.mlr_spec.specs.Tree.{Tree, absent, empty, string, int, fraction, wide
 use Rattle.mlr_spec.specs.Pairs.{put_each, keys_of, are_distinct}
 use Rattle.mlr_spec.specs.Flatten.{leaves_of, flat}
 use Rattle.mlr_spec.proofs.Flattening.{put_each-distinct, put_each-append}
-use Rattle.verbs_values.specs.Flattening.{flattened_field, flattened, is_flattened}
+use Rattle.verbs_values.specs.Flatten.{flattened_field, flattened, is_flattened}
 use Rattle.verbs_values.proofs.Putting.{put_each-again}
 
 -- setting the leaves of a field after other fields

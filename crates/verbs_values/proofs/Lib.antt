@@ -1,3 +1,4 @@
 mod Decoded
 mod Putting
 mod Flattening
+pub mod Crosses

@@ -1,5 +1,8 @@
-pub mod Filling
-pub mod Dates
-pub mod Json
-pub mod Flattening
-pub mod Unflattening
+pub mod FillEmpty
+pub mod Flatten
+pub mod JsonParse
+pub mod JsonStringify
+pub mod JsonValues
+pub mod Sec2Gmt
+pub mod Sec2GmtDate
+pub mod Unflatten

@@ -1,15 +1,13 @@
 //! `fill-empty`: a text in place of each empty value.
-ghost use Rattle.std.specs.Prelude.{◌≡◌, ◌≤◌, true, length, IfOk, IsOk};
-ghost use Rattle.verbs_values.specs.Filling.{filled, fill_empty};
-ghost use Rattle.mlr_value.specs.Value.{tree_of};
+ghost use Rattle.std.specs.Prelude.{◌≡◌, ◌≤◌, length, IfOk, IsOk};
 
 use mlr_record::Record;
 use mlr_spec::{InferOpts, NoMemory};
 use mlr_value::{Bytes, Value, from_data};
 use std::alloc::Global;
-use verbs_base::{Change, change_record, string_of};
+use verbs_base::{Change, PerRecord, change_record, string_of};
 
-/// `fill-empty`: sets each empty value to a text.
+/// The options of `fill-empty`, which sets each empty value to a text.
 #[derive(Drop)]
 pub struct FillEmpty {
     /// `-v`: the text, which is `N/A` by default.
@@ -19,14 +17,6 @@ pub struct FillEmpty {
 }
 
 impl FillEmpty {
-    /// The record with its empty values filled. It allocates only for a text of more than 16 bytes, once for
-    /// each empty value.
-    pub fn take(&self, alloc: Global, from: Record) -> Result<Record, NoMemory>
-        ensures { IfOk result (λ made. made ≡ fill_empty self.now.text self.now.as_string from) }
-    {
-        change_record(self, alloc, from)
-    }
-
     /// A copy. It allocates only for a text of more than 16 bytes.
     pub fn copy(&self, alloc: Global) -> Result<Self, NoMemory>
         ensures same { IfOk result (λ copy. copy ≡ self.now) }
@@ -39,15 +29,28 @@ impl FillEmpty {
     }
 }
 
+impl PerRecord for FillEmpty {
+    ghost use Rattle.verbs_base.specs.Records.{maps};
+    ghost use Rattle.verbs_values.specs.FillEmpty.{fill_empty};
+
+    ghost gives = { λ verb. maps (fill_empty verb) };
+
+    ghost sound = { λ verb. Unit {0} };
+
+    fn made(&mut self, alloc: Global, fields: Record) -> Result<Option<Record>, NoMemory> {
+        Ok(Some(change_record(&*self, alloc, fields)?))
+    }
+}
+
 impl Change for &FillEmpty {
     ghost use Rattle.std.specs.Prelude.{true};
-    ghost use Rattle.verbs_values.specs.Filling.{filled};
+    ghost use Rattle.verbs_values.specs.FillEmpty.{filled};
 
     ghost takes = { λ verb name. true };
 
-    ghost image = { λ verb value. filled verb.now.text verb.now.as_string value };
+    ghost image = { λ verb value. filled verb.now value };
 
-    fn takes(&self, _: &[u8]) -> bool {
+    fn takes(&self, _: &Bytes) -> bool {
         true
     }
 

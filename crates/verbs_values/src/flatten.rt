@@ -1,5 +1,5 @@
 //! `flatten`: fields for the leaves of maps and arrays.
-ghost use Rattle.std.specs.Prelude.{◌≡◌, ◌≤◌, [], true, length, None, IfOk, IsOk, OnOk};
+ghost use Rattle.std.specs.Prelude.{◌≡◌, ◌≤◌, true, length, None, IfOk, IsOk, OnOk};
 ghost use Rattle.std.specs.List.{flat_map, list_any};
 ghost use Rattle.mlr_event.specs.Reading.{is_among};
 ghost use Rattle.mlr_record.specs.Fields.{pair_of, pairs_of};
@@ -7,15 +7,16 @@ ghost use Rattle.mlr_spec.specs.Flatten.{leaves_of};
 ghost use Rattle.mlr_spec.specs.Pairs.{put_each, keys_of, are_distinct};
 ghost use Rattle.mlr_spec.specs.Tree.{is_collection};
 ghost use Rattle.mlr_value.specs.Value.{tree_of};
-ghost use Rattle.verbs_values.specs.Flattening.{flatten, flattened, flattened_field, is_flattened};
+ghost use Rattle.verbs_values.specs.Flatten.{flattened, flattened_field, is_flattened};
 
 use mlr_event::Names;
 use mlr_record::{Field, Record};
 use mlr_spec::NoMemory;
 use mlr_value::{Bytes, Value};
 use std::alloc::Global;
+use verbs_base::PerRecord;
 
-/// `flatten`: replaces a field that holds a map or an array by one field for each of its leaves.
+/// The options of `flatten`, which replaces a field that holds a map or an array by one field for each of its leaves.
 #[derive(Drop)]
 pub struct Flatten {
     /// `-f`: the fields that it takes, or None for all.
@@ -25,16 +26,6 @@ pub struct Flatten {
 }
 
 impl Flatten {
-    /// The flattened record. It allocates only for a record with a map or an array that it takes.
-    pub fn take(&self, alloc: Global, from: Record) -> Result<Record, NoMemory>
-        ensures { IfOk result (λ made. made ≡ flatten self.now.separator self.now.names from) }
-    {
-        match &self.names {
-            Some(names) => flatten_named(alloc, names, self.separator.as_slice(), from),
-            None => flatten_all(self.separator.as_slice(), from),
-        }
-    }
-
     /// A copy. It allocates for the names, and for a separator of more than 16 bytes.
     pub fn copy(&self, alloc: Global) -> Result<Self, NoMemory>
         ensures same { IfOk result (λ copy. copy ≡ self.now) }
@@ -47,6 +38,24 @@ impl Flatten {
     }
 }
 
+impl PerRecord for Flatten {
+    ghost use Rattle.verbs_base.specs.Records.{maps};
+    ghost use Rattle.verbs_values.specs.Flatten.{flatten};
+
+    ghost gives = { λ verb. maps (flatten verb) };
+
+    ghost sound = { λ verb. Unit {0} };
+
+    fn made(&mut self, alloc: Global, fields: Record) -> Result<Option<Record>, NoMemory> {
+        let separator = self.separator.as_slice();
+        Ok(Some(match &self.names {
+            Some(names) => flatten_named(alloc, names, separator, fields)?,
+            None => flatten_all(separator, fields)?,
+        }))
+    }
+}
+
+/// The record with all its fields flattened. It allocates only for a record with a map or an array.
 fn flatten_all(separator: &[u8], from: Record) -> Result<Record, NoMemory>
     ensures { IfOk result (λ made. made ≡ flattened separator.now (λ name. true) from) }
 {
@@ -55,6 +64,7 @@ fn flatten_all(separator: &[u8], from: Record) -> Result<Record, NoMemory>
     Ok(record)
 }
 
+/// The record with the named fields flattened. It allocates only for a record with a map or an array that is named.
 fn flatten_named(
     alloc: Global,
     names: &Names,

@@ -3,7 +3,7 @@ ghost use Rattle.std.specs.Prelude.{◌≡◌, ℕ, List};
 ghost use Rattle.mlr_spec.specs.JsonGrammar.{IsJson};
 ghost use Rattle.mlr_spec.specs.Tree.{Tree, error};
 ghost use Rattle.mlr_json.specs.Readable.{plain};
-ghost use Rattle.verbs_values.specs.Json.{decoded};
+ghost use Rattle.verbs_values.specs.JsonValues.{decoded};
 
 /// The value that a text is decoded to, by the grammar alone: the value of its tokens, or error if it has
 /// none. The function does nothing: its clauses are laws of the definitions.

@@ -9,6 +9,7 @@ use mlr_spec::{InferOpts, NoMemory};
 use mlr_value::{Bytes, Value, append_text, from_data};
 use std::alloc::Global;
 use text_forms::append_shown;
+use verbs_base::PerRecord;
 
 /// A verb with its options as plain texts.
 #[derive(Clone, Copy)]
@@ -90,38 +91,57 @@ fn made(alloc: Global, verb: Verb, from: Record) -> Result<Record, NoMemory> {
     match verb {
         Verb::FillEmpty(text, as_string) => {
             let text = Bytes::copy_of(alloc, text.as_bytes())?;
-            FillEmpty { text, as_string }.copy(alloc)?.take(alloc, from)
+            record_from(alloc, FillEmpty { text, as_string }.copy(alloc)?, from)
         }
         Verb::Sec2Gmt(given) => {
             let names = names(alloc, given)?;
-            Sec2Gmt { names }.copy(alloc)?.take(alloc, from)
+            record_from(alloc, Sec2Gmt { names }.copy(alloc)?, from)
         }
         Verb::Sec2GmtDate(given) => {
             let names = names(alloc, given)?;
-            Sec2GmtDate { names }.copy(alloc)?.take(alloc, from)
+            record_from(alloc, Sec2GmtDate { names }.copy(alloc)?, from)
         }
         Verb::JsonParse(given) => {
             let names = some_names(alloc, given)?;
-            JsonParse { names }.copy(alloc)?.take(alloc, from)
+            record_from(alloc, JsonParse { names }.copy(alloc)?, from)
         }
         Verb::JsonStringify(given) => {
             let names = some_names(alloc, given)?;
-            JsonStringify { names }.copy(alloc)?.take(alloc, from)
+            record_from(alloc, JsonStringify { names }.copy(alloc)?, from)
         }
         Verb::Flatten(given, separator) => {
             let names = some_names(alloc, given)?;
             let separator = Bytes::copy_of(alloc, separator.as_bytes())?;
-            Flatten { names, separator }.copy(alloc)?.take(alloc, from)
+            if 0 < separator.len() {
+                record_from(alloc, Flatten { names, separator }.copy(alloc)?, from)
+            } else {
+                Ok(from)
+            }
         }
         Verb::Unflatten(given, separator) => {
             let names = some_names(alloc, given)?;
             let separator = Bytes::copy_of(alloc, separator.as_bytes())?;
             if 0 < separator.len() {
-                Unflatten { names, separator }.copy(alloc)?.take(from)
+                record_from(alloc, Unflatten { names, separator }.copy(alloc)?, from)
             } else {
                 Ok(from)
             }
         }
+    }
+}
+
+/// The record that a verb gives, or a record without fields if it gives none.
+fn record_from<V: PerRecord + Drop>(
+    alloc: Global,
+    verb: V,
+    from: Record,
+) -> Result<Record, NoMemory>
+    requires { V.sound verb }
+{
+    let mut verb = verb;
+    match verb.made(alloc, from)? {
+        Some(made) => Ok(made),
+        None => Record::new(alloc),
     }
 }
 

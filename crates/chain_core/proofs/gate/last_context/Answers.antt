@@ -1,5 +1,5 @@
-use Rattle.std.proofs.Common.{◌≡◌, ◌<◌, ◌≤◌, ◌-◌, length, take, ap, sym, ◌∙◌, arith}
-use Rattle.chain_core.specs.Chain.{context_or, last_context}
+use Rattle.std.proofs.Common.{◌-◌, take, sym, ◌∙◌, arith}
+use Rattle.chain_core.specs.Chain.{last_context}
 use Rattle.chain_core.proofs.Unclosed.{context-before, never-past}
 use Rattle.chain_core.proofs.gate.last_context.Goals as goal
 

@@ -1,10 +1,9 @@
-use Rattle.std.proofs.Common.{◌≡◌, ◌<◌, ◌++◌, [], List, length, true, ap, sym, ◌∙◌, subst, arith, slice_index_or}
+use Rattle.std.proofs.Common.{◌≡◌, ◌<◌, ◌++◌, List, length, true, ap, sym, ◌∙◌, subst, arith}
 use Rattle.mlr_event.specs.declared.event.Event.{Event}
 use Rattle.mlr_event.specs.Verb.{is_list}
-use Rattle.chain_core.specs.declared.stage.Stage.{Stage}
 use Rattle.chain_core.specs.Chain.{chain_from}
 use Rattle.chain_core.specs.Represents.{GateRepresents, IsSameGate, made_at, verbs_of}
-use Rattle.chain_core.proofs.InOrder.{Coming, InPass, coming, next-represents, pass-begins, pass-next, passed-made, passed-same, passed-represents, rest-none, stage-at}
+use Rattle.chain_core.proofs.InOrder.{coming, next-represents, pass-begins, pass-next, passed-made, passed-same, passed-represents, rest-none, stage-at}
 use Rattle.chain_core.proofs.stage.pass.Goals as goal
 
 pub loop-place-init : goal.loop-place-init

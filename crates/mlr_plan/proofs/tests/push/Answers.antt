@@ -1,6 +1,6 @@
 use Rattle.std.proofs.Common.{List, [], ◌∷◌, ◌++◌, sym, subst}
 use Rattle.verbs_stream.specs.declared.spec.Spec.{Spec}
-use Rattle.verbs_stream.specs.Each.{IsSound}
+use Rattle.verbs_stream.specs.Meaning.{IsSound}
 use Rattle.mlr_plan.specs.declared.verb_spec.VerbSpec.{VerbSpec}
 use Rattle.mlr_plan.specs.declared.verb_spec.VerbSpec.TheVariants.{Stream, Seq}
 use Rattle.mlr_plan.specs.Plans.{AreSound, AreVerbs}

@@ -2,7 +2,7 @@ use Rattle.std.proofs.Common.{ℕ, List, sym, ◌∙◌}
 use Rattle.mlr_spec.specs.Tree.{Tree}
 use Rattle.mlr_value.specs.Value.{tree_of}
 use Rattle.mlr_event.specs.Reading.{is_among}
-use Rattle.verbs_fields.proofs.Tests.{all-here, all-later}
+use Rattle.verbs_fields.proofs.Entries.{all-here, all-later}
 use Rattle.verbs_fields.proofs.having.has_no_others.Goals as goal
 
 pub returns-then-not-has : goal.returns-then-not-has

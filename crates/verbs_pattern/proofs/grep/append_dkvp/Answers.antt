@@ -4,7 +4,7 @@ use Rattle.std.proofs.lemmas.Option.{get_or_from_slice_get, slice_get_within}
 use Rattle.mlr_spec.specs.Tree.{Tree}
 use Rattle.mlr_value.specs.Value.{tree_of}
 use Rattle.text_forms.specs.Dkvp.{pair_text}
-use Rattle.verbs_pattern.specs.Grepping.{record_text}
+use Rattle.verbs_pattern.specs.Grep.{record_text}
 use Rattle.verbs_pattern.proofs.Commas.{put_more}
 use Rattle.verbs_pattern.proofs.grep.append_dkvp.Goals as goal
 

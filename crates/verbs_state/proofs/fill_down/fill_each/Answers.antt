@@ -1,9 +1,9 @@
-use Rattle.std.proofs.Common.{◌≡◌, ◌<◌, ◌≤◌, ◌∙◌, sym, ap, get_or, length, arith}
+use Rattle.std.proofs.Common.{◌≡◌, ◌<◌, ◌≤◌, ◌∙◌, ap, get_or, length, arith}
 use Rattle.std.proofs.lemmas.Grind.{common_steps}
 use Rattle.std.specs.Option.{option_map, option_or}
 use Rattle.mlr_value.specs.Value.{tree_of}
-use Rattle.verbs_state.specs.FillingDown.{carried}
-use Rattle.verbs_state.proofs.FillingDown.{filling-done, filling-more, filling-none, filling-old}
+use Rattle.verbs_state.specs.FillDown.{carried}
+use Rattle.verbs_state.proofs.Filling.{filling-done, filling-more, filling-none, filling-old}
 use Rattle.verbs_state.proofs.fill_down.fill_each.Goals as goal
 
 pub loop-place-init : goal.loop-place-init

@@ -1,7 +1,7 @@
 use Rattle.std.proofs.Common.{◌≡◌, List, length}
-use Rattle.verbs_state.specs.FillingDown.{KeepsLast}
-use Rattle.verbs_state.specs.Streaming.{Fields}
-use Rattle.verbs_state.proofs.FillingDown.{Filling}
+use Rattle.verbs_state.specs.FillDown.{KeepsLast}
+use Rattle.verbs_base.specs.Records.{Fields}
+use Rattle.verbs_state.proofs.Filling.{Filling}
 use Rattle.verbs_state.proofs.fill_down.fill_each.Given as goal
 
 abbrev pub invariant-loop-place : goal.invariant-loop-place

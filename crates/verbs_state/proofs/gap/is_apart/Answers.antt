@@ -1,5 +1,5 @@
 use Rattle.std.proofs.Common.{ap, sym, ◌∙◌}
-use Rattle.verbs_state.specs.Gaps.{is_apart}
+use Rattle.verbs_state.specs.Gap.{is_apart}
 use Rattle.verbs_state.proofs.Gaps.{apart-changed, last_key-push}
 use Rattle.verbs_state.proofs.gap.is_apart.Goals as goal
 

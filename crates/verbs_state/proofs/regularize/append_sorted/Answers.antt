@@ -2,7 +2,7 @@ use Rattle.std.proofs.Common.{Bor, ◌≡◌, ◌++◌, List, ℕ, OnOk, map, ap
 use Rattle.mlr_spec.specs.Pairs.{keys_of}
 use Rattle.mlr_groups.specs.Keys.{key_of}
 use Rattle.verbs_fields.specs.Sorting.{by_name}
-use Rattle.verbs_state.specs.Regularizing.{sorted_names}
+use Rattle.verbs_state.specs.Regularize.{sorted_names}
 use Rattle.verbs_state.proofs.Names.{sorted_names-keys}
 use Rattle.verbs_state.proofs.regularize.append_sorted.Goals as goal
 

@@ -1,10 +1,10 @@
-use Rattle.std.proofs.Common.{◌≡◌, ◌++◌, ◌∷◌, [], ap, ap₂, sym, subst, ◌∙◌, ◌<◌, ◌≤◌, List, ℕ, arith, get_or, length}
+use Rattle.std.proofs.Common.{◌≡◌, ◌++◌, ◌∷◌, [], ap, ap₂, sym, subst, ◌∙◌, arith, get_or}
 use Rattle.std.proofs.Math.Seq.{get_or-append_seam}
 use Rattle.mlr_spec.specs.Pairs.{keys_of}
-use Rattle.verbs_fields.specs.Choosing.{picked}
-use Rattle.verbs_state.specs.Regularizing.{KeepsFirsts}
+use Rattle.verbs_base.specs.Choosing.{picked}
+use Rattle.verbs_state.specs.Regularize.{KeepsFirsts}
 use Rattle.verbs_state.proofs.Names.{picked-own}
-use Rattle.verbs_state.proofs.Regularizing.{entered-known, entered-new, known-keeps, known-regular, new-keeps, new-regular, set_key}
+use Rattle.verbs_state.proofs.Regular.{entered-known, entered-new, known-keeps, known-regular, new-keeps, new-regular, set_key}
 use Rattle.verbs_state.proofs.regularize.enter.Goals as goal
 
 pub returns-else-place-len-clause-order : goal.returns-else-place-len-clause-order

@@ -1,5 +1,5 @@
 use Rattle.std.proofs.Common.{ap, sym, ◌∙◌}
-use Rattle.verbs_fields.specs.Choosing.{picked}
+use Rattle.verbs_base.specs.Choosing.{picked}
 use Rattle.verbs_state.proofs.Names.{picked-own}
 use Rattle.verbs_state.proofs.regularize.in_order.Goals as goal
 

@@ -1,9 +1,9 @@
 use Rattle.std.proofs.Common.{sym, ap, ◌∙◌, slice_get}
 use Rattle.std.proofs.lemmas.Option.{get_or_from_slice_get}
 use Rattle.mlr_spec.specs.Pairs.{keys_of}
-use Rattle.verbs_fields.specs.Choosing.{picked}
+use Rattle.verbs_base.specs.Choosing.{picked}
 use Rattle.verbs_state.proofs.Names.{picked-own}
-use Rattle.verbs_state.proofs.Regularizing.{known-keeps, known-regular, set-at}
+use Rattle.verbs_state.proofs.Regular.{known-keeps, known-regular, set-at}
 use Rattle.verbs_state.proofs.regularize.regular.Goals as goal
 
 pub returns-then-has_order-clause-keeps : goal.returns-then-has_order-clause-keeps

@@ -3,7 +3,7 @@ use Rattle.mlr_event.specs.Reading.{is_among}
 use Rattle.mlr_spec.specs.Tree.{Tree}
 use Rattle.mlr_spec.proofs.Flattening.{any-here, any-later}
 use Rattle.mlr_value.specs.Value.{tree_of}
-use Rattle.verbs_values.specs.Flattening.{is_flattened}
+use Rattle.verbs_values.specs.Flatten.{is_flattened}
 use Rattle.verbs_values.proofs.flatten.has_flattened.Goals as goal
 
 pub returns-then-is_flattened-clause-found : goal.returns-then-is_flattened-clause-found

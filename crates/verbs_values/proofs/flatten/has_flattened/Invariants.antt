@@ -1,7 +1,7 @@
 use Rattle.std.proofs.Common.{◌≡◌, drop}
 use Rattle.std.specs.List.{list_any}
 use Rattle.mlr_event.specs.Reading.{is_among}
-use Rattle.verbs_values.specs.Flattening.{is_flattened}
+use Rattle.verbs_values.specs.Flatten.{is_flattened}
 use Rattle.verbs_values.proofs.flatten.has_flattened.Given as goal
 
 abbrev pub invariant-loop-place : goal.invariant-loop-place

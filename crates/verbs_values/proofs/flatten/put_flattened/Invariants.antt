@@ -3,7 +3,7 @@ use Rattle.std.specs.List.{flat_map}
 use Rattle.mlr_event.specs.Reading.{is_among}
 use Rattle.mlr_spec.specs.Pairs.{put_each}
 use Rattle.mlr_record.specs.Fields.{pairs_of}
-use Rattle.verbs_values.specs.Flattening.{flattened_field}
+use Rattle.verbs_values.specs.Flatten.{flattened_field}
 use Rattle.verbs_values.proofs.flatten.put_flattened.Given as goal
 
 abbrev pub invariant-loop-field : goal.invariant-loop-field

@@ -1,4 +1,4 @@
-use Rattle.std.proofs.Common.{◌≡◌, ◌++◌, ◌∷◌, [], sym, ap, ◌∙◌, ◌&&◌, not}
+use Rattle.std.proofs.Common.{◌++◌, ◌∷◌, [], sym, ap, ◌∙◌, ◌&&◌, not}
 use Rattle.chain_core.proofs.Gating.{closed-adds, closed-open, closed-represents, open-adds, open-inner, open-represents, shut-adds, shut-represents}
 use Rattle.chain_core.proofs.gate.Gate.take.Goals as goal
 

@@ -1,7 +1,7 @@
 use Rattle.std.proofs.Common.{None, map, replicate, ap, ◌∙◌}
 use Rattle.std.specs.Option.{option_map}
 use Rattle.mlr_value.specs.Value.{tree_of}
-use Rattle.verbs_state.proofs.FillingDown.{keeps-none}
+use Rattle.verbs_state.proofs.Filling.{keeps-none}
 use Rattle.verbs_state.proofs.fill_down.FillDownVerb.new.Goals as goal
 
 pub returns-clause-represents : goal.returns-clause-represents

@@ -1,0 +1,51 @@
+//! Removes fields by name from a list.
+ghost use Rattle.std.specs.Prelude.{◌≡◌, ◌++◌, true, OnOk};
+ghost use Rattle.std.specs.Option.{option_map};
+ghost use Rattle.mlr_spec.specs.Pairs.{remove_at, keys_of, are_distinct};
+ghost use Rattle.mlr_record.specs.Fields.{IsPlaceOf, pair_of, pairs_of};
+ghost use Rattle.verbs_base.specs.Choosing.{named, picked, dropped};
+
+use mlr_record::Field;
+use mlr_spec::NoMemory;
+use mlr_value::Bytes;
+
+/// Removes the field of this name, if there is one, and returns it.
+pub fn take_field(fields: &mut Vec<Field>, name: &Bytes) -> Option<Field>
+    ensures taken { option_map pair_of result ≡ named (pairs_of fields.old.items) name.now }
+    ensures left { pairs_of fields.new.items ≡ remove_at name.now (pairs_of fields.old.items) }
+{
+    let place = place_of(fields, name)?;
+    Some(fields.remove(place))
+}
+
+/// The place of the field with this name.
+fn place_of(fields: &[Field], name: &Bytes) -> Option<usize>
+    ensures { IsPlaceOf name.now fields.now result }
+{
+    for (place, field) in fields.iter().enumerate() {
+        if field.name.is(name) {
+            return Some(place);
+        }
+    }
+    None
+}
+
+/// Removes the named fields, in the order of the names, and appends them to `taken`.
+pub fn take_named(
+    names: &[Bytes],
+    fields: &mut Vec<Field>,
+    taken: &mut Vec<Field>,
+) -> Result<(), NoMemory>
+    requires { are_distinct (keys_of (pairs_of fields.old.items)) ≡ true }
+    ensures taken { OnOk result (pairs_of taken.new.items
+        ≡ pairs_of taken.old.items ++ picked names.now (pairs_of fields.old.items)) }
+    ensures left { OnOk result (pairs_of fields.new.items
+        ≡ dropped names.now (pairs_of fields.old.items)) }
+{
+    for name in names {
+        if let Some(field) = take_field(fields, name) {
+            taken.push(field)?;
+        }
+    }
+    Ok(())
+}

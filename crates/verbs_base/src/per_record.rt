@@ -1,0 +1,64 @@
+//! Verbs that take each record by itself.
+ghost use Rattle.std.specs.Prelude.{◌≡◌, List, IfOk};
+ghost use Rattle.std.specs.Option.{option_to_list};
+ghost use Rattle.verbs_base.specs.Records.{Fields};
+
+use crate::stateful::Stateful;
+use mlr_event::{Ctx, Event, Events};
+use mlr_record::Record;
+use mlr_spec::NoMemory;
+use std::alloc::Global;
+
+/// A verb of which each record gives a record or none, by itself. What it keeps from one record to the next, as the room
+/// of a search, doesn't change what it gives.
+pub trait PerRecord {
+    /// What a record gives.
+    ghost gives: { Self → Fields → List Fields };
+
+    /// The options are in the ranges that it may be given.
+    ghost sound: { Self → Type 0 };
+
+    /// The record that the verb gives for a record, if it gives one.
+    fn made(&mut self, alloc: Global, fields: Record) -> Result<Option<Record>, NoMemory>
+        requires { sound self.old }
+        ensures made { IfOk result (λ made. option_to_list made ≡ gives self.old fields) }
+        ensures gives { gives self.new ≡ gives self.old }
+        ensures sound { sound self.new };
+}
+
+/// A verb that takes each record by itself, as a verb over records.
+#[derive(Drop)]
+pub struct Each<V> {
+    pub alloc: Global,
+    pub verb: V,
+}
+
+impl<V: PerRecord + Drop> Stateful for Each<V> {
+    ghost use Rattle.verbs_base.specs.Laws.{stream-shuts};
+    ghost use Rattle.verbs_base.specs.Records.{each};
+
+    ghost meaning = { λ s. each (V.gives s.verb) };
+
+    ghost represents = { λ s before. V.sound s.verb };
+
+    ghost shuts = { λ s. stream-shuts (λ before. V.gives s.verb) };
+
+    fn take(&mut self, fields: Record, ctx: Ctx, out: &mut Events) -> Result<(), NoMemory> {
+        match self.verb.made(self.alloc, fields)? {
+            Some(made) => out.push(Event::Rec(made, ctx)),
+            None => Ok(()),
+        }
+    }
+
+    fn finish(&mut self, _: Ctx, _: &mut Events) -> Result<(), NoMemory> {
+        Ok(())
+    }
+
+    fn is_shut(&self) -> bool {
+        false
+    }
+
+    fn never_shuts(&self) -> bool {
+        true
+    }
+}

@@ -1,0 +1,11 @@
+use Rattle.std.proofs.Common.{◌++◌, ap, ◌∙◌}
+use Rattle.std.proofs.lemmas.Result.{on_ok_weaker}
+use Rattle.verbs_base.specs.Records.{with_context, maps}
+use Rattle.verbs_pattern.specs.Cut.{cut}
+use Rattle.verbs_pattern.proofs.cut.CutVerbStateful.take.Goals as goal
+
+pub returns-clause-gives : goal.returns-clause-gives
+returns-clause-gives c =
+    on_ok_weaker c.take.result
+    (λ given before holds. given before c.in_ok-verb.ensures.matchers ∙ ap (λ options. c.args.out.now ++ with_context c.args.ctx (maps (cut options) c.args.fields)) c.in_ok-verb.ensures.options)
+    c.take.ensures.gives

@@ -1,0 +1,248 @@
+//! `cut`: keeps or drops fields, by their names or by patterns.
+ghost use Rattle.std.specs.Prelude.{◌≡◌, ◌<◌, ◌++◌, ◌∷◌, [], length, map, slice_index_or, IfOk, OnOk};
+ghost use Rattle.std.specs.Arc.{arc_value};
+ghost use Rattle.regex.specs.Patterns.{Re};
+ghost use Rattle.regex.specs.Bytes.{matcher_pattern, regex_pattern};
+ghost use Rattle.mlr_record.specs.Fields.{pairs_of};
+ghost use Rattle.verbs_base.specs.Records.{each, maps};
+ghost use Rattle.verbs_pattern.specs.Cut.{any_matches, AreSameFields, ArePatternsOf, cut, kept_matching};
+ghost use Rattle.verbs_pattern.specs.Matching.{has_match};
+
+use mlr_event::{Ctx, Events, Names};
+use mlr_pattern::{Matcher, Pattern, Patterns};
+use mlr_record::{Field, Record};
+use mlr_spec::NoMemory;
+use std::alloc::Global;
+use std::sync::Arc;
+use verbs_base::{Each, PerRecord, Stateful, drop_named, keep_named, pick_named};
+
+/// The options of `cut`.
+#[derive(Drop)]
+pub struct Cut {
+    pub fields: CutFields,
+    /// Whether the kept fields are in the order of the names. It has no effect for patterns.
+    pub ordered: bool,
+    /// Whether the other fields are kept.
+    pub complement: bool,
+}
+
+/// The fields that `cut` selects.
+#[derive(Drop)]
+pub enum CutFields {
+    Names(Names),
+    Patterns(Patterns),
+}
+
+impl Cut {
+    /// A copy, which shares the patterns. It allocates the list of fields.
+    pub fn copy(&self, alloc: Global) -> Result<Self, NoMemory>
+        ensures fields { IfOk result (λ copy. AreSameFields copy.fields self.now.fields) }
+        ensures ordered { IfOk result (λ copy. copy.ordered ≡ self.now.ordered) }
+        ensures complement { IfOk result (λ copy. copy.complement ≡ self.now.complement) }
+        ensures meaning { IfOk result (λ copy. cut copy ≡ cut self.now) }
+    {
+        Ok(Cut {
+            fields: self.fields.copy(alloc)?,
+            ordered: self.ordered,
+            complement: self.complement,
+        })
+    }
+}
+
+impl CutFields {
+    /// A copy, which shares the patterns. It allocates the list.
+    pub fn copy(&self, _: Global) -> Result<Self, NoMemory>
+        ensures { IfOk result (λ copy. AreSameFields copy self.now) }
+    {
+        Ok(match self {
+            CutFields::Names(names) => CutFields::Names(names.copy()?),
+            CutFields::Patterns(patterns) => CutFields::Patterns(patterns.copy()?),
+        })
+    }
+}
+
+/// The verb `cut`. It makes one matcher for each pattern, for all records of a list.
+#[derive(Drop)]
+pub struct CutVerb {
+    alloc: Global,
+    options: Cut,
+}
+
+impl CutVerb {
+    /// The verb with these options, before the first record. It doesn't allocate.
+    pub fn new(alloc: Global, options: Cut) -> Self
+        ensures meaning { ⟦<CutVerb as Stateful>⟧.meaning result ≡ each (maps (cut options)) }
+        ensures represents { ⟦<CutVerb as Stateful>⟧.represents result [] }
+    {
+        CutVerb { alloc, options }
+    }
+}
+
+impl Stateful for CutVerb {
+    ghost use Rattle.verbs_base.specs.Laws.{stream-shuts};
+    ghost use Rattle.verbs_base.specs.Records.{each, maps};
+    ghost use Rattle.verbs_pattern.specs.Cut.{cut};
+
+    ghost meaning = { λ s. each (maps (cut s.options)) };
+
+    ghost represents = { λ s before. Unit {0} };
+
+    ghost shuts = { λ s. stream-shuts (λ before. maps (cut s.options)) };
+
+    fn take(&mut self, fields: Record, ctx: Ctx, out: &mut Events) -> Result<(), NoMemory> {
+        let alloc = self.alloc;
+        let verb = Search::of(alloc, &self.options)?;
+        Each { alloc, verb }.take(fields, ctx, out)
+    }
+
+    fn take_all(&mut self, events: &mut Events, out: &mut Events) -> Result<(), NoMemory> {
+        if events.len() == 0 {
+            return Ok(());
+        }
+        let alloc = self.alloc;
+        let verb = Search::of(alloc, &self.options)?;
+        Each { alloc, verb }.take_all(events, out)
+    }
+
+    fn finish(&mut self, _: Ctx, _: &mut Events) -> Result<(), NoMemory> {
+        Ok(())
+    }
+
+    fn is_shut(&self) -> bool {
+        false
+    }
+
+    fn never_shuts(&self) -> bool {
+        true
+    }
+}
+
+/// The search for the fields of `cut`, for the records of one list. It has no matchers where the fields are named.
+#[derive(Drop)]
+struct Search<'c> {
+    options: &'c Cut,
+    matchers: Vec<Matcher<'c>>,
+}
+
+impl<'c> Search<'c> {
+    /// The search with these options. It makes one matcher for each pattern.
+    fn of(alloc: Global, options: &'c Cut) -> Result<Self, NoMemory>
+        ensures options { IfOk result (λ made. made.options.now ≡ options.now) }
+        ensures matchers { IfOk result (λ made. ArePatternsOf made.options.now.fields
+            (map matcher_pattern made.matchers.items)) }
+    {
+        let matchers = match &options.fields {
+            CutFields::Names(_) => Vec::new(alloc),
+            CutFields::Patterns(patterns) => matchers_of(alloc, patterns.as_slice())?,
+        };
+        Ok(Search { options, matchers })
+    }
+}
+
+impl PerRecord for Search<'_> {
+    ghost use Rattle.std.specs.Prelude.{map};
+    ghost use Rattle.regex.specs.Bytes.{matcher_pattern};
+    ghost use Rattle.verbs_base.specs.Records.{maps};
+    ghost use Rattle.verbs_pattern.specs.Cut.{ArePatternsOf, cut};
+
+    ghost gives = { λ s. maps (cut s.options.now) };
+
+    ghost sound = { λ s. ArePatternsOf s.options.now.fields
+        (map matcher_pattern s.matchers.items) };
+
+    fn made(&mut self, alloc: Global, fields: Record) -> Result<Option<Record>, NoMemory> {
+        let complement = self.options.complement;
+        Ok(Some(match &self.options.fields {
+            CutFields::Names(names) if complement => drop_named(names, fields),
+            CutFields::Names(names) if self.options.ordered => pick_named(names, fields)?,
+            CutFields::Names(names) => keep_named(names, fields),
+            CutFields::Patterns(_) => {
+                keep_matching(alloc, &mut self.matchers, complement, fields)?
+            }
+        }))
+    }
+}
+
+/// The fields whose names match one of the patterns, or with `complement` the others. It allocates the list of the
+/// fields.
+fn keep_matching(
+    alloc: Global,
+    matchers: &mut [Matcher<'_>],
+    complement: bool,
+    fields: Record,
+) -> Result<Record, NoMemory>
+    ensures kept { IfOk result (λ made. made ≡ kept_matching (map matcher_pattern matchers.old)
+        complement fields) }
+    ensures same { map matcher_pattern matchers.new ≡ map matcher_pattern matchers.old }
+{
+    let fields = fields.into_fields();
+    let mut kept = Vec::with_capacity(alloc, fields.len())?;
+    keep_fields(fields, matchers, complement, &mut kept)?;
+    Ok(Record::of_fields(alloc, kept))
+}
+
+fn keep_fields(
+    fields: Vec<Field>,
+    matchers: &mut [Matcher<'_>],
+    complement: bool,
+    kept: &mut Vec<Field>,
+) -> Result<(), NoMemory>
+    ensures kept { OnOk result (pairs_of kept.new.items ≡ pairs_of kept.old.items
+        ++ kept_matching (map matcher_pattern matchers.old) complement (pairs_of fields.items)) }
+    ensures same { map matcher_pattern matchers.new ≡ map matcher_pattern matchers.old }
+{
+    for field in fields {
+        keep_field(field, matchers, complement, kept)?;
+    }
+    Ok(())
+}
+
+fn keep_field(
+    field: Field,
+    matchers: &mut [Matcher<'_>],
+    complement: bool,
+    kept: &mut Vec<Field>,
+) -> Result<(), NoMemory>
+    ensures kept { OnOk result (pairs_of kept.new.items ≡ pairs_of kept.old.items
+        ++ kept_matching (map matcher_pattern matchers.old) complement (pairs_of (field ∷ []))) }
+    ensures same { map matcher_pattern matchers.new ≡ map matcher_pattern matchers.old }
+{
+    if any_matches(matchers, field.name.as_slice()) != complement {
+        kept.push(field)?;
+    }
+    Ok(())
+}
+
+/// Whether one of the patterns matches somewhere in the text.
+fn any_matches(matchers: &mut [Matcher<'_>], text: &[u8]) -> bool
+    ensures found { result ≡ any_matches (map matcher_pattern matchers.old) text.now }
+    ensures same { map matcher_pattern matchers.new ≡ map matcher_pattern matchers.old }
+{
+    for place in 0..matchers.len() {
+        if is_matched_by(matchers, place, text) {
+            return true;
+        }
+    }
+    false
+}
+
+fn is_matched_by(matchers: &mut [Matcher<'_>], place: usize, text: &[u8]) -> bool
+    requires { place < length matchers.old }
+    ensures found { (re : Re)
+        → result ≡ has_match (slice_index_or (map matcher_pattern matchers.old) place re) text.now }
+    ensures same { map matcher_pattern matchers.new ≡ map matcher_pattern matchers.old }
+{
+    matchers[place].is_match(text)
+}
+
+/// A matcher for each pattern.
+fn matchers_of(alloc: Global, patterns: &[Arc<Pattern>]) -> Result<Vec<Matcher<'_>>, NoMemory>
+    ensures { IfOk result (λ made. map matcher_pattern made.items
+        ≡ map (λ pattern. regex_pattern (arc_value pattern)) patterns.now) }
+{
+    let mut matchers = Vec::with_capacity(alloc, patterns.len())?;
+    for place in 0..patterns.len() {
+        matchers.push(patterns[place].matcher(alloc)?)?;
+    }
+    Ok(matchers)
+}

@@ -1,0 +1,112 @@
+//! `gsub`: replaces all matches of a pattern in values.
+ghost use Rattle.std.specs.Prelude.{◌≡◌, [], IfOk};
+ghost use Rattle.std.specs.Arc.{arc_value};
+ghost use Rattle.regex.specs.Bytes.{regex_pattern};
+ghost use Rattle.verbs_base.specs.Records.{each, maps};
+ghost use Rattle.verbs_pattern.specs.Gsub.{gsub};
+
+use crate::sub_fields::SubFields;
+use crate::substitution::Substitution;
+use mlr_event::{Ctx, Events};
+use mlr_pattern::{Pattern, Which};
+use mlr_record::Record;
+use mlr_spec::NoMemory;
+use mlr_value::Bytes;
+use std::alloc::Global;
+use std::sync::Arc;
+use verbs_base::{Each, Stateful};
+
+/// `gsub`: as `Sub`, but replaces all matches.
+#[derive(Drop)]
+pub struct Gsub {
+    pub fields: SubFields,
+    pub pattern: Arc<Pattern>,
+    pub by: Bytes,
+}
+
+impl Gsub {
+    /// A copy, which shares the pattern. It allocates for the names, and for a text of more than 16 bytes.
+    pub fn copy(&self, alloc: Global) -> Result<Self, NoMemory>
+        ensures fields { IfOk result (λ copy. copy.fields ≡ self.now.fields) }
+        ensures pattern { IfOk result (λ copy. regex_pattern (arc_value copy.pattern)
+            ≡ regex_pattern (arc_value self.now.pattern)) }
+        ensures by { IfOk result (λ copy. copy.by ≡ self.now.by) }
+        ensures meaning { IfOk result (λ copy. gsub copy ≡ gsub self.now) }
+    {
+        Ok(Gsub {
+            fields: self.fields.copy(alloc)?,
+            pattern: Arc::try_clone(&self.pattern)?,
+            by: Bytes::copy_of(alloc, self.by.as_slice())?,
+        })
+    }
+}
+
+/// The verb `gsub`. It makes one matcher for all records of a list.
+#[derive(Drop)]
+pub struct GsubVerb {
+    alloc: Global,
+    options: Gsub,
+}
+
+impl GsubVerb {
+    /// The verb with these options, before the first record. It doesn't allocate.
+    pub fn new(alloc: Global, options: Gsub) -> Self
+        ensures meaning { ⟦<GsubVerb as Stateful>⟧.meaning result ≡ each (maps (gsub options)) }
+        ensures represents { ⟦<GsubVerb as Stateful>⟧.represents result [] }
+    {
+        GsubVerb { alloc, options }
+    }
+}
+
+impl Stateful for GsubVerb {
+    ghost use Rattle.verbs_base.specs.Laws.{stream-shuts};
+    ghost use Rattle.verbs_base.specs.Records.{each, maps};
+    ghost use Rattle.verbs_pattern.specs.Gsub.{gsub};
+
+    ghost meaning = { λ s. each (maps (gsub s.options)) };
+
+    ghost represents = { λ s before. Unit {0} };
+
+    ghost shuts = { λ s. stream-shuts (λ before. maps (gsub s.options)) };
+
+    fn take(&mut self, fields: Record, ctx: Ctx, out: &mut Events) -> Result<(), NoMemory> {
+        let alloc = self.alloc;
+        let by = self.options.by.as_slice();
+        let verb = Substitution::of(
+            alloc,
+            &self.options.fields,
+            &self.options.pattern,
+            by,
+            Which::All,
+        )?;
+        Each { alloc, verb }.take(fields, ctx, out)
+    }
+
+    fn take_all(&mut self, events: &mut Events, out: &mut Events) -> Result<(), NoMemory> {
+        if events.len() == 0 {
+            return Ok(());
+        }
+        let alloc = self.alloc;
+        let by = self.options.by.as_slice();
+        let verb = Substitution::of(
+            alloc,
+            &self.options.fields,
+            &self.options.pattern,
+            by,
+            Which::All,
+        )?;
+        Each { alloc, verb }.take_all(events, out)
+    }
+
+    fn finish(&mut self, _: Ctx, _: &mut Events) -> Result<(), NoMemory> {
+        Ok(())
+    }
+
+    fn is_shut(&self) -> bool {
+        false
+    }
+
+    fn never_shuts(&self) -> bool {
+        true
+    }
+}
