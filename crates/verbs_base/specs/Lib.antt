@@ -1,5 +1,6 @@
 pub mod Choosing
 pub mod Changing
 pub mod Records
+pub mod Taking
 pub mod Laws
 pub mod OverEvents

@@ -1,6 +1,7 @@
 //! Verbs whose output for a record depends on the records before it.
 ghost use Rattle.std.specs.Prelude.{◌≡◌, ◌++◌, ◌∷◌, [], List, false, IsTrue, OnOk};
-ghost use Rattle.verbs_base.specs.Records.{PassesEach, RecordVerb, Row, StaysShut, events_of, given_for, given_for_all, records, row_in, rows_in, with_context};
+ghost use Rattle.verbs_base.specs.Records.{PassesEach, RecordVerb, Row, StaysShut, given_for, records, row_in, rows_in};
+ghost use Rattle.verbs_base.specs.Taking.{Follows, GivesFor, GivesForAll, GivesLate, IsShut};
 
 use mlr_event::{Ctx, Event, Events};
 use mlr_record::Record;
@@ -19,11 +20,10 @@ pub trait Stateful {
     fn take(&mut self, fields: Record, ctx: Ctx, out: &mut Events) -> Result<(), NoMemory>
         requires { (before : List Row) × represents self.old before }
         ensures meaning { meaning self.new ≡ meaning self.old }
-        ensures represents { OnOk result ((before : List Row) → represents self.old before
-            → represents self.new (before ++ (fields, ctx) ∷ [])) }
-        ensures gives { OnOk result ((before : List Row) → represents self.old before
-            → out.new ≡ out.old ++ with_context ctx
-            ((meaning self.old).gives (records before) fields)) };
+        ensures represents { OnOk result (Follows (represents self.old) (represents self.new)
+            ((fields, ctx) ∷ [])) }
+        ensures gives { OnOk result (GivesFor (meaning self.old) (represents self.old) fields ctx
+            out.old out.new) };
 
     /// Takes all events of a list before its end in turn: records as `take` does, and any other event passes. A verb
     /// that prepares work for many records at once, such as a search for a pattern, does so once a list.
@@ -31,10 +31,10 @@ pub trait Stateful {
         requires { (before : List Row) × represents self.old before }
         ensures meaning { OnOk result (meaning self.new ≡ meaning self.old) }
         ensures empty { OnOk result (events.new ≡ []) }
-        ensures represents { OnOk result ((before : List Row) → represents self.old before
-            → represents self.new (before ++ rows_in events.old)) }
-        ensures gives { OnOk result ((before : List Row) → represents self.old before
-            → out.new ≡ out.old ++ given_for_all (meaning self.old) before events.old) }
+        ensures represents { OnOk result (Follows (represents self.old) (represents self.new)
+            (rows_in events.old)) }
+        ensures gives { OnOk result (GivesForAll (meaning self.old) (represents self.old) events.old
+            out.old out.new) }
     {
         while let Some(event) = events.pop_first() {
             self.pass(event, out)?;
@@ -61,13 +61,12 @@ pub trait Stateful {
     fn finish(&mut self, ctx: Ctx, out: &mut Events) -> Result<(), NoMemory>
         requires { (before : List Row) × represents self.old before }
         ensures meaning { meaning self.new ≡ meaning self.old }
-        ensures gives { OnOk result ((before : List Row) → represents self.old before
-            → out.new ≡ out.old ++ events_of ((meaning self.old).late before ctx)) };
+        ensures gives { OnOk result (GivesLate (meaning self.old) (represents self.old) ctx
+            out.old out.new) };
 
     /// Whether the verb gives nothing for any later record. It doesn't allocate.
     fn is_shut(&self) -> bool
-        ensures { (before : List Row) → represents self.now before
-            → result ≡ (meaning self.now).closed (records before) };
+        ensures { IsShut (meaning self.now) (represents self.now) result };
 
     /// Whether no records close it, as far as it knows. It doesn't allocate.
     fn never_shuts(&self) -> bool

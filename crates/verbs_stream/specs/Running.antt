@@ -51,15 +51,15 @@ options_of (r.Unspace v) = verb.Unspace v.verb
 
 -- the verb was given these records
 abbrev pub Represents : Running → List Row → Type 0
-Represents (r.Cat v) before = CatRepresents v (records before)
-Represents (r.Decimate v) before = DecimateRepresents v (records before)
-Represents (r.FillDown v) before = FillDownRepresents v (records before)
-Represents (r.Gap v) before = GapRepresents v (records before)
-Represents (r.Head v) before = HeadRepresents v (records before)
-Represents (r.Label v) before = IsSoundLabel v.verb
-Represents (r.Regularize v) before = RegularizeRepresents v (records before)
-Represents (r.Unflatten v) before = IsSoundUnflatten v.verb
-Represents _ before = Unit {0}
+Represents (r.Cat v) = λ given. CatRepresents v (records given)
+Represents (r.Decimate v) = λ given. DecimateRepresents v (records given)
+Represents (r.FillDown v) = λ given. FillDownRepresents v (records given)
+Represents (r.Gap v) = λ given. GapRepresents v (records given)
+Represents (r.Head v) = λ given. HeadRepresents v (records given)
+Represents (r.Label v) = λ given. IsSoundLabel v.verb
+Represents (r.Regularize v) = λ given. RegularizeRepresents v (records given)
+Represents (r.Unflatten v) = λ given. IsSoundUnflatten v.verb
+Represents _ = λ given. Unit {0}
 
 -- a closed verb gives nothing more
 pub stays-shut : (spec : Spec) → StaysShut (meaning_of spec)

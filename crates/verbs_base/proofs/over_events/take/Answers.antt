@@ -10,7 +10,7 @@ returns-in_ok-push-in-End-clause-gives g c given holds =
     let v = g.V.Stateful.meaning c.args.verb.now in
     let ctx = c.in-End.ctx in
     c.in_ok-push-in-End.ensures
-    ∙ ap (λ t. t ++ event.End ctx ∷ []) (c.in_ok-finish-in-End.ensures.gives (rows_in given) holds)
+    ∙ ap (λ t. t ++ event.End ctx ∷ []) (c.in_ok-finish-in-End.ensures.gives.gives (rows_in given) holds)
     ∙ append_assoc c.args.out.now (events_of (v.late (rows_in given) ctx)) (event.End ctx ∷ [])
     ∙ ap (λ t. c.args.out.now ++ t) (sym (end-gives v given ctx))
     ∙ ap (λ e. c.args.out.now ++ gives (verb_of v) given e) (sym c.in-End.is)

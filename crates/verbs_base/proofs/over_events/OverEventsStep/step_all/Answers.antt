@@ -33,7 +33,7 @@ step-requires g c =
       (
         c.requires.1.0,
         given-all (g.V.Stateful.meaning c.take_all.new.self) (g.V.Stateful.represents c.take_all.new.self) self.shut given init (not-told v r self.shut given c.requires.1.1 before)
-            (c.in_default-take_all.ensures.represents (rows_in given) (still-given v r self.shut given c.requires.1.1 before)),
+            (c.in_default-take_all.ensures.represents.follows (rows_in given) (still-given v r self.shut given c.requires.1.1 before)),
       ),
       open_is,
     )
@@ -47,7 +47,7 @@ returns-clause-represents g c given holds list =
     let v = g.V.Stateful.meaning self.verb in
     let r = g.V.Stateful.represents self.verb in
     let middle : (self.broken ≡ false) × WasGiven (g.V.Stateful.meaning c.take_all.new.self) (g.V.Stateful.represents c.take_all.new.self) self.shut (given ++ init) =
-    (holds.0, given-all (g.V.Stateful.meaning c.take_all.new.self) (g.V.Stateful.represents c.take_all.new.self) self.shut given init (not-told v r self.shut given holds.1 before) (c.in_default-take_all.ensures.represents (rows_in given) (still-given v r self.shut given holds.1 before))) in
+    (holds.0, given-all (g.V.Stateful.meaning c.take_all.new.self) (g.V.Stateful.represents c.take_all.new.self) self.shut given init (not-told v r self.shut given holds.1 before) (c.in_default-take_all.ensures.represents.follows (rows_in given) (still-given v r self.shut given holds.1 before))) in
     subst (λ t. (c.step.new.self.broken ≡ false) × WasGiven (g.V.Stateful.meaning c.step.new.self.verb) (g.V.Stateful.represents c.step.new.self.verb) c.step.new.self.shut t)
     (append_assoc given init (c.in-Some.last ∷ []) ∙ ap (λ t. given ++ t) (sym c.in-Some.ensures.events)) (c.in_ok-step.ensures.represents (given ++ init) middle open_is)
 
@@ -63,8 +63,8 @@ returns-clause-adds g c given holds list =
     let m = made (verb_of v) in
     let inner = still-given v r self.shut given holds.1 before in
     let middle : (self.broken ≡ false) × WasGiven (g.V.Stateful.meaning c.take_all.new.self) (g.V.Stateful.represents c.take_all.new.self) self.shut (given ++ init) =
-    (holds.0, given-all (g.V.Stateful.meaning c.take_all.new.self) (g.V.Stateful.represents c.take_all.new.self) self.shut given init (not-told v r self.shut given holds.1 before) (c.in_default-take_all.ensures.represents (rows_in given) inner)) in
-    let first : Adds c.args.out.now c.take_all.new.out (m given) (m (given ++ init)) = open-adds v given init c.args.out.now c.take_all.new.out open_is (c.in_default-take_all.ensures.gives (rows_in given) inner) in
+    (holds.0, given-all (g.V.Stateful.meaning c.take_all.new.self) (g.V.Stateful.represents c.take_all.new.self) self.shut given init (not-told v r self.shut given holds.1 before) (c.in_default-take_all.ensures.represents.follows (rows_in given) inner)) in
+    let first : Adds c.args.out.now c.take_all.new.out (m given) (m (given ++ init)) = open-adds v given init c.args.out.now c.take_all.new.out open_is (c.in_default-take_all.ensures.gives.gives (rows_in given) inner) in
     let second : Adds c.take_all.new.out c.step.new.out (m (given ++ init)) (m ((given ++ init) ++ last ∷ [])) =
     subst (λ v. Adds c.take_all.new.out c.step.new.out (made (verb_of v) (given ++ init)) (made (verb_of v) ((given ++ init) ++ last ∷ []))) c.in_default-take_all.ensures.meaning (c.in_ok-step.ensures.adds (given ++ init) middle open_is) in
     adds-both c.args.out.now c.take_all.new.out c.step.new.out (m given) (m (given ++ init)) (m (given ++ c.args.events.now)) first

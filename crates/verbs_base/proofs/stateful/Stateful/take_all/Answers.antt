@@ -25,9 +25,9 @@ returns-clause-meaning g c = c.loop-event.invariant.same
 pub returns-clause-represents : goal.returns-clause-represents
 returns-clause-represents g c =
     let done = subst (λ t. Passed g.Self.Stateful.meaning g.Self.Stateful.represents c.args.self.now c.args.events.now c.args.out.now c.loop-event.self t c.loop-event.out) (c.in_default.ensures.events ∙ c.in_default.ensures.none refl) c.loop-event.invariant in
-    all-at g.Self.Stateful.meaning g.Self.Stateful.represents c.args.self.now c.args.events.now c.args.out.now c.loop-event.self c.loop-event.out done
+    record { follows = all-at g.Self.Stateful.meaning g.Self.Stateful.represents c.args.self.now c.args.events.now c.args.out.now c.loop-event.self c.loop-event.out done }
 
 pub returns-clause-gives : goal.returns-clause-gives
 returns-clause-gives g c =
     let done = subst (λ t. Passed g.Self.Stateful.meaning g.Self.Stateful.represents c.args.self.now c.args.events.now c.args.out.now c.loop-event.self t c.loop-event.out) (c.in_default.ensures.events ∙ c.in_default.ensures.none refl) c.loop-event.invariant in
-    all-gives g.Self.Stateful.meaning g.Self.Stateful.represents c.args.self.now c.args.events.now c.args.out.now c.loop-event.self c.loop-event.out done
+    record { gives = all-gives g.Self.Stateful.meaning g.Self.Stateful.represents c.args.self.now c.args.events.now c.args.out.now c.loop-event.self c.loop-event.out done }

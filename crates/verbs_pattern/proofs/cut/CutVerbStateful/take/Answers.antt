@@ -7,5 +7,5 @@ use Rattle.verbs_pattern.proofs.cut.CutVerbStateful.take.Goals as goal
 pub returns-clause-gives : goal.returns-clause-gives
 returns-clause-gives c =
     on_ok_weaker c.take.result
-    (λ given before holds. given before c.in_ok-verb.ensures.matchers ∙ ap (λ options. c.args.out.now ++ with_context c.args.ctx (maps (cut options) c.args.fields)) c.in_ok-verb.ensures.options)
+    (λ given. record { gives = λ before holds. given.gives before c.in_ok-verb.ensures.matchers ∙ ap (λ options. c.args.out.now ++ with_context c.args.ctx (maps (cut options) c.args.fields)) c.in_ok-verb.ensures.options })
     c.take.ensures.gives

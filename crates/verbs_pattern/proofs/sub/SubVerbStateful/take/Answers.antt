@@ -12,5 +12,5 @@ returns-clause-gives c =
     let made = c.in_ok-verb.ensures
     ∙ ap₂ (λ re by. maps (changed_fields c.args.self.now.options.fields (sub_of First re by))) (ap regex_pattern c.deref.ensures) c.as_slice-by.ensures in
     on_ok_weaker c.take.result
-    (λ given before holds. given before tt ∙ ap (λ gives. c.args.out.now ++ with_context c.args.ctx (gives c.args.fields)) made)
+    (λ given. record { gives = λ before holds. given.gives before tt ∙ ap (λ gives. c.args.out.now ++ with_context c.args.ctx (gives c.args.fields)) made })
     c.take.ensures.gives
