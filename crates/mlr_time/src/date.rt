@@ -1,11 +1,9 @@
 //! Dates and times of day as texts.
-ghost use Rattle.std.specs.Prelude.{◌≡◌, ◌≤◌, ◌<◌, ◌++◌, ◌∷◌, pos, neg_ℤ, if◌then◌else◌, is_ok, true, OnOk};
+ghost use Rattle.std.specs.Prelude.{◌≡◌, ◌<◌, pos, neg_ℤ};
 ghost use Rattle.jiff_core.specs.Calendar.{IsBetween};
 ghost use Rattle.mlr_time.specs.Times.{year_of, month_of, day_of, two_digits, four_digits, date_text, time_text};
 
 use jiff_core::civil::Date;
-use mlr_spec::NoMemory;
-use mlr_value::Bytes;
 
 /// The date of a day in the years 0 to 9999. Days count from 1970-01-01.
 fn date_of(day: i64) -> Date
@@ -17,29 +15,27 @@ fn date_of(day: i64) -> Date
     Date::from_unix_epoch_day(day).unwrap()
 }
 
-/// Appends the date of a day in the years 0 to 9999.
-pub fn append_date(day: i64, into: &mut Bytes) -> Result<(), NoMemory>
+/// The date of a day in the years 0 to 9999, as `2017-07-14`.
+pub fn date_text(day: i64) -> [u8; 10]
     requires { IsBetween (neg_ℤ (pos 719_528)) (pos 2_932_896) day }
-    ensures { OnOk result (into.new ≡ into.old ++ date_text day) }
+    ensures { result ≡ date_text day }
 {
     let date = date_of(day);
-    into.append(&four_digits(date.year as u16))?;
-    into.append(b"-")?;
-    into.append(&two_digits(date.month))?;
-    into.append(b"-")?;
-    into.append(&two_digits(date.day))
+    let [y1, y2, y3, y4] = four_digits(date.year as u16);
+    let [m1, m2] = two_digits(date.month);
+    let [d1, d2] = two_digits(date.day);
+    [y1, y2, y3, y4, b'-', m1, m2, b'-', d1, d2]
 }
 
-/// Appends the time of day that is so many seconds after midnight.
-pub fn append_time(seconds: u32, into: &mut Bytes) -> Result<(), NoMemory>
+/// The time of day that is so many seconds after midnight, as `02:40:00`.
+pub fn time_text(seconds: u32) -> [u8; 8]
     requires { seconds < 86_400 }
-    ensures { OnOk result (into.new ≡ into.old ++ time_text seconds) }
+    ensures { result ≡ time_text seconds }
 {
-    into.append(&two_digits((seconds / 3600) as u8))?;
-    into.append(b":")?;
-    into.append(&two_digits((seconds / 60 % 60) as u8))?;
-    into.append(b":")?;
-    into.append(&two_digits((seconds % 60) as u8))
+    let [h1, h2] = two_digits((seconds / 3600) as u8);
+    let [m1, m2] = two_digits((seconds / 60 % 60) as u8);
+    let [s1, s2] = two_digits((seconds % 60) as u8);
+    [h1, h2, b':', m1, m2, b':', s1, s2]
 }
 
 /// The two decimal digits of a number below 100.

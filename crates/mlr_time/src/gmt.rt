@@ -3,18 +3,18 @@ ghost use Rattle.std.specs.Prelude.{◌≡◌, ◌++◌, ◌∷◌, [], true, If
 ghost use Rattle.mlr_value.specs.Value.{tree_of};
 ghost use Rattle.mlr_time.specs.Times.{second_of, sec2gmt, sec2gmtdate, has_date, day_at, seconds_at, date_text, time_text};
 
-use crate::date::{append_date, append_time};
+use crate::date::{date_text, time_text};
 use mlr_spec::NoMemory;
 use mlr_value::{Bytes, Value};
 use std::alloc::Global;
 
 /// An int of seconds as the date and time of day in UTC, to the second. Any other value, and an int outside the years 0
-/// to 9999, stays as it is. The text takes memory.
+/// to 9999, stays as it is. It allocates for the text.
 pub fn sec2gmt(alloc: Global, value: Value) -> Result<Value, NoMemory>
     ensures { IfOk result (λ made. tree_of made ≡ sec2gmt (tree_of value)) }
 {
     match second_of(&value) {
-        Some(second) => Ok(Value::Str(gmt_text(alloc, second)?)),
+        Some(second) => Ok(Value::Str(Bytes::copy_of(alloc, &gmt_at(second))?)),
         None => Ok(value),
     }
 }
@@ -25,7 +25,7 @@ pub fn sec2gmtdate(alloc: Global, value: Value) -> Result<Value, NoMemory>
     ensures { IfOk result (λ made. tree_of made ≡ sec2gmtdate (tree_of value)) }
 {
     match second_of(&value) {
-        Some(second) => Ok(Value::Str(date_text(alloc, second)?)),
+        Some(second) => Ok(Value::Str(Bytes::copy_of(alloc, &date_at(second))?)),
         None => Ok(value),
     }
 }
@@ -49,25 +49,21 @@ const LAST: i64 = 253_402_300_799;
 /// How many seconds a day has.
 const DAY: i64 = 86_400;
 
-/// The date and time of day of a second in the years 0 to 9999.
-fn gmt_text(alloc: Global, second: i64) -> Result<Bytes, NoMemory>
+/// The date and time of day of a second in the years 0 to 9999, as `2017-07-14T02:40:00Z`.
+fn gmt_at(second: i64) -> [u8; 20]
     requires { has_date second ≡ true }
-    ensures { IfOk result (λ text. text ≡ date_text (day_at second)
-        ++ 84 ∷ time_text (seconds_at second) ++ 90 ∷ []) }
+    ensures { result ≡ date_text (day_at second) ++ 84 ∷ time_text (seconds_at second) ++ 90 ∷ [] }
 {
-    let mut text = date_text(alloc, second)?;
-    text.append(b"T")?;
-    append_time(second.rem_euclid(DAY) as u32, &mut text)?;
-    text.append(b"Z")?;
-    Ok(text)
+    let mut text = *b"0000-00-00T00:00:00Z";
+    text[..10].copy_from_slice(&date_at(second));
+    text[11..19].copy_from_slice(&time_text(second.rem_euclid(DAY) as u32));
+    text
 }
 
 /// The date of a second in the years 0 to 9999.
-fn date_text(alloc: Global, second: i64) -> Result<Bytes, NoMemory>
+fn date_at(second: i64) -> [u8; 10]
     requires { has_date second ≡ true }
-    ensures { IfOk result (λ text. text ≡ date_text (day_at second)) }
+    ensures { result ≡ date_text (day_at second) }
 {
-    let mut text = Bytes::new(alloc);
-    append_date(second.div_euclid(DAY), &mut text)?;
-    Ok(text)
+    date_text(second.div_euclid(DAY))
 }
