@@ -29,8 +29,8 @@ pub of_fields-requires : goal.of_fields-requires
 of_fields-requires c =
     let from = c.into_fields-fields.ensures.fields in
     let moved = c.move_named-count.ensures in
-    let whole = rotated c.as_slice.result.now c.args.from c.into_fields-fields.result c.deref_mut.result.now c.move_named-count.new.fields c.rotate_left.new.self.items c.move_named-count.result
-    from c.deref_mut.ensures.value (c.move_named-count.auto.fields ∙ c.deref_mut.ensures.len) moved.moved moved.count c.rotate_left.ensures.items in
+    let whole = rotated c.as_slice.result.now c.args.from c.into_fields-fields.result c.deref_mut.result.now c.move_named-count.new.fields c.rotate_by_ones.new.fields.items c.move_named-count.result
+    from c.deref_mut.ensures.value (c.move_named-count.auto.fields ∙ c.deref_mut.ensures.len) moved.moved moved.count c.rotate_by_ones.ensures in
     ap (λ pairs. are_distinct (keys_of pairs)) (whole ∙ ap (λ names. dropped names c.args.from ++ picked names c.args.from) c.as_slice.ensures)
     ∙ are_distinct-last c.args.names.now c.args.from c.into_fields-fields.ensures.distinct
 
@@ -38,6 +38,6 @@ pub returns : goal.returns
 returns c =
     let from = c.into_fields-fields.ensures.fields in
     let moved = c.move_named-count.ensures in
-    let whole = rotated c.as_slice.result.now c.args.from c.into_fields-fields.result c.deref_mut.result.now c.move_named-count.new.fields c.rotate_left.new.self.items c.move_named-count.result
-    from c.deref_mut.ensures.value (c.move_named-count.auto.fields ∙ c.deref_mut.ensures.len) moved.moved moved.count c.rotate_left.ensures.items in
+    let whole = rotated c.as_slice.result.now c.args.from c.into_fields-fields.result c.deref_mut.result.now c.move_named-count.new.fields c.rotate_by_ones.new.fields.items c.move_named-count.result
+    from c.deref_mut.ensures.value (c.move_named-count.auto.fields ∙ c.deref_mut.ensures.len) moved.moved moved.count c.rotate_by_ones.ensures in
     c.of_fields.ensures ∙ whole ∙ ap (λ names. dropped names c.args.from ++ picked names c.args.from) c.as_slice.ensures
