@@ -89,6 +89,7 @@ fn put_names(names: &[Bytes], fields: &mut [Field]) -> Result<(), NoMemory>
 }
 
 /// Whether a name is in the list.
+#[inline(always)]
 fn is_among(names: &[Bytes], name: &Bytes) -> bool
     ensures { result ≡ is_among names.now name.now }
 {
