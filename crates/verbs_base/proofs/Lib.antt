@@ -3,3 +3,4 @@ pub mod Passing
 pub mod Filters
 pub mod Picking
 pub mod Places
+mod Moving

@@ -1,6 +1,7 @@
-//! Removes fields by name from a list.
-ghost use Rattle.std.specs.Prelude.{◌≡◌, ◌++◌, true, OnOk};
-ghost use Rattle.std.specs.Option.{option_map};
+//! Removes fields by name from a list, or moves them in it.
+ghost use Rattle.std.specs.Prelude.{◌≡◌, ◌++◌, true, length, OnOk};
+ghost use Rattle.std.specs.List.{cons_option};
+ghost use Rattle.std.specs.Option.{is_some, option_map};
 ghost use Rattle.mlr_spec.specs.Pairs.{remove_at, keys_of, are_distinct};
 ghost use Rattle.mlr_record.specs.Fields.{IsPlaceOf, pair_of, pairs_of};
 ghost use Rattle.verbs_base.specs.Choosing.{named, picked, dropped};
@@ -48,4 +49,34 @@ pub fn take_named(
         }
     }
     Ok(())
+}
+
+/// Moves the named fields to the start, in the order of the names, and returns how many they are. A name that repeats
+/// counts once. It doesn't allocate.
+pub fn move_named(names: &[Bytes], fields: &mut [Field]) -> usize
+    requires { are_distinct (keys_of (pairs_of fields.old)) ≡ true }
+    ensures count { result ≡ length (picked names.now (pairs_of fields.old)) }
+    ensures moved { pairs_of fields.new ≡ picked names.now (pairs_of fields.old)
+        ++ dropped names.now (pairs_of fields.old) }
+{
+    let mut count = 0;
+    for name in names {
+        if move_first(&mut fields[count..], name) {
+            count += 1;
+        }
+    }
+    count
+}
+
+/// Moves the field of this name to the start, if there is one, and returns whether there is one.
+fn move_first(fields: &mut [Field], name: &Bytes) -> bool
+    ensures found { result ≡ is_some (named (pairs_of fields.old) name.now) }
+    ensures moved { pairs_of fields.new ≡ cons_option (named (pairs_of fields.old) name.now)
+        (remove_at name.now (pairs_of fields.old)) }
+{
+    let Some(place) = place_of(fields, name) else {
+        return false;
+    };
+    fields[..place + 1].rotate_right(1);
+    true
 }

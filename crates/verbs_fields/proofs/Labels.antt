@@ -1,11 +1,17 @@
 -- Fields that are labelled, one field after another.
-use Rattle.std.proofs.Common.{◌≡◌, ℕ, zero, suc, Bool, true, false, not, List, [], ◌∷◌, ◌++◌, length, drop, refl, ap, sym, ◌∙◌, inl, inr}
+use Rattle.std.proofs.Common.{◌≡◌, ℕ, zero, suc, Bool, ◌<◌, ◌≤◌, ◌+◌, ◌-◌, min, true, false, not, cond, List, [], ◌∷◌, ◌++◌, length, take, drop, remove, get_or, set, Vec, Global, refl, ap, ap₂, sym, ◌∙◌, inl, inr, arith, add-one}
 use Rattle.std.specs.List.{zip, list_any}
 use Rattle.std.specs.Str.{bytes_eq}
+use Rattle.std.specs.Vec.{with_items}
 use Rattle.std.proofs.lemmas.Bool.{cases_Bool, and_parts, and_from, or_parts, or_from, not-true, not_from_false, true≢false}
-use Rattle.std.proofs.lemmas.List.{map-append}
+use Rattle.std.proofs.lemmas.List.{map-append, map-set, take-map, drop-map, with_items_is, drop_min, take_all, length-map}
+use Rattle.std.proofs.Math.ListN.{get_or-map}
+use Rattle.std.proofs.lemmas.Slice.Zip.{length-zip}
 use Rattle.mlr_spec.specs.Tree.{Tree}
 use Rattle.mlr_spec.specs.Pairs.{keys_of, are_distinct}
+use Rattle.mlr_value.specs.Value.{tree_of}
+use Rattle.mlr_record.specs.declared.record.Field.{Field}
+use Rattle.mlr_record.specs.Fields.{pairs_of, pair_of}
 use Rattle.mlr_event.specs.Reading.{is_among}
 use Rattle.verbs_base.specs.Choosing.{dropped}
 use Rattle.verbs_fields.specs.Values.{values_of}
@@ -16,13 +22,91 @@ use Rattle.verbs_base.proofs.Picking.{are_distinct-append, dropped-named}
 abbrev pub labelled : List (List ℕ) → List (List ℕ × Tree) → List (List ℕ × Tree)
 labelled names pairs = zip names (values_of pairs) ++ dropped names (drop (length names) pairs)
 
--- the fields with the remaining names, and, of the fields after these, those that have none of all names
-abbrev pub labelled_left : List (List ℕ) → List (List ℕ) → List (List ℕ × Tree) → List (List ℕ × Tree)
-labelled_left names left pairs = zip left (values_of pairs) ++ dropped names (drop (length left) pairs)
+-- the fields before a place, and of the others those that have none of the names
+abbrev pub dropped_from : List (List ℕ) → ℕ → List (List ℕ × Tree) → List (List ℕ × Tree)
+dropped_from names place pairs = take place pairs ++ dropped names (drop place pairs)
 
-pub labelled_left-none : (names left : List (List ℕ)) → labelled_left names left [] ≡ []
-labelled_left-none names [] = refl
-labelled_left-none names (name ∷ left) = refl
+-- the fields before a place with the names, and the others
+abbrev pub named_to : List (List ℕ) → ℕ → List (List ℕ × Tree) → List (List ℕ × Tree)
+named_to names place pairs = take place (zip names (values_of pairs)) ++ drop place pairs
+
+either-first : (t : Bool) (p : List ℕ × Tree) (xs ys : List (List ℕ × Tree)) → cond t (p ∷ xs) (p ∷ ys) ≡ p ∷ cond t xs ys
+either-first true p xs ys = refl
+either-first false p xs ys = refl
+
+turned : (t : Bool) (xs ys : List (List ℕ × Tree)) → cond t xs ys ≡ cond (not t) ys xs
+turned true xs ys = refl
+turned false xs ys = refl
+
+-- the field before a place is taken out if it has one of the names
+pub dropped_from-earlier : (names : List (List ℕ)) (place : ℕ) (pairs : List (List ℕ × Tree)) (d : List ℕ × Tree) → place < length pairs
+    → cond (is_among names (get_or (dropped_from names (suc place) pairs) place d).0) (remove (dropped_from names (suc place) pairs) place) (dropped_from names (suc place) pairs) ≡ dropped_from names place pairs
+dropped_from-earlier names place [] d below = absurd (omega arith)
+dropped_from-earlier names zero (p ∷ pairs) d below = turned (is_among names p.0) (dropped names pairs) (p ∷ dropped names pairs)
+dropped_from-earlier names (suc place) (p ∷ pairs) d below =
+    let more = dropped_from names (suc place) pairs in
+    either-first (is_among names (get_or more place d).0) p (remove more place) more ∙ ap (λ x. p ∷ x) (dropped_from-earlier names place pairs d (omega arith))
+
+-- the field at a place gets its name
+pub named_to-later : (names : List (List ℕ)) (place : ℕ) (pairs : List (List ℕ × Tree)) (name : List ℕ) (d : List ℕ × Tree) → place < length names → place < length pairs
+    → set (named_to names place pairs) place (get_or names place name, (get_or (named_to names place pairs) place d).1) ≡ named_to names (suc place) pairs
+named_to-later [] place pairs name d below within = absurd (omega arith)
+named_to-later (n ∷ names) place [] name d below within = absurd (omega arith)
+named_to-later (n ∷ names) zero (p ∷ pairs) name d below within = refl
+named_to-later (n ∷ names) (suc place) (p ∷ pairs) name d below within = ap (λ x. (n, p.1) ∷ x) (named_to-later names place pairs name d (omega arith) (omega arith))
+
+removed : (fields : List Field) (place : ℕ) → pairs_of (remove fields place) ≡ remove (pairs_of fields) place
+removed fields place =
+    map-append pair_of (take place fields) (drop (suc place) fields) ∙ ap₂ (λ x y. x ++ y) (sym (take-map pair_of place fields)) (sym (drop-map pair_of (suc place) fields))
+
+-- the same of fields, with the test of a field
+pub dropped_from-step : (names : List (List ℕ)) (place : ℕ) (pairs : List (List ℕ × Tree)) (fields : List Field) (f : Field) (t : Bool) → 0 < place → place ≤ length pairs
+    → pairs_of fields ≡ dropped_from names place pairs → f ≡ get_or fields (place - 1) f → t ≡ is_among names f.name
+    → cond t (pairs_of (remove fields (place - 1))) (pairs_of fields) ≡ dropped_from names (place - 1) pairs
+dropped_from-step names place pairs fields f t above within is here tested =
+    let i = place - 1 in
+    let e : place ≡ suc i = omega arith in
+    let whole : pairs_of fields ≡ dropped_from names (suc i) pairs = is ∙ ap (λ n. dropped_from names n pairs) e in
+    let name : f.name ≡ (get_or (pairs_of fields) i (pair_of f)).0 = ap (λ g. g.name) here ∙ sym (ap (λ (pair : List ℕ × Tree). pair.0) (get_or-map pair_of fields i f)) in
+    ap₂ (λ u xs. cond u xs (pairs_of fields)) (tested ∙ ap (is_among names) name) (removed fields i)
+    ∙ ap (λ xs. cond (is_among names (get_or xs i (pair_of f)).0) (remove xs i) xs) whole
+    ∙ dropped_from-earlier names i pairs (pair_of f) (omega arith)
+
+-- the same of fields
+pub named_to-step : (names : List (List ℕ)) (place : ℕ) (pairs : List (List ℕ × Tree)) (fields : List Field) (name item : List ℕ) (f : Field) → place < length names → place < length pairs
+    → pairs_of fields ≡ named_to names place pairs → name ≡ get_or names place item
+    → pairs_of (set fields place (record { name = name; value = (get_or fields place f).value })) ≡ named_to names (place + 1) pairs
+named_to-step names place pairs fields name item f below within is here =
+    let value : tree_of (get_or fields place f).value ≡ (get_or (pairs_of fields) place (pair_of f)).1 = sym (ap (λ (pair : List ℕ × Tree). pair.1) (get_or-map pair_of fields place f)) in
+    map-set pair_of fields place (record { name = name; value = (get_or fields place f).value })
+    ∙ ap₂ (λ n v. set (pairs_of fields) place (n, v)) here value
+    ∙ ap (λ xs. set xs place (get_or names place item, (get_or xs place (pair_of f)).1)) is
+    ∙ named_to-later names place pairs item (pair_of f) below within
+    ∙ ap (λ n. named_to names n pairs) (sym (add-one place))
+
+pub named_to-end : (names : List (List ℕ)) (pairs : List (List ℕ × Tree)) → named_to names (min (length names) (length pairs)) pairs ≡ zip names (values_of pairs) ++ drop (length names) pairs
+named_to-end names pairs =
+    let long : length (zip names (values_of pairs)) ≡ min (length names) (length pairs) =
+    length-zip names (values_of pairs) ∙ ap (min (length names)) (length-map pairs (λ (pair : List ℕ × Tree). pair.1)) in
+    ap₂ (λ x y. x ++ y) (take_all (min (length names) (length pairs)) (zip names (values_of pairs)) (omega arith)) (drop_min (length names) pairs)
+
+-- fields that are named after others were dropped
+pub labelled-dropped : (names left : List (List ℕ)) (pairs : List (List ℕ × Tree))
+    → zip left (values_of (dropped_from names (length left) pairs)) ++ drop (length left) (dropped_from names (length left) pairs) ≡ zip left (values_of pairs) ++ dropped names (drop (length left) pairs)
+labelled-dropped names [] pairs = refl
+labelled-dropped names (name ∷ left) [] = refl
+labelled-dropped names (name ∷ left) (p ∷ pairs) = ap (λ x. (name, p.1) ∷ x) (labelled-dropped names left pairs)
+
+-- the same of a vector, which was lent as a slice
+pub labelled-lent : (names : List (List ℕ)) (pairs : List (List ℕ × Tree)) (fields : Vec Field Global) (lent after : List Field)
+    → pairs_of fields.items ≡ dropped_from names (length names) pairs → lent ≡ fields.items → length after ≡ fields.len
+    → pairs_of after ≡ zip names (values_of (pairs_of lent)) ++ drop (length names) (pairs_of lent)
+    → pairs_of (with_items fields after).items ≡ labelled names pairs
+labelled-lent names pairs fields lent after left whole long named =
+    ap pairs_of (with_items_is fields after long)
+    ∙ named
+    ∙ ap (λ others. zip names (values_of others) ++ drop (length names) others) (ap pairs_of whole ∙ left)
+    ∙ labelled-dropped names names pairs
 
 any-zip : (test : List ℕ → Bool) (names : List (List ℕ)) (values : List Tree) → list_any test names ≡ false → list_any test (keys_of (zip names values)) ≡ false
 any-zip test [] values none = refl

@@ -1,8 +1,8 @@
 //! `label`: new names for the first fields of a record.
-ghost use Rattle.std.specs.Prelude.{◌≡◌, ◌++◌, ◌∷◌, [], length, drop, IfOk, OnOk};
+ghost use Rattle.std.specs.Prelude.{◌≡◌, ◌++◌, length, take, drop, IfOk, OnOk};
 ghost use Rattle.std.specs.List.{zip};
 ghost use Rattle.mlr_spec.specs.Pairs.{are_distinct};
-ghost use Rattle.mlr_record.specs.Fields.{pair_of, pairs_of};
+ghost use Rattle.mlr_record.specs.Fields.{pairs_of};
 ghost use Rattle.mlr_event.specs.Reading.{is_among};
 ghost use Rattle.verbs_base.specs.Choosing.{dropped};
 ghost use Rattle.verbs_fields.specs.Values.{values_of};
@@ -41,10 +41,11 @@ impl PerRecord for Label {
     ghost sound = { λ verb. IsSoundLabel verb };
 
     fn made(&mut self, alloc: Global, fields: Record) -> Result<Option<Record>, NoMemory> {
-        let list = fields.into_fields();
-        let mut made = Vec::with_capacity(alloc, list.len())?;
-        put_labelled(alloc, self.names.as_slice(), list, &mut made)?;
-        Ok(Some(Record::of_fields(alloc, made)))
+        let names = self.names.as_slice();
+        let mut list = fields.into_fields();
+        drop_others(names, &mut list);
+        put_names(names, &mut list)?;
+        Ok(Some(Record::of_fields(alloc, list)))
     }
 }
 
@@ -54,7 +55,7 @@ pub fn are_distinct(names: &Names) -> bool
 {
     let mut left = names.as_slice();
     while let Some((name, more)) = left.split_first() {
-        if is_among(more, name.as_slice()) {
+        if is_among(more, name) {
             return false;
         }
         left = more;
@@ -62,48 +63,35 @@ pub fn are_distinct(names: &Names) -> bool
     true
 }
 
-/// Appends the fields with their new names to `into`.
-fn put_labelled(
-    alloc: Global,
-    names: &[Bytes],
-    fields: Vec<Field>,
-    into: &mut Vec<Field>,
-) -> Result<(), NoMemory>
-    ensures { OnOk result (pairs_of into.new.items ≡ pairs_of into.old.items
-        ++ (zip names.now (values_of (pairs_of fields.items))
-        ++ dropped names.now (drop (length names.now) (pairs_of fields.items)))) }
+/// Drops the fields after the last name that have one of the names.
+fn drop_others(names: &[Bytes], fields: &mut Vec<Field>)
+    ensures { pairs_of fields.new.items ≡ take (length names.now) (pairs_of fields.old.items)
+        ++ dropped names.now (drop (length names.now) (pairs_of fields.old.items)) }
 {
-    let mut left = names;
-    for field in fields {
-        match left.split_first() {
-            Some((name, more)) => {
-                let name = Bytes::copy_of(alloc, name.as_slice())?;
-                into.push(Field {
-                    name,
-                    value: field.value,
-                })?;
-                left = more;
-            }
-            None => push_other(names, field, into)?,
+    let mut place = fields.len();
+    while place > names.len() {
+        place -= 1;
+        if is_among(names, &fields[place].name) {
+            drop(fields.remove(place));
         }
     }
-    Ok(())
 }
 
-/// Appends a field, unless its name is one of the names.
-fn push_other(names: &[Bytes], field: Field, into: &mut Vec<Field>) -> Result<(), NoMemory>
-    ensures { OnOk result (pairs_of into.new.items
-        ≡ pairs_of into.old.items ++ dropped names.now (pair_of field ∷ [])) }
+/// Gives the first fields the names, one each.
+fn put_names(names: &[Bytes], fields: &mut [Field]) -> Result<(), NoMemory>
+    ensures { OnOk result (pairs_of fields.new ≡ zip names.now (values_of (pairs_of fields.old))
+        ++ drop (length names.now) (pairs_of fields.old)) }
 {
-    if !is_among(names, field.name.as_slice()) {
-        into.push(field)?;
+    for place in 0..names.len().min(fields.len()) {
+        fields[place].name = names[place].copy()?;
     }
     Ok(())
 }
 
 /// Whether a name is in the list.
-fn is_among(names: &[Bytes], name: &[u8]) -> bool
+#[inline(always)]
+fn is_among(names: &[Bytes], name: &Bytes) -> bool
     ensures { result ≡ is_among names.now name.now }
 {
-    names.iter().any(|other| name == other.as_slice())
+    names.iter().any(|other| name.is(other))
 }

@@ -1,12 +1,12 @@
 //! `reorder`: the named fields at the start or at the end of a record.
-ghost use Rattle.std.specs.Prelude.{◌≡◌, ◌++◌, IfOk};
+ghost use Rattle.std.specs.Prelude.{◌≡◌, ◌≤◌, ◌++◌, take, drop, IfOk, vec_len};
 ghost use Rattle.verbs_base.specs.Choosing.{dropped, picked};
 
 use mlr_event::Names;
-use mlr_record::Record;
+use mlr_record::{Field, Record};
 use mlr_spec::NoMemory;
 use std::alloc::Global;
-use verbs_base::{PerRecord, take_named};
+use verbs_base::{PerRecord, move_named};
 
 /// The options of `reorder`.
 #[derive(Drop)]
@@ -38,35 +38,41 @@ impl PerRecord for Reorder {
 
     fn made(&mut self, _: Global, fields: Record) -> Result<Option<Record>, NoMemory> {
         Ok(Some(if self.last {
-            named_last(&self.names, fields)?
+            named_last(&self.names, fields)
         } else {
-            named_first(&self.names, fields)?
+            named_first(&self.names, fields)
         }))
     }
 }
 
-/// The named fields in the order of the names, then the others. A name that repeats counts once. It allocates a list of
-/// fields.
-fn named_first(names: &Names, from: Record) -> Result<Record, NoMemory>
-    ensures { IfOk result (λ made. made ≡ picked names.now from ++ dropped names.now from) }
-{
-    let mut rest = from.into_fields();
-    let alloc = *rest.allocator();
-    let mut fields = Vec::with_capacity(alloc, rest.len())?;
-    take_named(names.as_slice(), &mut rest, &mut fields)?;
-    fields.append(&mut rest)?;
-    Ok(Record::of_fields(alloc, fields))
-}
-
-/// The fields that aren't named, then the named ones in the order of the names. A name that repeats counts once. It
-/// allocates a list of fields.
-fn named_last(names: &Names, from: Record) -> Result<Record, NoMemory>
-    ensures { IfOk result (λ made. made ≡ dropped names.now from ++ picked names.now from) }
+/// The named fields in the order of the names, then the others. A name that repeats counts once. It doesn't allocate.
+fn named_first(names: &Names, from: Record) -> Record
+    ensures { result ≡ picked names.now from ++ dropped names.now from }
 {
     let mut fields = from.into_fields();
     let alloc = *fields.allocator();
-    let mut taken = Vec::with_capacity(alloc, names.len().min(fields.len()))?;
-    take_named(names.as_slice(), &mut fields, &mut taken)?;
-    fields.append(&mut taken)?;
-    Ok(Record::of_fields(alloc, fields))
+    move_named(names.as_slice(), &mut fields);
+    Record::of_fields(alloc, fields)
+}
+
+/// The fields that aren't named, then the named ones in the order of the names. A name that repeats counts once. It
+/// doesn't allocate.
+fn named_last(names: &Names, from: Record) -> Record
+    ensures { result ≡ dropped names.now from ++ picked names.now from }
+{
+    let mut fields = from.into_fields();
+    let alloc = *fields.allocator();
+    let count = move_named(names.as_slice(), &mut fields);
+    rotate_by_ones(&mut fields, count);
+    Record::of_fields(alloc, fields)
+}
+
+/// Rotates the fields to the left, one place at a time: a field or two that wait elsewhere together take far longer.
+fn rotate_by_ones(fields: &mut Vec<Field>, count: usize)
+    requires { count ≤ vec_len fields.old }
+    ensures { fields.new.items ≡ drop count fields.old.items ++ take count fields.old.items }
+{
+    for _ in 0..count {
+        fields.rotate_left(1);
+    }
 }

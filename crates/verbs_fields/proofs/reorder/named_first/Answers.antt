@@ -1,18 +1,15 @@
-use Rattle.std.proofs.Common.{◌≡◌, ◌∙◌, ◌++◌, ap, ap₂, rules}
-use Rattle.std.proofs.lemmas.List.{map-append}
+use Rattle.std.proofs.Common.{◌∙◌, ◌++◌, ap, ap₂}
+use Rattle.std.proofs.lemmas.List.{with_items_is}
 use Rattle.mlr_spec.specs.Pairs.{keys_of, are_distinct}
-use Rattle.mlr_record.specs.Fields.{pair_of, pairs_of}
+use Rattle.mlr_record.specs.Fields.{pairs_of}
 use Rattle.verbs_base.specs.Choosing.{picked, dropped}
 use Rattle.verbs_base.proofs.Picking.{are_distinct-first}
 use Rattle.verbs_fields.proofs.reorder.named_first.Goals as goal
 
 pub of_fields-requires : goal.of_fields-requires
 of_fields-requires c =
-    let names = c.args.names.now in
-    let prefix : pairs_of c.take_named.new.taken.items ≡ picked names c.args.from = search rules in
-    let following : pairs_of c.take_named.new.fields.items ≡ dropped names c.args.from = search rules in
-    let whole : pairs_of c.append.new.self.items ≡ picked names c.args.from ++ dropped names c.args.from =
-    ap pairs_of c.in_ok-append.ensures.items
-    ∙ map-append pair_of c.take_named.new.taken.items c.take_named.new.fields.items
-    ∙ ap₂ (λ x y. x ++ y) prefix following in
-    ap (λ pairs. are_distinct (keys_of pairs)) whole ∙ are_distinct-first names c.args.from c.into_fields-rest.ensures.distinct
+    let whole =
+    ap pairs_of (with_items_is c.into_fields-fields.result c.move_named.new.fields (c.move_named.auto.fields ∙ c.deref_mut.ensures.len))
+    ∙ c.move_named.ensures.moved
+    ∙ ap₂ (λ names pairs. picked names pairs ++ dropped names pairs) c.as_slice.ensures (ap pairs_of c.deref_mut.ensures.value ∙ c.into_fields-fields.ensures.fields) in
+    ap (λ pairs. are_distinct (keys_of pairs)) whole ∙ are_distinct-first c.args.names.now c.args.from c.into_fields-fields.ensures.distinct
