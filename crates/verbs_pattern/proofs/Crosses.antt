@@ -9,19 +9,14 @@ use Rattle.mlr_pattern.specs.contracts.patterns.Patterns
 use Rattle.verbs_fields.proofs.rename_names.Renaming.TheSendSync as renaming
 use Rattle.verbs_pattern.specs.contracts.cut.Cut
 use Rattle.verbs_pattern.specs.contracts.cut.CutFields
-use Rattle.verbs_pattern.specs.contracts.cut.CutVerb
 use Rattle.verbs_pattern.specs.contracts.grep.Grep
-use Rattle.verbs_pattern.specs.contracts.grep.GrepVerb
 use Rattle.verbs_pattern.specs.contracts.gsub.Gsub
-use Rattle.verbs_pattern.specs.contracts.gsub.GsubVerb
 use Rattle.verbs_pattern.specs.contracts.having_fields.HavingFields
-use Rattle.verbs_pattern.specs.contracts.having_fields.HavingFieldsVerb
 use Rattle.verbs_pattern.specs.contracts.rename.Rename
-use Rattle.verbs_pattern.specs.contracts.rename.RenameVerb
 use Rattle.verbs_pattern.specs.contracts.rename_patterns.RenamePatterns
+use Rattle.verbs_pattern.specs.contracts.searching.Searching
 use Rattle.verbs_pattern.specs.contracts.ssub.Ssub
 use Rattle.verbs_pattern.specs.contracts.sub.Sub
-use Rattle.verbs_pattern.specs.contracts.sub.SubVerb
 use Rattle.verbs_pattern.specs.contracts.sub_fields.SubFields
 
 -- options, moved to another thread
@@ -58,24 +53,42 @@ Cut-send = search (CutFields-send, crosses, sendable) depth 60 fits 20000
 pub HavingFields-send : IsSend HavingFields.the_field.row
 HavingFields-send = search (crosses_regex, names.the_send, crosses, sendable) depth 60 fits 20000
 
--- verbs, moved to another thread
-pub SubVerb-send : IsSend SubVerb.the_field.row
-SubVerb-send = search (Sub-send, crosses, sendable) depth 60 fits 20000
+-- options as arguments of `Searching`, and the verbs, moved to another thread
+Sub-row-send : IsSend Sub.the_row
+Sub-row-send = search (Sub-send, crosses, sendable) depth 60 fits 20000
 
-pub GsubVerb-send : IsSend GsubVerb.the_field.row
-GsubVerb-send = search (Gsub-send, crosses, sendable) depth 60 fits 20000
+pub SubVerb-send : IsSend (Searching.the_field Sub.the_row).row
+SubVerb-send = search (Sub-row-send, crosses, sendable) depth 60 fits 20000
 
-pub GrepVerb-send : IsSend GrepVerb.the_field.row
-GrepVerb-send = search (Grep-send, crosses, sendable) depth 60 fits 20000
+Gsub-row-send : IsSend Gsub.the_row
+Gsub-row-send = search (Gsub-send, crosses, sendable) depth 60 fits 20000
 
-pub RenameVerb-send : IsSend RenameVerb.the_field.row
-RenameVerb-send = search (Rename-send, crosses, sendable) depth 60 fits 20000
+pub GsubVerb-send : IsSend (Searching.the_field Gsub.the_row).row
+GsubVerb-send = search (Gsub-row-send, crosses, sendable) depth 60 fits 20000
 
-pub CutVerb-send : IsSend CutVerb.the_field.row
-CutVerb-send = search (Cut-send, crosses, sendable) depth 60 fits 20000
+Grep-row-send : IsSend Grep.the_row
+Grep-row-send = search (Grep-send, crosses, sendable) depth 60 fits 20000
 
-pub HavingFieldsVerb-send : IsSend HavingFieldsVerb.the_field.row
-HavingFieldsVerb-send = search (HavingFields-send, crosses, sendable) depth 60 fits 20000
+pub GrepVerb-send : IsSend (Searching.the_field Grep.the_row).row
+GrepVerb-send = search (Grep-row-send, crosses, sendable) depth 60 fits 20000
+
+Rename-row-send : IsSend Rename.the_row
+Rename-row-send = search (Rename-send, crosses, sendable) depth 60 fits 20000
+
+pub RenameVerb-send : IsSend (Searching.the_field Rename.the_row).row
+RenameVerb-send = search (Rename-row-send, crosses, sendable) depth 60 fits 20000
+
+Cut-row-send : IsSend Cut.the_row
+Cut-row-send = search (Cut-send, crosses, sendable) depth 60 fits 20000
+
+pub CutVerb-send : IsSend (Searching.the_field Cut.the_row).row
+CutVerb-send = search (Cut-row-send, crosses, sendable) depth 60 fits 20000
+
+HavingFields-row-send : IsSend HavingFields.the_row
+HavingFields-row-send = search (HavingFields-send, crosses, sendable) depth 60 fits 20000
+
+pub HavingFieldsVerb-send : IsSend (Searching.the_field HavingFields.the_row).row
+HavingFieldsVerb-send = search (HavingFields-row-send, crosses, sendable) depth 60 fits 20000
 
 -- options, shared by threads
 SubFields-sync : IsSync SubFields.the_field.row

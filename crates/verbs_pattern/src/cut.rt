@@ -4,17 +4,17 @@ ghost use Rattle.std.specs.Arc.{arc_value};
 ghost use Rattle.regex.specs.Patterns.{Re};
 ghost use Rattle.regex.specs.Bytes.{matcher_pattern, regex_pattern};
 ghost use Rattle.mlr_record.specs.Fields.{pairs_of};
-ghost use Rattle.verbs_base.specs.Records.{each, maps};
 ghost use Rattle.verbs_pattern.specs.Cut.{any_matches, AreSameFields, ArePatternsOf, cut, kept_matching};
 ghost use Rattle.verbs_pattern.specs.Matching.{has_match};
 
-use mlr_event::{Ctx, Events, Names};
+use crate::searching::{Searches, Searching, search_each};
+use mlr_event::{Events, Names};
 use mlr_pattern::{Matcher, Pattern, Patterns};
 use mlr_record::{Field, Record};
 use mlr_spec::NoMemory;
 use std::alloc::Global;
 use std::sync::Arc;
-use verbs_base::{Each, PerRecord, Stateful, drop_named, keep_named, pick_named};
+use verbs_base::{PerRecord, drop_named, keep_named, pick_named};
 
 /// The options of `cut`.
 #[derive(Drop)]
@@ -59,61 +59,36 @@ impl CutFields {
             CutFields::Patterns(patterns) => CutFields::Patterns(patterns.copy()?),
         })
     }
+
+    /// A matcher for each pattern, and none where the fields are named.
+    fn matchers(&self, alloc: Global) -> Result<Vec<Matcher<'_>>, NoMemory>
+        ensures { IfOk result (λ made. ArePatternsOf self.now (map matcher_pattern made.items)) }
+    {
+        match self {
+            CutFields::Names(_) => Ok(Vec::new(alloc)),
+            CutFields::Patterns(patterns) => matchers_of(alloc, patterns.as_slice()),
+        }
+    }
 }
 
 /// The verb `cut`. It makes one matcher for each pattern, for all records of a list.
-#[derive(Drop)]
-pub struct CutVerb {
-    alloc: Global,
-    options: Cut,
-}
+pub type CutVerb = Searching<Cut>;
 
-impl CutVerb {
-    /// The verb with these options, before the first record. It doesn't allocate.
-    pub fn new(alloc: Global, options: Cut) -> Self
-        ensures meaning { ⟦<CutVerb as Stateful>⟧.meaning result ≡ each (maps (cut options)) }
-        ensures represents { ⟦<CutVerb as Stateful>⟧.represents result [] }
-    {
-        CutVerb { alloc, options }
-    }
-}
-
-impl Stateful for CutVerb {
-    ghost use Rattle.verbs_base.specs.Laws.{stream-shuts};
-    ghost use Rattle.verbs_base.specs.Records.{each, maps};
+impl Searches for Cut {
+    ghost use Rattle.verbs_base.specs.Records.{maps};
     ghost use Rattle.verbs_pattern.specs.Cut.{cut};
 
-    ghost meaning = { λ s. each (maps (cut s.options)) };
+    ghost gives = { λ options. maps (cut options) };
 
-    ghost represents = { λ s before. Unit {0} };
-
-    ghost shuts = { λ s. stream-shuts (λ before. maps (cut s.options)) };
-
-    fn take(&mut self, fields: Record, ctx: Ctx, out: &mut Events) -> Result<(), NoMemory> {
-        let alloc = self.alloc;
-        let verb = Search::of(alloc, &self.options)?;
-        Each { alloc, verb }.take(fields, ctx, out)
-    }
-
-    fn take_all(&mut self, events: &mut Events, out: &mut Events) -> Result<(), NoMemory> {
-        if events.len() == 0 {
-            return Ok(());
-        }
-        let alloc = self.alloc;
-        let verb = Search::of(alloc, &self.options)?;
-        Each { alloc, verb }.take_all(events, out)
-    }
-
-    fn finish(&mut self, _: Ctx, _: &mut Events) -> Result<(), NoMemory> {
-        Ok(())
-    }
-
-    fn is_shut(&self) -> bool {
-        false
-    }
-
-    fn never_shuts(&self) -> bool {
-        true
+    fn search_all(
+        &self,
+        alloc: Global,
+        events: &mut Events,
+        out: &mut Events,
+    ) -> Result<(), NoMemory> {
+        let matchers = self.fields.matchers(alloc)?;
+        let options = self;
+        search_each(alloc, Search { options, matchers }, events, out)
     }
 }
 
@@ -122,21 +97,6 @@ impl Stateful for CutVerb {
 struct Search<'c> {
     options: &'c Cut,
     matchers: Vec<Matcher<'c>>,
-}
-
-impl<'c> Search<'c> {
-    /// The search with these options. It makes one matcher for each pattern.
-    fn of(alloc: Global, options: &'c Cut) -> Result<Self, NoMemory>
-        ensures options { IfOk result (λ made. made.options.now ≡ options.now) }
-        ensures matchers { IfOk result (λ made. ArePatternsOf made.options.now.fields
-            (map matcher_pattern made.matchers.items)) }
-    {
-        let matchers = match &options.fields {
-            CutFields::Names(_) => Vec::new(alloc),
-            CutFields::Patterns(patterns) => matchers_of(alloc, patterns.as_slice())?,
-        };
-        Ok(Search { options, matchers })
-    }
 }
 
 impl PerRecord for Search<'_> {

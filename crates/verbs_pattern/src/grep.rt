@@ -4,12 +4,12 @@ ghost use Rattle.std.specs.Arc.{arc_value};
 ghost use Rattle.regex.specs.Bytes.{matcher_pattern, regex_pattern};
 ghost use Rattle.mlr_value.specs.Value.{tree_of};
 ghost use Rattle.text_forms.specs.Dkvp.{pair_text};
-ghost use Rattle.verbs_base.specs.Records.{each, passes};
 ghost use Rattle.verbs_pattern.specs.Grep.{grep, record_text};
 ghost use Rattle.verbs_pattern.specs.Matching.{has_match};
 
 use crate::passing::passing;
-use mlr_event::{Ctx, Events};
+use crate::searching::{Searches, Searching, search_each};
+use mlr_event::Events;
 use mlr_pattern::{Matcher, Pattern};
 use mlr_record::Record;
 use mlr_spec::NoMemory;
@@ -17,7 +17,7 @@ use mlr_value::{Bytes, Value};
 use std::alloc::Global;
 use std::sync::Arc;
 use text_forms::append_shown;
-use verbs_base::{Each, PerRecord, Stateful};
+use verbs_base::PerRecord;
 
 /// `grep`: passes the records whose text matches a pattern. A record's text is its line in DKVP with `,` and
 /// `=`.
@@ -48,58 +48,23 @@ impl Grep {
 }
 
 /// The verb `grep`. It makes one matcher for all records of a list.
-#[derive(Drop)]
-pub struct GrepVerb {
-    alloc: Global,
-    options: Grep,
-}
+pub type GrepVerb = Searching<Grep>;
 
-impl GrepVerb {
-    /// The verb with these options, before the first record. It doesn't allocate.
-    pub fn new(alloc: Global, options: Grep) -> Self
-        ensures meaning { ⟦<GrepVerb as Stateful>⟧.meaning result ≡ each (passes (grep options)) }
-        ensures represents { ⟦<GrepVerb as Stateful>⟧.represents result [] }
-    {
-        GrepVerb { alloc, options }
-    }
-}
-
-impl Stateful for GrepVerb {
-    ghost use Rattle.verbs_base.specs.Laws.{stream-shuts};
-    ghost use Rattle.verbs_base.specs.Records.{each, passes};
+impl Searches for Grep {
+    ghost use Rattle.verbs_base.specs.Records.{passes};
     ghost use Rattle.verbs_pattern.specs.Grep.{grep};
 
-    ghost meaning = { λ s. each (passes (grep s.options)) };
+    ghost gives = { λ options. passes (grep options) };
 
-    ghost represents = { λ s before. Unit {0} };
-
-    ghost shuts = { λ s. stream-shuts (λ before. passes (grep s.options)) };
-
-    fn take(&mut self, fields: Record, ctx: Ctx, out: &mut Events) -> Result<(), NoMemory> {
-        let alloc = self.alloc;
-        let verb = Search::of(alloc, &self.options)?;
-        Each { alloc, verb }.take(fields, ctx, out)
-    }
-
-    fn take_all(&mut self, events: &mut Events, out: &mut Events) -> Result<(), NoMemory> {
-        if events.len() == 0 {
-            return Ok(());
-        }
-        let alloc = self.alloc;
-        let verb = Search::of(alloc, &self.options)?;
-        Each { alloc, verb }.take_all(events, out)
-    }
-
-    fn finish(&mut self, _: Ctx, _: &mut Events) -> Result<(), NoMemory> {
-        Ok(())
-    }
-
-    fn is_shut(&self) -> bool {
-        false
-    }
-
-    fn never_shuts(&self) -> bool {
-        true
+    fn search_all(
+        &self,
+        alloc: Global,
+        events: &mut Events,
+        out: &mut Events,
+    ) -> Result<(), NoMemory> {
+        let matcher = self.pattern.matcher(alloc)?;
+        let options = self;
+        search_each(alloc, Search { options, matcher }, events, out)
     }
 }
 
@@ -108,18 +73,6 @@ impl Stateful for GrepVerb {
 struct Search<'g> {
     options: &'g Grep,
     matcher: Matcher<'g>,
-}
-
-impl<'g> Search<'g> {
-    /// The search with these options. It makes a matcher.
-    fn of(alloc: Global, options: &'g Grep) -> Result<Self, NoMemory>
-        ensures options { IfOk result (λ made. made.options.now ≡ options.now) }
-        ensures matcher { IfOk result (λ made. matcher_pattern made.matcher
-            ≡ regex_pattern (arc_value made.options.now.pattern)) }
-    {
-        let matcher = options.pattern.matcher(alloc)?;
-        Ok(Search { options, matcher })
-    }
 }
 
 impl PerRecord for Search<'_> {

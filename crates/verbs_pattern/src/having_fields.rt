@@ -1,22 +1,21 @@
 //! `having-fields`: passes the records that have or don't have certain fields.
 ghost use Rattle.std.specs.Prelude.{◌≡◌, [], Some, IfOk};
-ghost use Rattle.std.specs.Arc.{arc_value};
 ghost use Rattle.std.specs.List.{list_all};
 ghost use Rattle.std.specs.Option.{option_map};
 ghost use Rattle.regex.specs.Bytes.{matcher_pattern};
 ghost use Rattle.regex.specs.Patterns.{Re};
-ghost use Rattle.verbs_base.specs.Records.{each, passes};
 ghost use Rattle.verbs_pattern.specs.HavingFields.{all_names_match, any_name_matches, AreSameHaving, has, IsPatternOf};
 ghost use Rattle.verbs_pattern.specs.Matching.{has_match};
 
 use crate::passing::passing;
-use mlr_event::{Ctx, Events, Names};
+use crate::searching::{Searches, Searching, search_each};
+use mlr_event::{Events, Names};
 use mlr_pattern::{Matcher, Pattern};
 use mlr_record::Record;
 use mlr_spec::NoMemory;
 use std::alloc::Global;
 use std::sync::Arc;
-use verbs_base::{Each, PerRecord, Stateful};
+use verbs_base::PerRecord;
 use verbs_fields::{all_defined, any_defined, has_all, has_no_others};
 
 /// The records that `having-fields` passes.
@@ -58,61 +57,37 @@ impl HavingFields {
             }
         })
     }
+
+    /// A matcher, if there is a pattern.
+    fn matcher(&self, alloc: Global) -> Result<Option<Matcher<'_>>, NoMemory>
+        ensures { IfOk result (λ made. IsPatternOf self.now (option_map matcher_pattern made)) }
+    {
+        Ok(match self {
+            HavingFields::AllMatching(pattern) => Some(pattern.matcher(alloc)?),
+            HavingFields::AnyMatching(pattern) => Some(pattern.matcher(alloc)?),
+            _ => None,
+        })
+    }
 }
 
 /// The verb `having-fields`. It makes one matcher for all records of a list, if it has a pattern.
-#[derive(Drop)]
-pub struct HavingFieldsVerb {
-    alloc: Global,
-    options: HavingFields,
-}
+pub type HavingFieldsVerb = Searching<HavingFields>;
 
-impl HavingFieldsVerb {
-    /// The verb with these options, before the first record. It doesn't allocate.
-    pub fn new(alloc: Global, options: HavingFields) -> Self
-        ensures meaning { ⟦<HavingFieldsVerb as Stateful>⟧.meaning result ≡ each (passes (has options)) }
-        ensures represents { ⟦<HavingFieldsVerb as Stateful>⟧.represents result [] }
-    {
-        HavingFieldsVerb { alloc, options }
-    }
-}
-
-impl Stateful for HavingFieldsVerb {
-    ghost use Rattle.verbs_base.specs.Laws.{stream-shuts};
-    ghost use Rattle.verbs_base.specs.Records.{each, passes};
+impl Searches for HavingFields {
+    ghost use Rattle.verbs_base.specs.Records.{passes};
     ghost use Rattle.verbs_pattern.specs.HavingFields.{has};
 
-    ghost meaning = { λ s. each (passes (has s.options)) };
+    ghost gives = { λ options. passes (has options) };
 
-    ghost represents = { λ s before. Unit {0} };
-
-    ghost shuts = { λ s. stream-shuts (λ before. passes (has s.options)) };
-
-    fn take(&mut self, fields: Record, ctx: Ctx, out: &mut Events) -> Result<(), NoMemory> {
-        let alloc = self.alloc;
-        let verb = Search::of(alloc, &self.options)?;
-        Each { alloc, verb }.take(fields, ctx, out)
-    }
-
-    fn take_all(&mut self, events: &mut Events, out: &mut Events) -> Result<(), NoMemory> {
-        if events.len() == 0 {
-            return Ok(());
-        }
-        let alloc = self.alloc;
-        let verb = Search::of(alloc, &self.options)?;
-        Each { alloc, verb }.take_all(events, out)
-    }
-
-    fn finish(&mut self, _: Ctx, _: &mut Events) -> Result<(), NoMemory> {
-        Ok(())
-    }
-
-    fn is_shut(&self) -> bool {
-        false
-    }
-
-    fn never_shuts(&self) -> bool {
-        true
+    fn search_all(
+        &self,
+        alloc: Global,
+        events: &mut Events,
+        out: &mut Events,
+    ) -> Result<(), NoMemory> {
+        let matcher = self.matcher(alloc)?;
+        let options = self;
+        search_each(alloc, Search { options, matcher }, events, out)
     }
 }
 
@@ -121,22 +96,6 @@ impl Stateful for HavingFieldsVerb {
 struct Search<'h> {
     options: &'h HavingFields,
     matcher: Option<Matcher<'h>>,
-}
-
-impl<'h> Search<'h> {
-    /// The test with these options. It makes a matcher if it has a pattern.
-    fn of(alloc: Global, options: &'h HavingFields) -> Result<Self, NoMemory>
-        ensures options { IfOk result (λ made. made.options.now ≡ options.now) }
-        ensures matcher { IfOk result (λ made. IsPatternOf made.options.now
-            (option_map matcher_pattern made.matcher)) }
-    {
-        let matcher = match options {
-            HavingFields::AllMatching(pattern) => Some(pattern.matcher(alloc)?),
-            HavingFields::AnyMatching(pattern) => Some(pattern.matcher(alloc)?),
-            _ => None,
-        };
-        Ok(Search { options, matcher })
-    }
 }
 
 impl PerRecord for Search<'_> {

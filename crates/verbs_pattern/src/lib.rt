@@ -1,5 +1,5 @@
 //! The verbs that search for patterns or texts: `cut`, `having-fields`, `rename`, `grep`, `sub`, `gsub` and `ssub`. The
-//! fields of a verb's options are its words on the command line. A matcher borrows its pattern, so a verb with patterns
+//! fields of a verb's options are its words on the command line. A verb with patterns is `Searching` with its options: it
 //! makes its matchers once for a list of records.
 #![tactic(auto)]
 
@@ -11,6 +11,7 @@ mod laws;
 mod passing;
 mod rename;
 mod rename_patterns;
+mod searching;
 mod ssub;
 mod sub;
 mod sub_fields;
@@ -25,6 +26,7 @@ pub use having_fields::{HavingFields, HavingFieldsVerb};
 pub use laws::{cut_law, rename_back_law, renamed_law};
 pub use rename::{Rename, RenameVerb};
 pub use rename_patterns::RenamePatterns;
+pub use searching::{Searches, Searching};
 pub use ssub::Ssub;
 pub use sub::{Sub, SubVerb};
 pub use sub_fields::SubFields;

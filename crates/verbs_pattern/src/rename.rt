@@ -1,16 +1,16 @@
 //! `rename`: renames fields, by their names or by patterns.
-ghost use Rattle.std.specs.Prelude.{◌≡◌, [], map, IfOk};
+ghost use Rattle.std.specs.Prelude.{◌≡◌, map, IfOk};
 ghost use Rattle.regex.specs.Bytes.{matcher_pattern};
-ghost use Rattle.verbs_base.specs.Records.{each, maps};
 ghost use Rattle.verbs_pattern.specs.Rename.{AreSameRename, ArePatternsOf, rename};
 
 use crate::rename_patterns::RenamePatterns;
-use mlr_event::{Ctx, Events};
+use crate::searching::{Searches, Searching, search_each};
+use mlr_event::Events;
 use mlr_pattern::Matcher;
 use mlr_record::Record;
 use mlr_spec::NoMemory;
 use std::alloc::Global;
-use verbs_base::{Each, PerRecord, Stateful};
+use verbs_base::PerRecord;
 use verbs_fields::{Renaming, rename_each};
 
 /// The renamings of `rename`.
@@ -33,61 +33,36 @@ impl Rename {
             Rename::Patterns(options) => Rename::Patterns(options.copy(alloc)?),
         })
     }
+
+    /// A matcher for each pattern, and none where the fields are named.
+    fn matchers(&self, alloc: Global) -> Result<Vec<Matcher<'_>>, NoMemory>
+        ensures { IfOk result (λ made. ArePatternsOf self.now (map matcher_pattern made.items)) }
+    {
+        match self {
+            Rename::Names(_) => Ok(Vec::new(alloc)),
+            Rename::Patterns(patterns) => patterns.matchers(alloc),
+        }
+    }
 }
 
 /// The verb `rename`. It makes one matcher for each pattern, for all records of a list.
-#[derive(Drop)]
-pub struct RenameVerb {
-    alloc: Global,
-    options: Rename,
-}
+pub type RenameVerb = Searching<Rename>;
 
-impl RenameVerb {
-    /// The verb with these options, before the first record. It doesn't allocate.
-    pub fn new(alloc: Global, options: Rename) -> Self
-        ensures meaning { ⟦<RenameVerb as Stateful>⟧.meaning result ≡ each (maps (rename options)) }
-        ensures represents { ⟦<RenameVerb as Stateful>⟧.represents result [] }
-    {
-        RenameVerb { alloc, options }
-    }
-}
-
-impl Stateful for RenameVerb {
-    ghost use Rattle.verbs_base.specs.Laws.{stream-shuts};
-    ghost use Rattle.verbs_base.specs.Records.{each, maps};
+impl Searches for Rename {
+    ghost use Rattle.verbs_base.specs.Records.{maps};
     ghost use Rattle.verbs_pattern.specs.Rename.{rename};
 
-    ghost meaning = { λ s. each (maps (rename s.options)) };
+    ghost gives = { λ options. maps (rename options) };
 
-    ghost represents = { λ s before. Unit {0} };
-
-    ghost shuts = { λ s. stream-shuts (λ before. maps (rename s.options)) };
-
-    fn take(&mut self, fields: Record, ctx: Ctx, out: &mut Events) -> Result<(), NoMemory> {
-        let alloc = self.alloc;
-        let verb = Search::of(alloc, &self.options)?;
-        Each { alloc, verb }.take(fields, ctx, out)
-    }
-
-    fn take_all(&mut self, events: &mut Events, out: &mut Events) -> Result<(), NoMemory> {
-        if events.len() == 0 {
-            return Ok(());
-        }
-        let alloc = self.alloc;
-        let verb = Search::of(alloc, &self.options)?;
-        Each { alloc, verb }.take_all(events, out)
-    }
-
-    fn finish(&mut self, _: Ctx, _: &mut Events) -> Result<(), NoMemory> {
-        Ok(())
-    }
-
-    fn is_shut(&self) -> bool {
-        false
-    }
-
-    fn never_shuts(&self) -> bool {
-        true
+    fn search_all(
+        &self,
+        alloc: Global,
+        events: &mut Events,
+        out: &mut Events,
+    ) -> Result<(), NoMemory> {
+        let matchers = self.matchers(alloc)?;
+        let options = self;
+        search_each(alloc, Search { options, matchers }, events, out)
     }
 }
 
@@ -96,21 +71,6 @@ impl Stateful for RenameVerb {
 struct Search<'r> {
     options: &'r Rename,
     matchers: Vec<Matcher<'r>>,
-}
-
-impl<'r> Search<'r> {
-    /// The search with these options. It makes one matcher for each pattern.
-    fn of(alloc: Global, options: &'r Rename) -> Result<Self, NoMemory>
-        ensures options { IfOk result (λ made. made.options.now ≡ options.now) }
-        ensures matchers { IfOk result (λ made. ArePatternsOf made.options.now
-            (map matcher_pattern made.matchers.items)) }
-    {
-        let matchers = match options {
-            Rename::Names(_) => Vec::new(alloc),
-            Rename::Patterns(patterns) => patterns.matchers(alloc)?,
-        };
-        Ok(Search { options, matchers })
-    }
 }
 
 impl PerRecord for Search<'_> {

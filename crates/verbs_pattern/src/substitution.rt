@@ -1,50 +1,57 @@
 //! The change of values by `sub` and `gsub`.
-ghost use Rattle.std.specs.Prelude.{◌≡◌, ◌<◌, ℕ, List, length, set, slice_index_or, IfOk, OnOk};
+ghost use Rattle.std.specs.Prelude.{◌≡◌, [], OnOk};
+ghost use Rattle.std.specs.Arc.{arc_value};
 ghost use Rattle.regex.specs.Bytes.{regex_pattern};
 ghost use Rattle.mlr_pattern.specs.Values.{sub_of};
-ghost use Rattle.mlr_spec.specs.Tree.{Tree};
-ghost use Rattle.verbs_base.specs.Changing.{changed, changed_field};
-ghost use Rattle.verbs_base.specs.Records.{maps};
+ghost use Rattle.verbs_base.specs.Records.{each, maps};
+ghost use Rattle.verbs_base.specs.Taking.{GivesForAll};
 ghost use Rattle.verbs_pattern.specs.SubFields.{changed_fields};
 
+use crate::searching::search_each;
 use crate::sub_fields::{SubFields, names_of};
+use mlr_event::Events;
 use mlr_pattern::{Matcher, Pattern, Which, sub_value};
 use mlr_record::Record;
 use mlr_spec::NoMemory;
 use mlr_value::{Bytes, Value};
 use std::alloc::Global;
+use std::sync::Arc;
 use verbs_base::{Change, PerRecord, change_fields, is_taken};
+
+/// Takes all events of a list in turn, with a matcher that is made for the list: in the values of these fields, matches
+/// are replaced, and any other event passes.
+pub(crate) fn substitute_all(
+    alloc: Global,
+    fields: &SubFields,
+    pattern: &Arc<Pattern>,
+    by: &Bytes,
+    which: Which,
+    events: &mut Events,
+    out: &mut Events,
+) -> Result<(), NoMemory>
+    ensures empty { OnOk result (events.new ≡ []) }
+    ensures gives { OnOk result (GivesForAll (each (maps (changed_fields fields.now
+        (sub_of which (regex_pattern (arc_value pattern.now)) by.now)))) (λ given. Unit {0})
+        events.old out.old out.new) }
+{
+    let matcher = pattern.matcher(alloc)?;
+    let by = by.as_slice();
+    let verb = Substitution {
+        fields,
+        matcher,
+        by,
+        which,
+    };
+    search_each(alloc, verb, events, out)
+}
 
 /// The change of values by `sub` or `gsub`, for the records of one list.
 #[derive(Drop)]
-pub(crate) struct Substitution<'s> {
+struct Substitution<'s> {
     fields: &'s SubFields,
     matcher: Matcher<'s>,
     by: &'s [u8],
     which: Which,
-}
-
-impl<'s> Substitution<'s> {
-    /// The change with these options. It makes a matcher.
-    pub(crate) fn of(
-        alloc: Global,
-        fields: &'s SubFields,
-        pattern: &'s Pattern,
-        by: &'s [u8],
-        which: Which,
-    ) -> Result<Self, NoMemory>
-        ensures { IfOk result (λ made. ⟦<Substitution<'s> as PerRecord>⟧.gives made
-            ≡ maps (changed_fields fields.now
-            (sub_of which (regex_pattern pattern.now) by.now))) }
-    {
-        let matcher = pattern.matcher(alloc)?;
-        Ok(Substitution {
-            fields,
-            matcher,
-            by,
-            which,
-        })
-    }
 }
 
 impl PerRecord for Substitution<'_> {

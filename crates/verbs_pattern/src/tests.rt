@@ -1,4 +1,4 @@
-//! Records that verbs with patterns change, keep or pass, and copies of these verbs.
+//! Records that verbs with patterns change, keep or pass. The verbs have copies of their options.
 ghost use Rattle.std.specs.Prelude.{[]};
 
 use crate::grep::append_dkvp;
@@ -7,7 +7,7 @@ use crate::{
     Rename, RenamePatterns, RenameVerb, Ssub, Sub, SubFields, SubVerb,
 };
 use mlr_event::{Ctx, Event, Events, Names};
-use mlr_pattern::{Pattern, Patterns, Which, matches, read_pattern};
+use mlr_pattern::{Pattern, Patterns, Which, read_pattern};
 use mlr_record::Record;
 use mlr_spec::{InferOpts, NoMemory};
 use mlr_value::{Bytes, MapValue, Value, from_data};
@@ -103,20 +103,34 @@ fn names_of(alloc: Global, fields: &[&[u8]]) -> Result<Names, NoMemory> {
     Ok(names)
 }
 
-fn sub_of(alloc: Global, fields: Fields, pattern: &[u8], by: &[u8]) -> Result<Sub, Fail> {
-    Ok(Sub {
+/// `sub` of each `x`.
+fn sub_of(alloc: Global, fields: Fields, by: &[u8]) -> Result<Sub, Fail> {
+    let sub = Sub {
         fields: fields_of(alloc, fields)?,
-        pattern: pattern_of(alloc, pattern)?,
+        pattern: pattern_of(alloc, b"x")?,
         by: Bytes::copy_of(alloc, by)?,
-    })
+    };
+    Ok(sub.copy(alloc)?)
 }
 
-fn gsub_of(alloc: Global, fields: Fields, pattern: &[u8], by: &[u8]) -> Result<Gsub, Fail> {
-    Ok(Gsub {
+/// `gsub` of each `x`.
+fn gsub_of(alloc: Global, fields: Fields, by: &[u8]) -> Result<Gsub, Fail> {
+    let gsub = Gsub {
         fields: fields_of(alloc, fields)?,
-        pattern: pattern_of(alloc, pattern)?,
+        pattern: pattern_of(alloc, b"x")?,
         by: Bytes::copy_of(alloc, by)?,
-    })
+    };
+    Ok(gsub.copy(alloc)?)
+}
+
+/// `ssub` of a text by `\0`.
+fn ssub_of(alloc: Global, fields: Fields, old: &[u8]) -> Result<Ssub, NoMemory> {
+    let ssub = Ssub {
+        fields: fields_of(alloc, fields)?,
+        old: Bytes::copy_of(alloc, old)?,
+        by: Bytes::copy_of(alloc, b"\\0")?,
+    };
+    ssub.copy(alloc)
 }
 
 /// Names or patterns with their replacements.
@@ -162,15 +176,15 @@ fn cut(
         ordered,
         complement,
     };
-    given(&mut CutVerb::new(alloc, options), alloc, line)
+    given(&mut CutVerb::new(alloc, options.copy(alloc)?), alloc, line)
 }
 
 /// A change of a record.
 enum Change {
-    /// Replaces the first `x` in each of these fields by `<x>`.
-    Sub(Fields),
-    /// Replaces each `x` in these fields by `<x>`.
-    Gsub(Fields),
+    /// Replaces the first `x` in each of these fields.
+    Sub(Fields, &'static [u8]),
+    /// Replaces each `x` in these fields.
+    Gsub(Fields, &'static [u8]),
     /// Replaces the first such text in each of these fields by `\0`.
     Ssub(Fields, &'static [u8]),
     /// Rewrites the first match in each name.
@@ -193,20 +207,16 @@ enum Change {
 
 fn changed(alloc: Global, change: &Change, line: &str) -> Result<Bytes, Fail> {
     match change {
-        Change::Sub(fields) => {
-            let sub = sub_of(alloc, *fields, b"x", b"<\\0>")?;
+        Change::Sub(fields, by) => {
+            let sub = sub_of(alloc, *fields, by)?;
             given(&mut SubVerb::new(alloc, sub), alloc, line)
         }
-        Change::Gsub(fields) => {
-            let gsub = gsub_of(alloc, *fields, b"x", b"<\\0>")?;
+        Change::Gsub(fields, by) => {
+            let gsub = gsub_of(alloc, *fields, by)?;
             given(&mut GsubVerb::new(alloc, gsub), alloc, line)
         }
         Change::Ssub(fields, old) => {
-            let verb = Ssub {
-                fields: fields_of(alloc, *fields)?,
-                old: Bytes::copy_of(alloc, old)?,
-                by: Bytes::copy_of(alloc, b"\\0")?,
-            };
+            let verb = ssub_of(alloc, *fields, old)?;
             given(&mut Each { alloc, verb }, alloc, line)
         }
         Change::RenameFirst(pairs) => {
@@ -225,7 +235,11 @@ fn changed(alloc: Global, change: &Change, line: &str) -> Result<Bytes, Fail> {
 }
 
 fn renamed(alloc: Global, rename: Rename, line: &str) -> Result<Bytes, Fail> {
-    given(&mut RenameVerb::new(alloc, rename), alloc, line)
+    given(
+        &mut RenameVerb::new(alloc, rename.copy(alloc)?),
+        alloc,
+        line,
+    )
 }
 
 /// The record of a line after `cut`, or no records for another change.
@@ -255,11 +269,18 @@ fn selected(alloc: Global, change: &Change, line: &str) -> Result<Bytes, Fail> {
     }
 }
 
+const LONG: &[u8] = b"a text of more bytes than lie inline";
+
+/// The match in brackets.
+const BY: &[u8] = b"<\\0>";
+
 const BZB: Fields = Some(&[b"b", b"z", b"b"]);
 
 const DCXA: Fields = Some(&[b"d", b"cx", b"a"]);
 
 const CXA: Fields = Some(&[b"cx", b"a"]);
+
+const LONG_B: Fields = Some(&[LONG, b"b"]);
 
 /// A change, and a record after it.
 type Row = (Change, &'static [u8]);
@@ -267,17 +288,26 @@ type Row = (Change, &'static [u8]);
 const SOME: &str = "a=5,b=xyx,cx=x,d=";
 
 /// The record `SOME` after each change.
-const OF_SOME: [Row; 25] = [
-    (Change::Sub(None), b"a=5,b=<x>yx,cx=<x>,d="),
-    (Change::Gsub(None), b"a=5,b=<x>y<x>,cx=<x>,d="),
-    (Change::Sub(BZB), b"a=5,b=<x>yx,cx=x,d="),
-    (Change::Gsub(BZB), b"a=5,b=<x>y<x>,cx=x,d="),
-    (Change::Sub(DCXA), b"a=5,b=xyx,cx=<x>,d="),
-    (Change::Gsub(DCXA), b"a=5,b=xyx,cx=<x>,d="),
-    (Change::Sub(Some(&[b"z"])), b"a=5,b=xyx,cx=x,d="),
-    (Change::Gsub(Some(&[b"z"])), b"a=5,b=xyx,cx=x,d="),
-    (Change::Sub(Some(&[])), b"a=5,b=xyx,cx=x,d="),
-    (Change::Gsub(Some(&[])), b"a=5,b=xyx,cx=x,d="),
+const OF_SOME: [Row; 28] = [
+    (
+        Change::Sub(BZB, LONG),
+        b"a=5,b=a text of more bytes than lie inlineyx,cx=x,d=",
+    ),
+    (
+        Change::Gsub(CXA, LONG),
+        b"a=5,b=xyx,cx=a text of more bytes than lie inline,d=",
+    ),
+    (Change::Ssub(LONG_B, b"x"), b"a=5,b=\\0yx,cx=x,d="),
+    (Change::Sub(None, BY), b"a=5,b=<x>yx,cx=<x>,d="),
+    (Change::Gsub(None, BY), b"a=5,b=<x>y<x>,cx=<x>,d="),
+    (Change::Sub(BZB, BY), b"a=5,b=<x>yx,cx=x,d="),
+    (Change::Gsub(BZB, BY), b"a=5,b=<x>y<x>,cx=x,d="),
+    (Change::Sub(DCXA, BY), b"a=5,b=xyx,cx=<x>,d="),
+    (Change::Gsub(DCXA, BY), b"a=5,b=xyx,cx=<x>,d="),
+    (Change::Sub(Some(&[b"z"]), BY), b"a=5,b=xyx,cx=x,d="),
+    (Change::Gsub(Some(&[b"z"]), BY), b"a=5,b=xyx,cx=x,d="),
+    (Change::Sub(Some(&[]), BY), b"a=5,b=xyx,cx=x,d="),
+    (Change::Gsub(Some(&[]), BY), b"a=5,b=xyx,cx=x,d="),
     (Change::Ssub(None, b"x"), b"a=5,b=\\0yx,cx=\\0,d="),
     (Change::Ssub(CXA, b"x"), b"a=5,b=xyx,cx=\\0,d="),
     (Change::Ssub(None, b"."), b"a=5,b=xyx,cx=x,d="),
@@ -296,7 +326,15 @@ const OF_SOME: [Row; 25] = [
 ];
 
 /// The record `ab=1,cbb=3`, whose names are rewritten, after each change.
-const OF_NAMED: [Row; 13] = [
+const OF_NAMED: [Row; 15] = [
+    (
+        Change::RenameAll(&[(b"^[xy]$", b""), (b"^ab$", LONG)]),
+        b"a text of more bytes than lie inline=1,cbb=3",
+    ),
+    (
+        Change::RenameNamed(&[(b"ab", LONG)]),
+        b"a text of more bytes than lie inline=1,cbb=3",
+    ),
     (Change::RenameFirst(&[(b"b", b"c")]), b"ac=1,ccb=3"),
     (Change::RenameAll(&[(b"b", b"c")]), b"ac=1,ccc=3"),
     (Change::RenameFirst(&[(b"^.b$", b"cbb")]), b"cbb=1"),
@@ -380,7 +418,11 @@ const NAMES: [(&[u8], bool, bool); 4] = [
 
 /// How many records `having-fields` gives of a line that is taken three times.
 fn count_having(alloc: Global, having: HavingFields, line: &str) -> Result<usize, Fail> {
-    let made = given(&mut HavingFieldsVerb::new(alloc, having), alloc, line)?;
+    let made = given(
+        &mut HavingFieldsVerb::new(alloc, having.copy(alloc)?),
+        alloc,
+        line,
+    )?;
     Ok(
         made.as_slice()
             .iter()
@@ -396,10 +438,12 @@ fn patterns_match_the_texts_and_names_of_records(rt: HostRuntime) -> Result<(), 
         let (text, passes) = *row;
         for others in [false, true] {
             let grep = Grep {
-                either_case: false,
+                either_case: true,
                 others,
                 pattern: pattern_of(alloc, text)?,
             };
+            let grep = grep.copy(alloc)?;
+            assert!(rt; grep.either_case);
             let made = given(&mut GrepVerb::new(alloc, grep), alloc, SOME)?;
             let times = if passes != others { 3 } else { 0 };
             let want = repeated(alloc, SOME.as_bytes(), times)?;
@@ -422,100 +466,7 @@ fn patterns_match_the_texts_and_names_of_records(rt: HostRuntime) -> Result<(), 
     assert_eq!(rt; count_having(alloc, having, SOME)?, 0);
     let having = HavingFields::AtLeast(names_of(alloc, &[b"a", b"d"])?);
     assert_eq!(rt; count_having(alloc, having, SOME)?, 3);
-    Ok(())
-}
-
-const LONG: &[u8] = b"a text of more bytes than lie inline";
-
-const XY: &[u8] = b"^[xy]$";
-
-/// Whether the pattern is `XY`.
-fn is_xy(alloc: Global, pattern: &Pattern) -> Result<bool, NoMemory> {
-    Ok(matches(alloc, pattern, b"y")? && !matches(alloc, pattern, b"xy")?)
-}
-
-/// Whether the fields are `a` and `LONG`.
-fn are_two(fields: &SubFields) -> bool {
-    match fields {
-        SubFields::All => false,
-        SubFields::Named(names) => names.len() == 2 && names.has(b"a") && names.has(LONG),
-    }
-}
-
-/// Whether the fields are those of one pattern.
-fn is_one_pattern(fields: &CutFields) -> bool {
-    match fields {
-        CutFields::Names(_) => false,
-        CutFields::Patterns(patterns) => patterns.len() == 1,
-    }
-}
-
-/// Whether a record passes that has no other field than one.
-fn is_at_most_one(having: &HavingFields) -> bool {
-    match having {
-        HavingFields::AtMost(names) => names.len() == 1,
-        _ => false,
-    }
-}
-
-/// Whether one field is renamed by its name.
-fn is_one_renaming(rename: &Rename) -> bool {
-    match rename {
-        Rename::Names(renamings) => renamings.len() == 1,
-        Rename::Patterns(_) => false,
-    }
-}
-
-#[test]
-fn copies_have_the_parts_of_their_verbs(rt: HostRuntime) -> Result<(), Fail> {
-    let alloc = rt.alloc();
-    let by = Bytes::copy_of(alloc, LONG)?;
-    let grep = Grep {
-        either_case: true,
-        others: true,
-        pattern: pattern_of(alloc, XY)?,
-    };
-    let copy = grep.copy(alloc)?;
-    assert!(rt; copy.either_case && copy.others && is_xy(alloc, &copy.pattern)?);
-
-    let sub = sub_of(alloc, Some(&[b"a", LONG]), XY, LONG)?;
-    let copy = sub.copy(alloc)?;
-    assert!(rt; are_two(&copy.fields) && copy.by == by && is_xy(alloc, &copy.pattern)?);
-
-    let gsub = Gsub {
-        fields: SubFields::All,
-        pattern: copy.pattern,
-        by: copy.by,
-    };
-    let gsub = gsub.copy(alloc)?;
-    assert!(rt; matches!(gsub.fields, SubFields::All) && gsub.by == by);
-    assert!(rt; is_xy(alloc, &gsub.pattern)?);
-    let ssub = Ssub {
-        fields: copy.fields,
-        old: Bytes::copy_of(alloc, b"old")?,
-        by: gsub.by,
-    };
-    let copy = ssub.copy(alloc)?;
-    assert!(rt; are_two(&copy.fields) && copy.old == ssub.old && copy.by == by);
-
-    let rename = rename_of(alloc, Which::All, &[(XY, LONG), (XY, b"")])?;
-    let copy = rename.copy(alloc)?;
-    assert_eq!(rt; (copy.which, copy.pairs.len()), (Which::All, 2));
-    for (rule, copied) in rename.pairs.iter().zip(copy.pairs.iter()) {
-        assert!(rt; copied.1 == rule.1 && is_xy(alloc, &copied.0)?);
-    }
-    let cut = Cut {
-        fields: CutFields::Patterns(patterns_of(alloc, &[XY])?),
-        ordered: true,
-        complement: true,
-    };
-    let copy = cut.copy(alloc)?;
-    assert!(rt; copy.ordered && copy.complement && is_one_pattern(&copy.fields));
     let having = HavingFields::AtMost(names_of(alloc, &[b"a"])?);
-    let copy = having.copy(alloc)?;
-    assert!(rt; is_at_most_one(&copy));
-    let rename = Rename::Names(renamings_of(alloc, &[(b"a", LONG)])?);
-    let copy = rename.copy(alloc)?;
-    assert!(rt; is_one_renaming(&copy));
+    assert_eq!(rt; count_having(alloc, having, "a=1")?, 3);
     Ok(())
 }

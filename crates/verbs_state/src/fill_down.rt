@@ -1,5 +1,5 @@
 //! `fill-down`: fills fields with the last values of earlier records.
-ghost use Rattle.std.specs.Prelude.{◌≡◌, ◌++◌, ◌∷◌, [], List, None, Some, true, IfOk, OnOk, length, map, replicate, vec_len};
+ghost use Rattle.std.specs.Prelude.{◌≡◌, ◌++◌, ◌∷◌, [], List, Some, true, IfOk, OnOk, length, map, vec_len};
 ghost use Rattle.std.specs.List.{fold};
 ghost use Rattle.std.specs.Option.{option_map, option_or};
 ghost use Rattle.mlr_value.specs.Value.{tree_of};
@@ -49,7 +49,11 @@ impl FillDownVerb {
             ≡ fill_down options) }
         ensures represents { IfOk result (λ made. ⟦<FillDownVerb as Stateful>⟧.represents made []) }
     {
-        let kept = no_values(alloc, options.names.len())?;
+        let count = options.names.len();
+        let mut kept = Vec::with_capacity(alloc, count)?;
+        for _ in 0..count {
+            kept.push(None)?;
+        }
         Ok(FillDownVerb {
             alloc,
             options,
@@ -86,17 +90,6 @@ impl Stateful for FillDownVerb {
     fn never_shuts(&self) -> bool {
         true
     }
-}
-
-/// A list of `count` places without a value.
-fn no_values(alloc: Global, count: usize) -> Result<Vec<Option<Value>>, NoMemory>
-    ensures { IfOk result (λ made. made.items ≡ replicate count None) }
-{
-    let mut values = Vec::with_capacity(alloc, count)?;
-    for _ in 0..count {
-        values.push(None)?;
-    }
-    Ok(values)
 }
 
 /// Fills the named fields in turn, and keeps the values that the record had before.
@@ -165,21 +158,12 @@ fn keep(
     match fields.get(name) {
         None => Ok(!blank),
         Some(Value::Empty) if blank => Ok(true),
+        Some(value) if holds_text(kept, value) => Ok(false),
         Some(value) => {
-            keep_copy(alloc, value, kept)?;
+            replace(kept, Some(value.copy(alloc)?));
             Ok(false)
         }
     }
-}
-
-/// Keeps a copy of the value, unless it is the kept value.
-fn keep_copy(alloc: Global, value: &Value, kept: &mut Option<Value>) -> Result<(), NoMemory>
-    ensures { OnOk result (option_map tree_of kept.new ≡ Some (tree_of value.now)) }
-{
-    if !holds_text(kept, value) {
-        replace(kept, Some(value.copy(alloc)?));
-    }
-    Ok(())
 }
 
 /// Whether the kept value is a string of the same bytes. Other values are copied as fast as they are

@@ -1,8 +1,5 @@
 //! `gap`: puts records without fields between others.
-ghost use Rattle.std.specs.Prelude.{◌≡◌, ◌++◌, ◌∷◌, ◌+◌, [], List, ℕ, IfOk, IsOk, OnOk, not, if◌then◌else◌};
-ghost use Rattle.std.specs.Str.{bytes_eq};
-ghost use Rattle.mlr_groups.specs.Grouping.{texts_of};
-ghost use Rattle.mlr_groups.specs.Keys.{key_of};
+ghost use Rattle.std.specs.Prelude.{◌≡◌, ◌++◌, ◌∷◌, ◌+◌, [], List, ℕ, IfOk, IsOk, OnOk, if◌then◌else◌};
 ghost use Rattle.verbs_base.specs.Records.{Fields, with_context};
 ghost use Rattle.verbs_state.specs.Gap.{IsLastKey, IsSoundGap, RepresentsAfter, gap, is_apart};
 
@@ -96,7 +93,8 @@ impl Stateful for GapVerb {
 }
 
 /// Whether a gap precedes a record, given the number of the records before and the key of the last. With
-/// grouping fields, `key` becomes the key of this record.
+/// grouping fields, `key` becomes the key of this record. `key` and `room` keep their allocations for the next
+/// records.
 fn is_apart(
     alloc: Global,
     options: &Gap,
@@ -115,8 +113,10 @@ fn is_apart(
     match options {
         Gap::Count(each) => Ok(count > 0 && count % *each == 0),
         Gap::Groups(names) => {
-            let other = is_other(alloc, names, fields, key, room)?;
-            Ok(count > 0 && other)
+            room.clear();
+            append_texts(alloc, names, fields, room)?;
+            swap(key, room);
+            Ok(count > 0 && room != key)
         }
     }
 }
@@ -136,22 +136,4 @@ fn push_after(
         out.push(Event::Rec(Record::of_fields(alloc, Vec::new(alloc)), ctx))?;
     }
     out.push(Event::Rec(fields, ctx))
-}
-
-/// Whether the key of a record's texts differs from `key`, which it replaces. `key` and `room` keep their
-/// allocations for the next records.
-fn is_other(
-    alloc: Global,
-    names: &Names,
-    fields: &Record,
-    key: &mut Bytes,
-    room: &mut Bytes,
-) -> Result<bool, NoMemory>
-    ensures other { IfOk result (λ other. other ≡ not (bytes_eq key.old key.new)) }
-    ensures key { OnOk result (key.new ≡ key_of (texts_of names.now fields.now)) }
-{
-    room.clear();
-    append_texts(alloc, names, fields, room)?;
-    swap(key, room);
-    Ok(key != room)
 }

@@ -1,11 +1,11 @@
 //! `regularize`: gives records with the same names the same order of fields.
-ghost use Rattle.std.specs.Prelude.{◌≡◌, ◌<◌, ◌++◌, ◌∷◌, [], true, List, ℕ, Some, IfOk, OnOk, length, map, slice_get, slice_index_or};
+ghost use Rattle.std.specs.Prelude.{◌≡◌, ◌<◌, ◌++◌, ◌∷◌, [], true, List, ℕ, Some, IfOk, OnOk, length, map, slice_index_or};
 ghost use Rattle.mlr_spec.specs.Pairs.{are_distinct, keys_of};
 ghost use Rattle.mlr_groups.specs.Keys.{key_of};
 ghost use Rattle.verbs_base.specs.Choosing.{picked};
 ghost use Rattle.verbs_base.specs.Records.{Fields};
 ghost use Rattle.verbs_fields.specs.Sorting.{by_name};
-ghost use Rattle.verbs_state.specs.Regularize.{KeepsFirsts, regular, regularize, sorted_names};
+ghost use Rattle.verbs_state.specs.Regularize.{KeepsFirsts, regular, regularize};
 
 use mlr_event::{Ctx, Event, Events, Names};
 use mlr_groups::{KeyTable, append_text};
@@ -89,23 +89,17 @@ fn regular(
         → KeepsFirsts sets.old orders.old.items before
         → KeepsFirsts sets.new orders.new.items (before ++ fields ∷ [])) }
 {
-    if has_order(orders, *last, &fields) {
-        return Ok(fields);
+    match orders.get(*last) {
+        Some(order) if are_names(order, &fields) => return Ok(fields),
+        _ => {}
     }
     let place = enter(alloc, &fields, sets, orders, key)?;
     *last = place;
-    in_order(&orders[place], fields)
-}
-
-/// Whether there is an order at this place and the record's fields are in it.
-fn has_order(orders: &[Names], place: usize, fields: &Record) -> bool
-    ensures order { result ≡ true → slice_get orders.now place ≡ Some (keys_of fields.now) }
-    ensures distinct { result ≡ true → are_distinct (keys_of fields.now) ≡ true }
-{
-    match orders.get(place) {
-        Some(order) => are_names(order, fields),
-        None => false,
+    let order = &orders[place];
+    if are_names(order, &fields) {
+        return Ok(fields);
     }
+    pick_named(order, fields)
 }
 
 /// Whether these are the names of the record's fields, in their order.
@@ -122,16 +116,6 @@ fn are_names(names: &Names, fields: &Record) -> bool
         }
     }
     true
-}
-
-/// The fields in the order of the names. It allocates only if that isn't their order already.
-fn in_order(names: &Names, fields: Record) -> Result<Record, NoMemory>
-    ensures { IfOk result (λ made. made ≡ picked names.now fields) }
-{
-    if are_names(names, &fields) {
-        return Ok(fields);
-    }
-    pick_named(names, fields)
 }
 
 /// The place of the record's set of names, which is added at the end, with the record's order, if it is new.
@@ -178,15 +162,8 @@ fn append_sorted(alloc: Global, fields: &Record, key: &mut Bytes) -> Result<(), 
     ensures { OnOk result (key.new ≡ key.old ++ key_of (keys_of (by_name fields.now))) }
 {
     let mut names = borrowed_names(alloc, fields)?;
-    sort(&mut names);
-    append_names(&names, key)
-}
-
-/// Appends the key of these names to `key`.
-fn append_names(names: &[&[u8]], key: &mut Bytes) -> Result<(), NoMemory>
-    ensures { OnOk result (key.new ≡ key.old ++ key_of (map (λ name. name.now) names.now)) }
-{
-    for name in names {
+    names.sort_unstable_by(|left, right| left.cmp(right));
+    for name in &names {
         append_text(name, key)?;
     }
     Ok(())
@@ -202,13 +179,4 @@ fn borrowed_names(alloc: Global, fields: &Record) -> Result<Vec<&[u8]>, NoMemory
         names.push(fields.entry(place).0)?;
     }
     Ok(names)
-}
-
-/// Sorts distinct names by their bytes.
-fn sort(names: &mut Vec<&[u8]>)
-    requires { are_distinct (map (λ name. name.now) names.old.items) ≡ true }
-    ensures { map (λ name. name.now) names.new.items
-        ≡ sorted_names (map (λ name. name.now) names.old.items) }
-{
-    names.sort_unstable_by(|left, right| left.cmp(right));
 }

@@ -98,16 +98,8 @@ fn push_times(times: u64, fields: Record, ctx: Ctx, out: &mut Events) -> Result<
     if times == 0 {
         return Ok(());
     }
-    push_copies(times - 1, &fields, ctx, out)?;
-    out.push(Event::Rec(fields, ctx))
-}
-
-/// Appends this many copies of a record to `out`.
-fn push_copies(times: u64, fields: &Record, ctx: Ctx, out: &mut Events) -> Result<(), NoMemory>
-    ensures { OnOk result (out.new ≡ out.old ++ replicate times (event.Rec fields.now ctx)) }
-{
-    for _ in 0..times {
+    for _ in 0..times - 1 {
         out.push(Event::Rec(fields.copy()?, ctx))?;
     }
-    Ok(())
+    out.push(Event::Rec(fields, ctx))
 }

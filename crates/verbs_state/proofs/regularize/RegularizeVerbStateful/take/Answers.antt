@@ -6,5 +6,7 @@ use Rattle.verbs_state.proofs.regularize.RegularizeVerbStateful.take.Goals as go
 
 pub returns-clause-represents : goal.returns-clause-represents
 returns-clause-represents c =
-    on-ok c.push.result (record { follows = λ before keeps.
-    subst (KeepsFirsts c.regular.new.sets c.regular.new.orders.items) (sym (records-push before c.args.fields c.args.ctx)) (c.in_ok-made.ensures.keeps (records before) keeps) })
+    on-ok c.push.result (record {
+      follows = λ before keeps.
+          subst (KeepsFirsts c.regular.new.sets c.regular.new.orders.items) (sym (records-push before c.args.fields c.args.ctx)) (c.in_ok-made.ensures.keeps (records before) keeps);
+    })
