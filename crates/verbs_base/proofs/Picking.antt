@@ -1,16 +1,19 @@
 -- Fields that are picked by names, one name after another.
-use Rattle.std.proofs.Common.{◌≡◌, ℕ, Bool, true, false, not, cond, List, [], ◌∷◌, ◌++◌, Some, None, refl, ap, ap₂, sym, subst, ◌∙◌, inl, inr}
+use Rattle.std.proofs.Common.{◌≡◌, ℕ, Bool, true, false, not, cond, List, [], ◌∷◌, ◌++◌, Some, None, length, take, refl, ap, ap₂, sym, subst, ◌∙◌, inl, inr}
 use Rattle.std.specs.List.{list_any, filter, filter_map, cons_option}
 use Rattle.std.specs.Option.{option_map, is_some}
 use Rattle.std.specs.Str.{bytes_eq}
 use Rattle.std.proofs.lemmas.Bool.{cases_Bool, and_parts, and_from, or_parts, or_from, or_left, or_right, not-true, not_from_false, cond_both, true≢false}
-use Rattle.std.proofs.lemmas.List.{map-append}
+use Rattle.std.proofs.lemmas.List.{map-append, take-map}
+use Rattle.std.proofs.Math.Seq.{take-append_seam}
 use Rattle.std.proofs.lemmas.List.Folds.{list_any-append}
 use Rattle.std.proofs.lemmas.Slice.Eq.{bytes_eq-Decides}
 use Rattle.mlr_spec.specs.Tree.{Tree}
 use Rattle.mlr_spec.specs.Pairs.{value_at, remove_at, keys_of, are_distinct}
 use Rattle.mlr_spec.proofs.Pairs.{any_key-removed}
 use Rattle.mlr_spec.proofs.Splitting.{cases_Option}
+use Rattle.mlr_record.specs.Fields.{pair_of, pairs_of}
+use Rattle.mlr_record.specs.declared.record.Field.{Field}
 use Rattle.mlr_event.specs.Reading.{is_among}
 use Rattle.mlr_event.proofs.Putting.{value_at-free}
 use Rattle.mlr_event.proofs.Distinct.{bytes_eq-swap}
@@ -161,3 +164,9 @@ module _ (names : List (List ℕ)) (pairs : List (List ℕ × Tree)) (distinct :
         | inl is ↦ absurd (true≢false (sym among ∙ dropped-named names pairs key is))
         | inr isnt ↦ picked-others names pairs key isnt
       ])
+
+-- the first so many of the fields that were moved to the start are the picked ones
+pub picked-first : (names : List (List ℕ)) (pairs : List (List ℕ × Tree)) (fields : List Field) (count : ℕ) → pairs_of fields ≡ picked names pairs ++ dropped names pairs → count ≡ length (picked names pairs)
+    → pairs_of (take count fields) ≡ picked names pairs
+picked-first names pairs fields count all is =
+    sym (take-map pair_of count fields) ∙ ap (take count) all ∙ ap (λ n. take n (picked names pairs ++ dropped names pairs)) is ∙ take-append_seam (picked names pairs) (dropped names pairs)

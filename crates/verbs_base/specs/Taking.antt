@@ -1,6 +1,5 @@
 -- What a call of a verb does, whichever records the verb was given before it.
-use Rattle.std.specs.Prelude.{◌≡◌, Bool, List, ◌++◌}
-use Rattle.mlr_spec.specs.Tree.{Tree}
+use Rattle.std.specs.Prelude.{◌≡◌, Bool, true, false, List, ◌++◌}
 use Rattle.mlr_event.specs.declared.event.Ctx.{Ctx}
 use Rattle.mlr_event.specs.declared.event.Event.{Event}
 use Rattle.verbs_base.specs.Records.{Fields, RecordVerb, Row, events_of, given_for_all, records, with_context}
@@ -21,6 +20,11 @@ pub record GivesForAll (verb : RecordVerb) (represents : List Row → Type 0) (e
 pub record GivesLate (verb : RecordVerb) (represents : List Row → Type 0) (ctx : Ctx) (out out' : List Event) : Type 0 where
   pub gives : (given : List Row) → represents given → out' ≡ out ++ events_of (verb.late given ctx)
 
+-- Whichever records the verb was given, they close it, or they don't.
+pub record ClosesBy (verb : RecordVerb) (represents : List Row → Type 0) (closed : Bool) : Type 0 where
+  pub told : (given : List Row) → represents given → verb.closed (records given) ≡ closed
+
 -- whether the verb gives nothing for any later record
-pub record IsShut (verb : RecordVerb) (represents : List Row → Type 0) (shut : Bool) : Type 0 where
-  pub told : (given : List Row) → represents given → shut ≡ verb.closed (records given)
+abbrev pub IsShut : Bool → RecordVerb → (List Row → Type 0) → Type 0
+IsShut true verb represents = ClosesBy verb represents true
+IsShut false verb represents = ClosesBy verb represents false

@@ -1,13 +1,12 @@
 //! Fields chosen by their names.
-ghost use Rattle.std.specs.Prelude.{◌≡◌, IfOk};
+ghost use Rattle.std.specs.Prelude.{◌≡◌};
 ghost use Rattle.mlr_value.specs.Value.{tree_of};
 ghost use Rattle.verbs_base.specs.Choosing.{dropped, is_empty, kept, picked};
 
-use crate::extraction::take_named;
+use crate::extraction::move_named;
 use crate::field_choice::is_named;
 use mlr_event::Names;
 use mlr_record::Record;
-use mlr_spec::NoMemory;
 use mlr_value::Value;
 
 /// The named fields, in the record's order. It doesn't allocate.
@@ -30,16 +29,15 @@ pub fn drop_named(names: &Names, from: Record) -> Record
     Record::of_fields(alloc, fields)
 }
 
-/// The named fields, in the order of the names. A name that repeats counts once. It
-/// allocates a list of fields.
-pub fn pick_named(names: &Names, from: Record) -> Result<Record, NoMemory>
-    ensures { IfOk result (λ made. made ≡ picked names.now from) }
+/// The named fields, in the order of the names. A name that repeats counts once. It doesn't allocate.
+pub fn pick_named(names: &Names, from: Record) -> Record
+    ensures { result ≡ picked names.now from }
 {
     let mut fields = from.into_fields();
     let alloc = *fields.allocator();
-    let mut taken = Vec::with_capacity(alloc, names.len().min(fields.len()))?;
-    take_named(names.as_slice(), &mut fields, &mut taken)?;
-    Ok(Record::of_fields(alloc, taken))
+    let count = move_named(names.as_slice(), &mut fields);
+    fields.truncate(count);
+    Record::of_fields(alloc, fields)
 }
 
 /// Whether a value is the empty text.

@@ -1,5 +1,5 @@
 //! Removes fields by name from a list, or moves them in it.
-ghost use Rattle.std.specs.Prelude.{◌≡◌, ◌++◌, true, length, OnOk};
+ghost use Rattle.std.specs.Prelude.{◌≡◌, ◌++◌, true, length};
 ghost use Rattle.std.specs.List.{cons_option};
 ghost use Rattle.std.specs.Option.{is_some, option_map};
 ghost use Rattle.mlr_spec.specs.Pairs.{remove_at, keys_of, are_distinct};
@@ -7,7 +7,6 @@ ghost use Rattle.mlr_record.specs.Fields.{IsPlaceOf, pair_of, pairs_of};
 ghost use Rattle.verbs_base.specs.Choosing.{named, picked, dropped};
 
 use mlr_record::Field;
-use mlr_spec::NoMemory;
 use mlr_value::Bytes;
 
 /// Removes the field of this name, if there is one, and returns it.
@@ -29,26 +28,6 @@ fn place_of(fields: &[Field], name: &Bytes) -> Option<usize>
         }
     }
     None
-}
-
-/// Removes the named fields, in the order of the names, and appends them to `taken`.
-pub fn take_named(
-    names: &[Bytes],
-    fields: &mut Vec<Field>,
-    taken: &mut Vec<Field>,
-) -> Result<(), NoMemory>
-    requires { are_distinct (keys_of (pairs_of fields.old.items)) ≡ true }
-    ensures taken { OnOk result (pairs_of taken.new.items
-        ≡ pairs_of taken.old.items ++ picked names.now (pairs_of fields.old.items)) }
-    ensures left { OnOk result (pairs_of fields.new.items
-        ≡ dropped names.now (pairs_of fields.old.items)) }
-{
-    for name in names {
-        if let Some(field) = take_field(fields, name) {
-            taken.push(field)?;
-        }
-    }
-    Ok(())
 }
 
 /// Moves the named fields to the start, in the order of the names, and returns how many they are. A name that repeats

@@ -16,7 +16,7 @@ mod tests;
 
 pub use change::{Change, change_fields, change_record};
 pub use choosing::{drop_named, is_empty, keep_named, pick_named};
-pub use extraction::{move_named, take_field, take_named};
+pub use extraction::{move_named, take_field};
 pub use field_choice::{is_named, is_taken};
 pub use over_events::OverEvents;
 pub use per_record::{Each, PerRecord};

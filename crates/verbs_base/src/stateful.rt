@@ -66,7 +66,7 @@ pub trait Stateful {
 
     /// Whether the verb gives nothing for any later record. It doesn't allocate.
     fn is_shut(&self) -> bool
-        ensures { IsShut (meaning self.now) (represents self.now) result };
+        ensures { IsShut result (meaning self.now) (represents self.now) };
 
     /// Whether no records close it, as far as it knows. It doesn't allocate.
     fn never_shuts(&self) -> bool

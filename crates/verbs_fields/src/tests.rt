@@ -86,7 +86,7 @@ fn changed(alloc: Global, change: &Change, from: Record) -> Result<Record, NoMem
     match change {
         Keep(texts) => Ok(keep_named(&names(alloc, texts)?, from)),
         Drop(texts) => Ok(drop_named(&names(alloc, texts)?, from)),
-        Pick(texts) => pick_named(&names(alloc, texts)?, from),
+        Pick(texts) => Ok(pick_named(&names(alloc, texts)?, from)),
         Template(texts, fill) => {
             let names = names(alloc, texts)?;
             let fill = Bytes::copy_of(alloc, fill.as_bytes())?;

@@ -114,7 +114,7 @@ impl PerRecord for Search<'_> {
         let complement = self.options.complement;
         Ok(Some(match &self.options.fields {
             CutFields::Names(names) if complement => drop_named(names, fields),
-            CutFields::Names(names) if self.options.ordered => pick_named(names, fields)?,
+            CutFields::Names(names) if self.options.ordered => pick_named(names, fields),
             CutFields::Names(names) => keep_named(names, fields),
             CutFields::Patterns(_) => {
                 keep_matching(alloc, &mut self.matchers, complement, fields)?

@@ -99,7 +99,7 @@ fn regular(
     if are_names(order, &fields) {
         return Ok(fields);
     }
-    pick_named(order, fields)
+    Ok(pick_named(order, fields))
 }
 
 /// Whether these are the names of the record's fields, in their order.

@@ -17,6 +17,7 @@ use Rattle.verbs_fields.specs.contracts.sort_within_records.SortWithinRecords
 use Rattle.verbs_fields.specs.contracts.sparsify.Sparsify
 use Rattle.verbs_fields.specs.contracts.template.Template
 use Rattle.verbs_fields.specs.contracts.unspace.Unspace
+use Rattle.verbs_pattern.specs.contracts.searching.Searching
 use Rattle.verbs_pattern.specs.contracts.ssub.Ssub
 use Rattle.verbs_state.specs.contracts.nothing.Nothing
 use Rattle.verbs_values.specs.contracts.fill_empty.FillEmpty
@@ -26,12 +27,12 @@ use Rattle.verbs_values.specs.contracts.json_stringify.JsonStringify
 use Rattle.verbs_values.specs.contracts.sec2gmt.Sec2Gmt
 use Rattle.verbs_values.specs.contracts.sec2gmtdate.Sec2GmtDate
 use Rattle.verbs_values.specs.contracts.unflatten.Unflatten
-use Rattle.verbs_pattern.specs.contracts.cut.CutVerb
-use Rattle.verbs_pattern.specs.contracts.grep.GrepVerb
-use Rattle.verbs_pattern.specs.contracts.gsub.GsubVerb
-use Rattle.verbs_pattern.specs.contracts.having_fields.HavingFieldsVerb
-use Rattle.verbs_pattern.specs.contracts.rename.RenameVerb
-use Rattle.verbs_pattern.specs.contracts.sub.SubVerb
+use Rattle.verbs_pattern.specs.contracts.cut.Cut
+use Rattle.verbs_pattern.specs.contracts.grep.Grep
+use Rattle.verbs_pattern.specs.contracts.gsub.Gsub
+use Rattle.verbs_pattern.specs.contracts.having_fields.HavingFields
+use Rattle.verbs_pattern.specs.contracts.rename.Rename
+use Rattle.verbs_pattern.specs.contracts.sub.Sub
 use Rattle.verbs_state.specs.contracts.cat.CatVerb
 use Rattle.verbs_state.specs.contracts.decimate.DecimateVerb
 use Rattle.verbs_state.specs.contracts.fill_down.FillDownVerb
@@ -140,7 +141,7 @@ Unflatten-send : IsSend (Each.the_field Unflatten.the_row).row
 Unflatten-send = each.the_field_send Unflatten.the_row Unflatten-row-send
 
 Running-row-send : IsSend Running.the_row
-Running-row-send = variants_send Running.enum ((as_row_send (Each.the_field Altkv.the_row) Altkv-send, tt), ((as_row_send CatVerb.the_field CatVerb-send, tt), ((as_row_send CutVerb.the_field CutVerb-send, tt), ((as_row_send DecimateVerb.the_field DecimateVerb-send, tt), ((as_row_send FillDownVerb.the_field FillDownVerb-send, tt), ((as_row_send (Each.the_field FillEmpty.the_row) FillEmpty-send, tt), ((as_row_send (Each.the_field Flatten.the_row) Flatten-send, tt), ((as_row_send GapVerb.the_field GapVerb-send, tt), ((as_row_send GrepVerb.the_field GrepVerb-send, tt), ((as_row_send GsubVerb.the_field GsubVerb-send, tt), ((as_row_send HavingFieldsVerb.the_field HavingFieldsVerb-send, tt), ((as_row_send HeadVerb.the_field HeadVerb-send, tt), ((as_row_send (Each.the_field JsonParse.the_row) JsonParse-send, tt), ((as_row_send (Each.the_field JsonStringify.the_row) JsonStringify-send, tt), ((as_row_send (Each.the_field Label.the_row) Label-send, tt), ((as_row_send (Each.the_field Nothing.the_row) Nothing-send, tt), ((as_row_send RegularizeVerb.the_field RegularizeVerb-send, tt), ((as_row_send RenameVerb.the_field RenameVerb-send, tt), ((as_row_send (Each.the_field Reorder.the_row) Reorder-send, tt), ((as_row_send RepeatVerb.the_field RepeatVerb-send, tt), ((as_row_send (Each.the_field Sec2Gmt.the_row) Sec2Gmt-send, tt), ((as_row_send (Each.the_field Sec2GmtDate.the_row) Sec2GmtDate-send, tt), ((as_row_send (Each.the_field SortWithinRecords.the_row) SortWithinRecords-send, tt), ((as_row_send (Each.the_field Sparsify.the_row) Sparsify-send, tt), ((as_row_send (Each.the_field Ssub.the_row) Ssub-send, tt), ((as_row_send SubVerb.the_field SubVerb-send, tt), ((as_row_send (Each.the_field Template.the_row) Template-send, tt), ((as_row_send (Each.the_field Unflatten.the_row) Unflatten-send, tt), ((as_row_send (Each.the_field Unspace.the_row) Unspace-send, tt), tt)))))))))))))))))))))))))))))
+Running-row-send = variants_send Running.enum ((as_row_send (Each.the_field Altkv.the_row) Altkv-send, tt), ((as_row_send CatVerb.the_field CatVerb-send, tt), ((as_row_send (Searching.the_field Cut.the_row) CutVerb-send, tt), ((as_row_send DecimateVerb.the_field DecimateVerb-send, tt), ((as_row_send FillDownVerb.the_field FillDownVerb-send, tt), ((as_row_send (Each.the_field FillEmpty.the_row) FillEmpty-send, tt), ((as_row_send (Each.the_field Flatten.the_row) Flatten-send, tt), ((as_row_send GapVerb.the_field GapVerb-send, tt), ((as_row_send (Searching.the_field Grep.the_row) GrepVerb-send, tt), ((as_row_send (Searching.the_field Gsub.the_row) GsubVerb-send, tt), ((as_row_send (Searching.the_field HavingFields.the_row) HavingFieldsVerb-send, tt), ((as_row_send HeadVerb.the_field HeadVerb-send, tt), ((as_row_send (Each.the_field JsonParse.the_row) JsonParse-send, tt), ((as_row_send (Each.the_field JsonStringify.the_row) JsonStringify-send, tt), ((as_row_send (Each.the_field Label.the_row) Label-send, tt), ((as_row_send (Each.the_field Nothing.the_row) Nothing-send, tt), ((as_row_send RegularizeVerb.the_field RegularizeVerb-send, tt), ((as_row_send (Searching.the_field Rename.the_row) RenameVerb-send, tt), ((as_row_send (Each.the_field Reorder.the_row) Reorder-send, tt), ((as_row_send RepeatVerb.the_field RepeatVerb-send, tt), ((as_row_send (Each.the_field Sec2Gmt.the_row) Sec2Gmt-send, tt), ((as_row_send (Each.the_field Sec2GmtDate.the_row) Sec2GmtDate-send, tt), ((as_row_send (Each.the_field SortWithinRecords.the_row) SortWithinRecords-send, tt), ((as_row_send (Each.the_field Sparsify.the_row) Sparsify-send, tt), ((as_row_send (Each.the_field Ssub.the_row) Ssub-send, tt), ((as_row_send (Searching.the_field Sub.the_row) SubVerb-send, tt), ((as_row_send (Each.the_field Template.the_row) Template-send, tt), ((as_row_send (Each.the_field Unflatten.the_row) Unflatten-send, tt), ((as_row_send (Each.the_field Unspace.the_row) Unspace-send, tt), tt)))))))))))))))))))))))))))))
 
 OverEvents-send : IsSend (OverEvents.the_field Running.the_row).row
 OverEvents-send = over_events.the_field_send Running.the_row Running-row-send
