@@ -1,8 +1,7 @@
-pub mod Growing
-pub mod Cutting
-pub mod Gating
-pub mod Passing
-pub mod InOrder
-pub mod Chains
-pub mod Closing
-pub mod Unclosed
+pub mod Copies
+pub mod Crosses
+pub mod Firsts
+pub mod Meanings
+pub mod New
+pub mod Runs
+pub mod Verbs

@@ -1,2 +1,4 @@
-pub mod Chain
-pub mod Represents
+pub mod Plans
+pub mod Verbs
+pub mod Chains
+pub mod Parts

@@ -1,125 +1,185 @@
-//! A chain of verbs, which takes events and gives events.
-ghost use Rattle.std.specs.Prelude.{◌≡◌, ◌++◌, ◌∷◌, [], List, true, IfOk, OnOk};
-ghost use Rattle.std.specs.List.{list_any};
+//! The verbs of a plan as a chain.
+ghost use Rattle.std.specs.Prelude.{◌≡◌, ◌++◌, ◌∷◌, [], List, true, IfOk, OnOk, length};
 ghost use Rattle.mlr_event.specs.Adding.{Adds};
 ghost use Rattle.mlr_event.specs.declared.event.Event.{Event as SpecEvent};
-ghost use Rattle.mlr_event.specs.Verb.{is_list, is_open};
-ghost use Rattle.chain_core.specs.Chain.{chain, stopped};
-ghost use Rattle.chain_core.specs.Represents.{Represents, verbs_in};
+ghost use Rattle.mlr_event.specs.Verb.{Verb as SpecVerb, is_open};
+ghost use Rattle.verb_chain.specs.Chain.{chain, stopped};
+ghost use Rattle.verb_chain.specs.Represents.{Represents as Chained, verbs_in};
+ghost use Rattle.chain_core.specs.Plans.{AreSound, IsSound, IsVerbOrSource, verb_with, verbs_with};
+ghost use Rattle.chain_core.specs.Verbs.{AreNew, IsNew, WasGiven, meaning_in};
+ghost use Rattle.chain_core.specs.Chains.{HasNotBegun, Represents};
 
-use crate::stage::{Stage, begun, pass};
-use mlr_event::{Event, Events, Step};
+use crate::lefts::Lefts;
+use crate::plan::Plan;
+use crate::verb::Verb;
+use crate::verb_spec::VerbSpec;
+use mlr_event::{Event, Events};
 use mlr_spec::NoMemory;
 use std::alloc::Global;
+use std::mem::replace;
 
-/// Verbs of any kind, each of which takes the events that the verb before it gives. A chain represents the
-/// list of events that it was given.
-pub struct Chain<S> {
+/// The verbs of a plan one after another, without the source. It begins with `begin`, and represents the list of events
+/// that it was given after that.
+pub struct Chain {
     alloc: Global,
-    stages: Vec<Stage<S>>,
-    /// Whether no verb of the chain has effects.
-    quiet: bool,
-    /// The events that are passing through the verbs.
-    room: Events,
+    /// The verbs that haven't begun.
+    waiting: Vec<Verb>,
+    stages: verb_chain::Chain<Verb>,
 }
 
 // Written by hand, so that the crates above call it instead of dropping the fields themselves.
-impl<S: Drop> Drop for Chain<S> {
+impl Drop for Chain {
     fn drop(self) {
         let Chain {
             alloc: _,
+            waiting,
             stages,
-            quiet: _,
-            room,
         } = self;
+        drop(waiting);
         drop(stages);
-        drop(room);
     }
 }
 
-impl<S: Step + Drop> Chain<S> {
-    /// A chain without verbs, from which each event comes out unchanged. It doesn't allocate.
-    pub fn new(alloc: Global) -> Self
-        ensures verbs { verbs_in S.verb result ≡ [] }
-        ensures represents { Represents S.verb S.represents [] result }
+impl Chain {
+    /// The verbs of a plan with what their left files hold, none of which has begun. It allocates for each verb.
+    pub fn new(alloc: Global, plan: &Plan, lefts: Lefts) -> Result<Self, NoMemory>
+        requires sound { IsSound plan.now }
+        requires lefts { length lefts ≡ length plan.now.verbs }
+        ensures { IfOk result (λ made. HasNotBegun (verbs_with plan.now.verbs lefts) made) }
     {
-        Chain {
+        Ok(Chain {
             alloc,
-            stages: Vec::new(alloc),
-            quiet: true,
-            room: Events::new(alloc),
-        }
+            waiting: new_verbs(alloc, plan.verbs.as_slice(), lefts.into_vec())?,
+            stages: verb_chain::Chain::new(alloc),
+        })
     }
 
-    /// Adds a verb at the end, before the first event. `first` is what the verb gave when it began. `made` is
-    /// the output of the verbs before it so far, and becomes the output of all the verbs.
-    pub fn push(&mut self, verb: S, first: Events, made: &mut Events) -> Result<(), NoMemory>
-        requires chain { Represents S.verb S.represents [] self.old }
-        requires verb { S.represents verb [] }
-        requires first { first ≡ (S.verb verb).first }
-        requires made { made.old ≡ chain (verbs_in S.verb self.old) [] }
-        ensures verbs { OnOk result (verbs_in S.verb self.new
-            ≡ verbs_in S.verb self.old ++ S.verb verb ∷ []) }
-        ensures represents { OnOk result (Represents S.verb S.represents [] self.new) }
-        ensures made { OnOk result (made.new ≡ chain (verbs_in S.verb self.new) []) }
+    /// Appends the output of the last verb before all events. It is called once, before the first step.
+    pub fn begin(&mut self, out: &mut Events) -> Result<(), NoMemory>
+        requires { (verbs : List SpecVerb) × HasNotBegun verbs self.old }
+        ensures represents { OnOk result ((verbs : List SpecVerb) → HasNotBegun verbs self.old
+            → Represents verbs [] self.new) }
+        ensures made { OnOk result ((verbs : List SpecVerb) → HasNotBegun verbs self.old
+            → out.new ≡ out.old ++ chain verbs []) }
     {
-        let effects = verb.has_effects();
-        let stage = begun(self.alloc, verb, self.quiet, first, made)?;
-        self.stages.push(stage)?;
-        self.quiet = self.quiet && !effects;
+        let mut made = Events::new(self.alloc);
+        let waiting = replace(&mut self.waiting, Vec::new(self.alloc));
+        begin_each(self.alloc, waiting, &mut self.stages, &mut made)?;
+        out.append(&mut made)?;
         Ok(())
     }
 
-    /// Takes an event, and appends the output of the last verb to `out`. No end and no fault may have been
-    /// taken before.
+    /// Takes an event, and appends the output of the last verb. No end and no fault may have been taken before.
     pub fn step(&mut self, event: Event, out: &mut Events) -> Result<(), NoMemory>
-        requires { (given : List SpecEvent) × Represents S.verb S.represents given self.old
+        requires { (verbs : List SpecVerb) × (given : List SpecEvent) × Represents verbs given self.old
             × (is_open given ≡ true) }
-        ensures verbs { OnOk result (verbs_in S.verb self.new ≡ verbs_in S.verb self.old) }
-        ensures represents { OnOk result ((given : List SpecEvent)
-            → Represents S.verb S.represents given self.old → is_open given ≡ true
-            → Represents S.verb S.represents (given ++ event ∷ []) self.new) }
-        ensures adds { OnOk result ((given : List SpecEvent)
-            → Represents S.verb S.represents given self.old → is_open given ≡ true
-            → Adds out.old out.new (chain (verbs_in S.verb self.old) given)
-            (chain (verbs_in S.verb self.old) (given ++ event ∷ []))) }
+        ensures represents { OnOk result ((verbs : List SpecVerb) (given : List SpecEvent)
+            → Represents verbs given self.old → is_open given ≡ true
+            → Represents verbs (given ++ event ∷ []) self.new) }
+        ensures adds { OnOk result ((verbs : List SpecVerb) (given : List SpecEvent)
+            → Represents verbs given self.old → is_open given ≡ true
+            → Adds out.old out.new (chain verbs given) (chain verbs (given ++ event ∷ []))) }
     {
-        self.room.push(event)?;
-        pass(&mut self.stages, &mut self.room)?;
-        out.append(&mut self.room)?;
-        Ok(())
+        self.stages.step(event, out)
     }
 
-    /// Takes all events of a list, and replaces them by the output of the last verb.
-    pub fn take_all(&mut self, events: &mut Events) -> Result<(), NoMemory>
-        requires { (given : List SpecEvent) × Represents S.verb S.represents given self.old
-            × (is_list (given ++ events.old) ≡ true) }
-        ensures verbs { OnOk result (verbs_in S.verb self.new ≡ verbs_in S.verb self.old) }
-        ensures represents { OnOk result ((given : List SpecEvent)
-            → Represents S.verb S.represents given self.old → is_list (given ++ events.old) ≡ true
-            → Represents S.verb S.represents (given ++ events.old) self.new) }
-        ensures made { OnOk result ((given : List SpecEvent)
-            → Represents S.verb S.represents given self.old → is_list (given ++ events.old) ≡ true
-            → chain (verbs_in S.verb self.old) (given ++ events.old)
-            ≡ chain (verbs_in S.verb self.old) given ++ events.new) }
-    {
-        pass(&mut self.stages, events)?;
-        Ok(())
-    }
-
-    /// Whether a verb is closed, and no verb before it has effects. Then more events give nothing. It doesn't
-    /// allocate.
+    /// Whether a verb is closed, and no verb before it has effects. Then more events give nothing. It doesn't allocate.
     pub fn stopped(&self) -> bool
-        ensures { (given : List SpecEvent) → Represents S.verb S.represents given self.now
-            → result ≡ stopped (verbs_in S.verb self.now) given }
+        ensures { (verbs : List SpecVerb) (given : List SpecEvent) → Represents verbs given self.now
+            → result ≡ stopped verbs given }
     {
-        any_shut(&self.stages)
+        self.stages.stopped()
+    }
+
+    /// The verbs that have begun.
+    pub(crate) fn into_stages(self) -> verb_chain::Chain<Verb>
+        ensures { result ≡ self.stages }
+    {
+        let Chain {
+            alloc: _,
+            waiting,
+            stages,
+        } = self;
+        drop(waiting);
+        stages
     }
 }
 
-/// Whether a verb is closed at a quiet place.
-fn any_shut<S: Step + Drop>(stages: &[Stage<S>]) -> bool
-    ensures { result ≡ list_any (λ stage. stage.gate.shut) stages.now }
+/// The verbs of these options with what their left files hold, without a source.
+fn new_verbs(alloc: Global, specs: &[VerbSpec], lefts: Vec<Events>) -> Result<Vec<Verb>, NoMemory>
+    requires sound { AreSound specs.now }
+    requires lefts { length lefts.items ≡ length specs.now }
+    ensures { IfOk result (λ made. AreNew (verbs_with specs.now lefts.items) made.items) }
 {
-    stages.iter().any(|stage| stage.is_shut())
+    let mut made = Vec::with_capacity(alloc, specs.len())?;
+    let mut place = 0;
+    for left in lefts {
+        push_new(alloc, &specs[place], left, &mut made)?;
+        place += 1;
+    }
+    Ok(made)
+}
+
+/// Appends the verb of these options with what its left file holds. A source is none.
+fn push_new(
+    alloc: Global,
+    spec: &VerbSpec,
+    left: Events,
+    made: &mut Vec<Verb>,
+) -> Result<(), NoMemory>
+    requires { IsVerbOrSource spec.now }
+    ensures { OnOk result ((verbs : List SpecVerb) → AreNew verbs made.old.items
+        → AreNew (verbs ++ verb_with spec.now left) made.new.items) }
+{
+    if let VerbSpec::Seq(_) = spec {
+        return Ok(());
+    }
+    made.push(Verb::new(alloc, spec, left)?)?;
+    Ok(())
+}
+
+/// Begins verbs in turn, and appends them to a chain of those before them. `made` is the output of the chain.
+fn begin_each(
+    alloc: Global,
+    waiting: Vec<Verb>,
+    stages: &mut verb_chain::Chain<Verb>,
+    made: &mut Events,
+) -> Result<(), NoMemory>
+    requires waiting { (verbs : List SpecVerb) × AreNew verbs waiting.items }
+    requires chain { Chained meaning_in WasGiven [] stages.old }
+    requires made { made.old ≡ chain (verbs_in meaning_in stages.old) [] }
+    ensures verbs { OnOk result ((verbs : List SpecVerb) → AreNew verbs waiting.items
+        → verbs_in meaning_in stages.new
+        ≡ verbs_in meaning_in stages.old ++ verbs) }
+    ensures represents { OnOk result
+        (Chained meaning_in WasGiven [] stages.new) }
+    ensures made { OnOk result (made.new ≡ chain (verbs_in meaning_in stages.new) []) }
+{
+    for verb in waiting {
+        begin_one(alloc, verb, stages, made)?;
+    }
+    Ok(())
+}
+
+/// Begins a verb, and appends it.
+fn begin_one(
+    alloc: Global,
+    verb: Verb,
+    stages: &mut verb_chain::Chain<Verb>,
+    made: &mut Events,
+) -> Result<(), NoMemory>
+    requires verb { (meaning : SpecVerb) × IsNew meaning verb }
+    requires chain { Chained meaning_in WasGiven [] stages.old }
+    requires made { made.old ≡ chain (verbs_in meaning_in stages.old) [] }
+    ensures verbs { OnOk result ((meaning : SpecVerb) → IsNew meaning verb
+        → verbs_in meaning_in stages.new
+        ≡ verbs_in meaning_in stages.old ++ meaning ∷ []) }
+    ensures represents { OnOk result
+        (Chained meaning_in WasGiven [] stages.new) }
+    ensures made { OnOk result (made.new ≡ chain (verbs_in meaning_in stages.new) []) }
+{
+    let mut first = Events::new(alloc);
+    let mut verb = verb;
+    verb.begin(&mut first)?;
+    stages.push(verb, first, made)
 }

@@ -1,12 +1,31 @@
-//! A chain of verbs: its output for a list of events, and the code that runs it.
+//! A plan says what a command reads, through which verbs its records go, and how they are written. Its parts are a
+//! `Reader`, a `Chain` of verbs and an `Outlet`; `run_serial` runs them one after the other.
 #![tactic(auto)]
 
 mod chain;
-#[cfg(test)]
-mod chain_tests;
-mod gate;
 mod laws;
-mod stage;
+mod lefts;
+mod plan;
+mod plan_outlet;
+mod reader;
+mod run;
+mod serial;
+#[cfg(test)]
+mod tests;
+mod verb;
+mod verb_spec;
 
 pub use chain::Chain;
-pub use laws::chain_laws;
+pub use laws::meaning_laws;
+pub use lefts::{Lefts, no_lefts};
+pub use mlr_event::NameList;
+pub use outlet::Let;
+pub use plan::{Plan, StyleList, VerbList};
+pub use plan_outlet::Outlet;
+pub use read_files::ReadTurn;
+pub use reader::Reader;
+pub use run::run_serial;
+pub use serial::Serial;
+pub use serial_core::{Ended, Refusal, SerialTurn, Why};
+pub use verb::Verb;
+pub use verb_spec::VerbSpec;

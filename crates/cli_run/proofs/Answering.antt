@@ -14,11 +14,11 @@ use Rattle.serial_core.specs.declared.answer.Ended.{Ended}
 use Rattle.serial_core.specs.declared.answer.Ended.TheVariants as answer
 use Rattle.serial_core.specs.declared.answer.Refusal.{Refusal}
 use Rattle.serial_core.specs.declared.answer.Why.TheVariants as why
-use Rattle.serial_core.specs.Answer.{is_refused}
+use Rattle.serial_core.specs.Answer.{IsOfNoInput, is_refused}
 use Rattle.serial_core.specs.Command as serial
 use Rattle.serial_core.proofs.Running.{following-none}
-use Rattle.serial_core.specs.Run.{HoldsAll}
-use Rattle.serial_core.specs.Run.{Completes as Complete, Run as SerialRun}
+use Rattle.serial_core.specs.Run.{HoldsFew, Run as SerialRun}
+use Rattle.serial_core.specs.Whole.{Gets, whole_of}
 use Rattle.serial_core.specs.Represents as outcomes
 use Rattle.cli_words.specs.declared.flags.Formats.{Formats}
 use Rattle.cli_words.specs.declared.verbs.Asked.{Asked}
@@ -27,7 +27,7 @@ use Rattle.cli_words.proofs.Readings.{one-place, one-reading}
 use Rattle.cli_run.specs.Answer.{RefusesWhere}
 use Rattle.cli_run.specs.Meaning.{IsCommandLine, command_of}
 use Rattle.cli_run.specs.Message.{Appends}
-use Rattle.cli_run.specs.Run.{Completes, Ran, Stops, WhereTold}
+use Rattle.cli_run.specs.Run.{OfWhole, Ran, RanWhole, Stops, WhereTold}
 
 -- Refused comes with the one word at which words are refused
 refusal-is : (number : ℕ) (refusal : Refusal) → answer.Refused (record { word = number; why = why.NotBuilt }) ≡ answer.Refused refusal → number ≡ refusal.word
@@ -72,6 +72,7 @@ ran-refused words number at contents taken name held =
       formats_are = refl;
       given = [];
       takes = record { order = tt; few = omega arith; entries = none.entries; prefixes = none.prefixes; says = refl; early = told-nothing contents taken };
+      whole = told-nothing contents taken;
       leaves = ChangesAt-none Stdout (outcomes.Leaves (answer.Refused (record { word = number; why = why.NotBuilt })) []) (λ before. refl) held;
     }
 
@@ -93,6 +94,7 @@ ran-line words names command is ended contents taken taken' name' held held' r =
   given = r.given;
   takes = record { order = r.order; few = r.few; entries = r.following.entries; prefixes = told-before contents taken taken' r.given (λ told. ArePrefixesTaken told r.given) r.following.entries r.following.prefixes; says = r.says; early = r.early };
   leaves = r.leaves;
+  whole = r.whole;
 }
 
 -- the one command that a line means
@@ -102,9 +104,9 @@ command-is words formats verbs names names' command line is =
     let same = one-reading words formats is.formats verbs is.verbs names names' line is.line in
     ap (λ f. command_of f verbs names words) same.0 ∙ ap (λ vs. command_of is.formats vs names words) same.1 ∙ ap (λ ns. command_of is.formats is.verbs ns words) same.2 ∙ sym is.command_is
 
--- where these hold, the outcome is that of all that the inputs hold
-abbrev pub CompletesAs : Type 0 → Ended → Option Contents → Option (List Take) → Option Held → Option Held → serial.Command → Type 0
-CompletesAs Quiet ended contents taken held held' command = (holds : HoldsAll command contents taken) → Quiet → Complete ended command holds.whole held held'
+-- where these hold, the outcome is of no input
+abbrev pub CompletesAs : Type 0 → Ended → Option Contents → Option (List Take) → serial.Command → Type 0
+CompletesAs Quiet ended contents taken command = HoldsFew command contents taken → Quiet → IsOfNoInput ended
 
 apart : Stdout ≡ Stderr → ⊥
 apart e = cc
@@ -119,14 +121,10 @@ told-following step message result (Some a) None h2 out err = absurd out
 told-following step message result (Some a) (Some b) None out err = err
 told-following step message result (Some a) (Some b) (Some c) out err = subst (step (a Stdout)) (sym (err.elsewhere Stdout apart)) out.here
 
-pub completes-following : (ended : Ended) (command : serial.Command) (whole : List Take) (message : List ℕ) (result : Done) (h0 h1 h2 : Option Held)
-    → Complete ended command whole h0 h1 → ChangesAt Stderr (Appends message result) h1 h2 → Completes ended command whole h0 h2
-completes-following answer.Done command whole message result h0 h1 h2 done err =
-    (done.0, told-following (outcomes.Leaves answer.Done (serial.text command whole)) message result h0 h1 h2 done.1 err)
-completes-following (answer.Refused refusal) command whole message result h0 h1 h2 done err = done
-completes-following (answer.Data fault) command whole message result h0 h1 h2 done err =
-    (done.0, told-following (outcomes.Leaves (answer.Data fault) (serial.text command whole)) message result h0 h1 h2 done.1 err)
-completes-following (answer.Read name) command whole message result h0 h1 h2 done err = done
-completes-following (answer.Written target) command whole message result h0 h1 h2 done err = done
-completes-following answer.TooLong command whole message result h0 h1 h2 done err = done
-completes-following answer.NoMemory command whole message result h0 h1 h2 done err = tt
+pub whole-following : (ended : Ended) (meant : Option serial.Command) (message : List ℕ) (result : Done) (h0 h1 h2 : Option Held) (contents : Option Contents) (taken : Option (List Take))
+    → ChangesAt Stderr (Appends message result) h1 h2 → IfSome contents (λ told. IfSome taken (λ _. RanWhole ended meant told h0 h1)) → IfSome contents (λ told. IfSome taken (λ _. OfWhole ended meant told h0 h2))
+whole-following ended meant message result h0 h1 h2 None taken err whole = tt
+whole-following ended meant message result h0 h1 h2 (Some told) None err whole = tt
+whole-following ended None message result h0 h1 h2 (Some told) (Some takes) err whole = tt
+whole-following ended (Some command) message result h0 h1 h2 (Some told) (Some takes) err whole =
+    (whole.verdict, told-following (Gets ended (serial.text command (whole_of told (serial.names_of command.origin)))) message result h0 h1 h2 whole.gets err)

@@ -1,13 +1,15 @@
 -- The verbs of a command line can be run: only the first may be `seqgen`, and its numbers are sound.
 use Rattle.std.proofs.Common.{◌≡◌, ℕ, ◌+◌, ◌^◌, ℤ, pos, Bool, true, false, List, [], ◌∷◌, ◌++◌, refl, sym, subst, ap, ◌∙◌}
-use Rattle.std.specs.Prelude.{◌≢◌, ◌&&◌, not, nat_le, length}
+use Rattle.std.specs.Prelude.{◌≢◌, ◌&&◌, not, nat_le, length, if◌then◌else◌}
 use Rattle.std.proofs.lemmas.Bool.{false≢true, leb-true}
 use Rattle.mlr_event.specs.declared.names.InputName.{InputName}
 use Rattle.mlr_event.specs.declared.options.ReadOpts.{ReadOpts}
 use Rattle.mlr_event.specs.declared.options.Format.{Format}
 use Rattle.mlr_event.specs.declared.options.Format.TheVariants.{Csv, Tsv, Json, Jsonl, Dkvp, Nidx, Xtab, Pprint, Markdown}
-use Rattle.mlr_plan.specs.declared.verb_spec.VerbSpec.{VerbSpec}
-use Rattle.mlr_plan.specs.Plans.{AreSound, AreVerbs, IsVerb, origin_or}
+use Rattle.chain_core.specs.declared.verb_spec.VerbSpec.{VerbSpec}
+use Rattle.chain_core.specs.declared.plan.Plan.{Plan}
+use Rattle.chain_core.specs.Plans.{AreSound, AreVerbs, IsCommandOf, IsVerb, origin_or, verbs_of}
+use Rattle.chain_core.specs.Plans.{inputs_of as inputs_in}
 use Rattle.read_files.specs.Represents.{can_read}
 use Rattle.serial_core.specs.Command.{files}
 use Rattle.verbs_seq.specs.Seq.{IsSoundSeq, count_between}
@@ -18,7 +20,8 @@ use Rattle.cli_words.specs.declared.verbs.Numbers.{Numbers}
 use Rattle.cli_words.specs.Grammar.{IsLine}
 use Rattle.cli_words.specs.Verbs.{is_zero, may_end}
 use Rattle.cli_words.proofs.Sources.{NoneSeq, NotSeq, first-may-end, later-verbs}
-use Rattle.cli_run.specs.Meaning.{field_of, spec_of, specs_of}
+use Rattle.cli_run.specs.Meaning.{command_of, field_of, inputs_of, spec_of, specs_of}
+use Rattle.cli_run.specs.Planning.{IsPlanOf}
 use Rattle.mlr_event.specs.Defaults.{default_read}
 
 both : (a b : Bool) → (a && b) ≡ true → (a ≡ true) × (b ≡ true)
@@ -79,3 +82,14 @@ pub origin-same : (read read' : ReadOpts) (inputs inputs' : List InputName) (spe
     → origin_or (files read inputs) specs ≡ origin_or (files read' inputs') specs'
 origin-same read read' inputs inputs' specs specs' r i s =
     ap (λ x. origin_or (files x inputs) specs) (sym r) ∙ ap (λ x. origin_or (files read' x) specs) (sym i) ∙ ap (origin_or (files read' inputs')) (sym s)
+
+-- the plan of a command line has the command that the line means
+pub command-of-plan : (formats : Formats) (verbs : List Asked) (names words : List (List ℕ)) (plan : Plan) → IsPlanOf formats verbs names words plan → IsCommandOf plan (command_of formats verbs names words)
+command-of-plan formats verbs names words plan is = record {
+  origin =
+      origin-same (default_read formats.input) plan.read (inputs_of names) (inputs_in plan) (specs_of words verbs) plan.verbs is.read
+      (ap (λ none. if none then [] else plan.inputs) is.no_input ∙ is.inputs) is.verbs_are;
+  verbs = ap verbs_of (sym is.verbs_are);
+  rest = [];
+  write = is.styles;
+}

@@ -8,23 +8,21 @@ use Rattle.mlr_world.specs.Taken.{Take}
 use Rattle.mlr_world.specs.Outputs.{Held, ChangesAt, call_failed, lacked_memory}
 use Rattle.mlr_world.specs.declared.outputs.Done.{Done}
 use Rattle.mlr_world.specs.declared.outputs.Done.TheVariants as done
+use Rattle.outlet.specs.Represents.{CountedIf}
 use Rattle.serial_core.specs.declared.answer.Ended.{Ended}
 use Rattle.serial_core.specs.declared.answer.Ended.TheVariants as answer
-use Rattle.serial_core.specs.Answer.{has_failed}
+use Rattle.serial_core.specs.Answer.{has_failed, lacks_memory}
 use Rattle.serial_core.specs.Command as serial
 use Rattle.serial_core.specs.Represents as outcomes
 use Rattle.cli_run.specs.Answer.{RefusesWhere}
 use Rattle.cli_run.specs.Meaning.{Means, formats_for, text_for}
 use Rattle.cli_run.specs.Message.{Appends, message_of}
-use Rattle.cli_run.specs.Run.{Says, Leaves, LeavesMessage, WhereTold, OutputCause}
+use Rattle.cli_run.specs.Run.{Between, Says, Leaves, LeavesMessage, WhereTold, OutputCause}
 
 -- counts over a call, and over a later one
 pub never_falls : {N : Type 0} (failed : Bool) (before now : N → ℕ) (name : N) → Counted failed before now name → (other : N) → before other ≤ now other
 never_falls true before now name counted other = counted.0 other
 never_falls false before now name counted other = omega (arith, counted other)
-
-Rose-earlier : (a b c : ℕ) → a ≤ b → Rose b c → Rose a c
-Rose-earlier a b c le rose = omega arith
 
 pub Rose-later : (a b c : ℕ) → Rose a b → b ≤ c → Rose a c
 Rose-later a b c rose le = omega arith
@@ -36,26 +34,25 @@ apart' : Stderr ≡ Stdout → ⊥
 apart' e = cc
 
 -- what the message leaves in standard error
-message_left : (message : List ℕ) (result : Done) (before now : Option (List ℕ)) (f0 f1 f2 : Target → ℕ) (s0 s1 s2 : ℕ)
-    → f0 Stderr ≤ f1 Stderr → s0 ≤ s1 → Counted (call_failed result) f1 f2 Stderr → Tallied (lacked_memory result) s1 s2
-    → Appends message result before now → LeavesMessage message (Rose (f0 Stderr) (f2 Stderr) ⊎ Rose s0 s2) before now
-message_left message done.Ok before now f0 f1 f2 s0 s1 s2 ff ss counted tallied appends = inl appends
-message_left message done.Failed before now f0 f1 f2 s0 s1 s2 ff ss counted tallied appends = inr (inl (Rose-earlier (f0 Stderr) (f1 Stderr) (f2 Stderr) ff counted.1), appends)
-message_left message done.NoMemory before now f0 f1 f2 s0 s1 s2 ff ss counted tallied appends = inr (inr (Rose-earlier s0 s1 s2 ss tallied.1), appends)
+message_left : (message : List ℕ) (result : Done) (before now : Option (List ℕ)) (f1 f2 : Target → ℕ) (s1 s2 : ℕ) → Counted (call_failed result) f1 f2 Stderr → Tallied (lacked_memory result) s1 s2
+    → Appends message result before now → LeavesMessage message (Rose (f1 Stderr) (f2 Stderr) ⊎ Rose s1 s2) before now
+message_left message done.Ok before now f1 f2 s1 s2 counted tallied appends = inl appends
+message_left message done.Failed before now f1 f2 s1 s2 counted tallied appends = inr (inl counted.1, appends)
+message_left message done.NoMemory before now f1 f2 s1 s2 counted tallied appends = inr (inr tallied.1, appends)
 
-pub leaves_all : (words names : List (List ℕ)) (meant : Option serial.Command) (ended : Ended) (given : List Take) (result : Done) (h0 h1 h2 : Option Held) (f0 f1 f2 : Target → ℕ) (s0 s1 s2 : ℕ)
-    → f0 Stderr ≤ f1 Stderr → s0 ≤ s1 → Counted (call_failed result) f1 f2 Stderr → Tallied (lacked_memory result) s1 s2
+pub leaves_all : (words names : List (List ℕ)) (meant : Option serial.Command) (ended : Ended) (given : List Take) (result : Done) (h0 h1 h2 : Option Held) (f1 f2 : Target → ℕ) (s1 s2 : ℕ)
+    → Counted (call_failed result) f1 f2 Stderr → Tallied (lacked_memory result) s1 s2
     → ChangesAt Stdout (outcomes.Leaves ended (text_for meant given)) h0 h1 → ChangesAt Stderr (Appends (message_of words names (formats_for meant) ended) result) h1 h2
-    → WhereTold (Leaves words names meant ended given (Rose (f0 Stderr) (f2 Stderr) ⊎ Rose s0 s2)) h0 h2
-leaves_all words names meant ended given result None None None f0 f1 f2 s0 s1 s2 ff ss counted tallied out err = tt
-leaves_all words names meant ended given result None None (Some c) f0 f1 f2 s0 s1 s2 ff ss counted tallied out err = err
-leaves_all words names meant ended given result None (Some b) h2 f0 f1 f2 s0 s1 s2 ff ss counted tallied out err = absurd out
-leaves_all words names meant ended given result (Some a) None h2 f0 f1 f2 s0 s1 s2 ff ss counted tallied out err = absurd out
-leaves_all words names meant ended given result (Some a) (Some b) None f0 f1 f2 s0 s1 s2 ff ss counted tallied out err = err
-leaves_all words names meant ended given result (Some a) (Some b) (Some c) f0 f1 f2 s0 s1 s2 ff ss counted tallied out err = record {
+    → WhereTold (Leaves words names meant ended given (Rose (f1 Stderr) (f2 Stderr) ⊎ Rose s1 s2)) h0 h2
+leaves_all words names meant ended given result None None None f1 f2 s1 s2 counted tallied out err = tt
+leaves_all words names meant ended given result None None (Some c) f1 f2 s1 s2 counted tallied out err = err
+leaves_all words names meant ended given result None (Some b) h2 f1 f2 s1 s2 counted tallied out err = absurd out
+leaves_all words names meant ended given result (Some a) None h2 f1 f2 s1 s2 counted tallied out err = absurd out
+leaves_all words names meant ended given result (Some a) (Some b) None f1 f2 s1 s2 counted tallied out err = err
+leaves_all words names meant ended given result (Some a) (Some b) (Some c) f1 f2 s1 s2 counted tallied out err = record {
   out = subst (outcomes.Leaves ended (text_for meant given) (a Stdout)) (sym (err.elsewhere Stdout apart)) out.here;
-  err = subst (λ before. LeavesMessage (message_of words names (formats_for meant) ended) (Rose (f0 Stderr) (f2 Stderr) ⊎ Rose s0 s2) before (c Stderr)) (out.elsewhere Stderr apart')
-      (message_left (message_of words names (formats_for meant) ended) result (b Stderr) (c Stderr) f0 f1 f2 s0 s1 s2 ff ss counted tallied err.here);
+  err = subst (λ before. LeavesMessage (message_of words names (formats_for meant) ended) (Rose (f1 Stderr) (f2 Stderr) ⊎ Rose s1 s2) before (c Stderr)) (out.elsewhere Stderr apart')
+      (message_left (message_of words names (formats_for meant) ended) result (b Stderr) (c Stderr) f1 f2 s1 s2 counted tallied err.here);
   others = λ target not_out not_err. err.elsewhere target not_err ∙ out.elsewhere target not_out;
 }
 
@@ -78,3 +75,20 @@ pub cause_given : (ended : Ended) (words names : List (List ℕ)) (meant : Optio
 cause_given ended words names (Some command) given result f0 f1 f2 refused means says silent first second = cause ended command given result f0 f1 f2 says silent first second
 cause_given ended words names None given result f0 f1 f2 refused means says silent first second =
     subst (λ e. OutputCause e f0 f2) (sym (refused.always means.0 means.1)) tt
+
+pub never_lacks : (lacked : Bool) (before now : ℕ) → Tallied lacked before now → before ≤ now
+never_lacks true before now tallied = tallied.0
+never_lacks false before now tallied = omega (arith, tallied)
+
+-- the counts before the message
+abbrev pub counts_between : (ended : Ended) (result : Done) (f0 f1 f2 : Target → ℕ) (s0 s1 s2 : ℕ) → Counted (has_failed ended) f0 f1 Stdout → CountedIf (lacks_memory ended) s0 s1
+    → Counted (call_failed result) f1 f2 Stderr → Tallied (lacked_memory result) s1 s2 → (ended ≡ answer.Done → result ≡ done.Ok) → Between ended f0 f2 s0 s2
+counts_between ended result f0 f1 f2 s0 s1 s2 ran short counted tallied silent = record {
+  faults_before = f1;
+  shortages_before = s1;
+  run_faults = ran;
+  run_shortages = short;
+  message_faults = never_falls (call_failed result) f1 f2 Stderr counted;
+  message_shortages = never_lacks (lacked_memory result) s1 s2 tallied;
+  silent = λ is. (subst (λ r. Counted (call_failed r) f1 f2 Stderr) (silent is) counted, subst (λ r. Tallied (lacked_memory r) s1 s2) (silent is) tallied);
+}

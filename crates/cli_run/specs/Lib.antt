@@ -1,4 +1,5 @@
 pub mod Options
+pub mod Planning
 pub mod Meaning
 pub mod Answer
 pub mod Message

@@ -11,9 +11,9 @@ use Rattle.cli_words.specs.declared.verbs.Asked.{Asked}
 use Rattle.cli_words.specs.declared.verbs.Asked.TheVariants.{Cat, Nothing, Head, Seq}
 use Rattle.cli_words.specs.declared.verbs.Numbers.{Numbers}
 use Rattle.cli_words.specs.Grammar.{IsLine, IsRefusedAt, names_of}
-use Rattle.mlr_plan.specs.declared.verb_spec.VerbSpec.{VerbSpec}
-use Rattle.mlr_plan.specs.declared.verb_spec.VerbSpec.TheVariants as plan
-use Rattle.mlr_plan.specs.Plans.{origin_or, verbs_of}
+use Rattle.chain_core.specs.declared.verb_spec.VerbSpec.{VerbSpec}
+use Rattle.chain_core.specs.declared.verb_spec.VerbSpec.TheVariants as plan
+use Rattle.chain_core.specs.Plans.{origin_or, verbs_of}
 use Rattle.serial_core.specs.Command as serial
 use Rattle.verbs_stream.specs.declared.spec.Spec.TheVariants as verb
 use Rattle.mlr_event.specs.Defaults.{default_read}

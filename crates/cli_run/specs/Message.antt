@@ -1,5 +1,5 @@
 -- The message of each outcome, one line on standard error.
-use Rattle.std.specs.Prelude.{◌≡◌, ℕ, List, [], ◌∷◌, codes, slice_index_or, Option}
+use Rattle.std.specs.Prelude.{◌≡◌, ℕ, Bool, true, false, List, [], ◌∷◌, codes, slice_index_or, Option}
 use Rattle.std.specs.List.{flat_map}
 use Rattle.std.specs.Fmt.{decimal}
 use Rattle.mlr_event.specs.declared.fault.Fault.{Fault}
@@ -20,6 +20,9 @@ use Rattle.mlr_world.specs.declared.outputs.Done.TheVariants as done
 use Rattle.mlr_world.specs.Outputs.{IsPrefixOf, with_bytes}
 use Rattle.serial_core.specs.declared.answer.Ended.{Ended}
 use Rattle.serial_core.specs.declared.answer.Ended.TheVariants as answer
+use Rattle.serial_core.specs.declared.answer.Refusal.{Refusal}
+use Rattle.serial_core.specs.declared.answer.Why.{Why}
+use Rattle.serial_core.specs.declared.answer.Why.TheVariants as why
 use Rattle.cli_run.specs.Meaning.{word_at}
 
 abbrev pub input_text : InputName → List ℕ
@@ -97,10 +100,44 @@ fault_pieces names formats (fault.Index verb nr) = verb_pieces verb nr (codes ":
 fault_pieces names formats (fault.OutputTwice name first_mode first second_mode second) =
     output_pieces name (mode_text first_mode) (style_text formats first) (mode_text second_mode) (style_text formats second)
 
+-- what is wrong with a word, and whether its message shows the word
+abbrev pub what_text : Why → List ℕ
+what_text why.NoVerb = codes "no verb"
+what_text why.UnknownFlag = codes "unknown flag"
+what_text why.UnknownVerb = codes "unknown verb"
+what_text why.MissingArgument = codes "missing argument"
+what_text why.BadNumber = codes "bad number"
+what_text why.BadSeparator = codes "bad separator"
+what_text why.BadPattern = codes "bad pattern"
+what_text why.PatternSize = codes "pattern too large"
+what_text why.TooManyVerbs = codes "too many verbs"
+what_text why.Clash = codes "clash"
+what_text why.NotBuilt = codes "not built"
+
+abbrev pub shows_word : Why → Bool
+shows_word why.NoVerb = false
+shows_word why.UnknownFlag = true
+shows_word why.UnknownVerb = true
+shows_word why.MissingArgument = true
+shows_word why.BadNumber = true
+shows_word why.BadSeparator = true
+shows_word why.BadPattern = true
+shows_word why.PatternSize = true
+shows_word why.TooManyVerbs = true
+shows_word why.Clash = true
+shows_word why.NotBuilt = true
+
+abbrev pub word_pieces : Bool → ℕ → List ℕ → List ℕ → List (List ℕ)
+word_pieces false number what word = codes "mlr: word " ∷ decimal number ∷ codes ": " ∷ what ∷ codes "\n" ∷ []
+word_pieces true number what word = codes "mlr: word " ∷ decimal number ∷ codes ": " ∷ what ∷ codes ": " ∷ word ∷ codes "\n" ∷ []
+
+abbrev pub refusal_pieces : List (List ℕ) → Refusal → List (List ℕ)
+refusal_pieces words refusal = word_pieces (shows_word refusal.why) refusal.word (what_text refusal.why) (word_at words refusal.word)
+
 -- the pieces of a message, by the words and the file names of a command line and the formats of its outputs
 abbrev pub pieces_of : List (List ℕ) → List (List ℕ) → List Format → Ended → List (List ℕ)
 pieces_of words names formats answer.Done = []
-pieces_of words names formats (answer.Refused refusal) = codes "mlr: word " ∷ decimal refusal.word ∷ codes ": not built: " ∷ word_at words refusal.word ∷ codes "\n" ∷ []
+pieces_of words names formats (answer.Refused refusal) = refusal_pieces words refusal
 pieces_of words names formats (answer.Data fault) = fault_pieces names formats fault
 pieces_of words names formats (answer.Read name) = codes "mlr: cannot read " ∷ input_text name ∷ codes "\n" ∷ []
 pieces_of words names formats (answer.Written target) = codes "mlr: cannot write " ∷ target_text target ∷ codes "\n" ∷ []

@@ -4,16 +4,19 @@ use Rattle.std.specs.Option.{option_map}
 use Rattle.mlr_event.specs.declared.options.Format.{Format}
 use Rattle.mlr_event.specs.declared.names.Target.{Target}
 use Rattle.mlr_event.specs.declared.names.Target.TheVariants.{Stdout, Stderr}
-use Rattle.mlr_world.specs.Counts.{Rose}
+use Rattle.mlr_world.specs.Counts.{Counted, Rose}
 use Rattle.mlr_world.specs.Inputs.{Contents}
 use Rattle.mlr_world.specs.Outputs.{ChangesAt, Held, with_bytes}
 use Rattle.mlr_world.specs.Taken.{Take}
-use Rattle.outlet.specs.Represents.{AppendsPrefix}
+use Rattle.outlet.specs.Represents.{AppendsPrefix, CountedIf}
 use Rattle.read_files.specs.Takes.{ArePrefixesTaken, InOrder, total}
 use Rattle.serial_core.specs.declared.answer.Ended.{Ended}
 use Rattle.serial_core.specs.declared.answer.Ended.TheVariants as answer
+use Rattle.serial_core.specs.Answer.{has_failed, lacks_memory}
 use Rattle.serial_core.specs.Command as serial
 use Rattle.serial_core.specs.Run.{StopsEarly}
+use Rattle.serial_core.specs.Whole as all
+use Rattle.serial_core.specs.Whole.{Gets, IsVerdict, whole_of}
 use Rattle.serial_core.specs.Represents as outcomes
 use Rattle.cli_run.specs.Meaning.{Means, formats_for, inputs_for, text_for}
 use Rattle.cli_run.specs.Message.{message_of}
@@ -28,7 +31,22 @@ abbrev pub Stops : Option serial.Command → Contents → List Take → Type 0
 Stops None told given = Unit {0}
 Stops (Some command) told given = StopsEarly command told given
 
--- what a message leaves in standard error: all of it, or a prefix where a call couldn't write
+-- The counts of the outputs before the message: the run counted nothing but a failed write and, where memory ran out, a
+-- shortage; a run that is done has no message.
+pub record Between (ended : Ended) (faults faults' : Target → ℕ) (shortages shortages' : ℕ) : Type 0 where
+  pub faults_before : Target → ℕ
+  pub shortages_before : ℕ
+  pub run_faults : Counted (has_failed ended) faults faults_before Stdout
+  pub run_shortages : CountedIf (lacks_memory ended) shortages shortages_before
+  pub message_faults : (target : Target) → faults_before target ≤ faults' target
+  pub message_shortages : shortages_before ≤ shortages'
+  pub silent : ended ≡ answer.Done → ((target : Target) → faults' target ≡ faults_before target) × (shortages' ≡ shortages_before)
+
+-- a call of the message couldn't write
+abbrev pub IsCut : (ended : Ended) (faults faults' : Target → ℕ) (shortages shortages' : ℕ) → Between ended faults faults' shortages shortages' → Type 0
+IsCut ended faults faults' shortages shortages' between = Rose (between.faults_before Stderr) (faults' Stderr) ⊎ Rose between.shortages_before shortages'
+
+-- what a message leaves in standard error: all of it, or a prefix where one of its calls couldn't write
 abbrev pub LeavesMessage : List ℕ → Type 0 → Option (List ℕ) → Option (List ℕ) → Type 0
 LeavesMessage message Unwritten before now = (now ≡ with_bytes message before) ⊎ (Unwritten × AppendsPrefix message before now)
 
@@ -55,14 +73,27 @@ pub record Takes (meant : Option serial.Command) (ended : Ended) (given : List T
   pub says : Says ended meant given
   pub early : IfSome contents (λ told. IfSome taken (λ _. Stops meant told given))
 
--- A run: what the words mean, what was taken, and what it leaves.
-pub record Run (words : List (List ℕ)) (ended : Ended) (contents : Option Contents) (taken taken' : Option (List Take)) (held held' : Option Held) (Unwritten : Type 0) : Type 0 where
+-- the outcome and standard output by all that the inputs hold: after Done and Data they are its verdict and its text, and
+-- else standard output has a prefix of its text
+abbrev pub OfWhole : Ended → Option serial.Command → Contents → Option Held → Option Held → Type 0
+OfWhole ended None told held held' = Unit {0}
+OfWhole ended (Some command) told held held' =
+    IsVerdict ended command (whole_of told (serial.names_of command.origin)) × WhereTold (λ before now. Gets ended (serial.text command (whole_of told (serial.names_of command.origin))) (before Stdout) (now Stdout)) held held'
+
+-- A run: what the words mean, what was taken, and what it leaves; and the same by all that the inputs hold.
+pub record Run (words : List (List ℕ)) (ended : Ended) (contents : Option Contents) (taken taken' : Option (List Take)) (held held' : Option Held) (faults faults' : Target → ℕ) (shortages shortages' : ℕ) : Type 0 where
   pub names : List (List ℕ)
   pub meant : Option serial.Command
   pub means : Means words names meant
   pub given : List Take
   pub takes : Takes meant ended given contents taken taken'
-  pub leaves : WhereTold (Leaves words names meant ended given Unwritten) held held'
+  pub between : Between ended faults faults' shortages shortages'
+  pub leaves : WhereTold (Leaves words names meant ended given (IsCut ended faults faults' shortages shortages' between)) held held'
+  pub whole : IfSome contents (λ told. IfSome taken (λ _. OfWhole ended meant told held held'))
+
+abbrev pub RanWhole : Ended → Option serial.Command → Contents → Option Held → Option Held → Type 0
+RanWhole ended None told held held' = Unit {0}
+RanWhole ended (Some command) told held held' = all.OfWhole ended command told held held'
 
 -- The same before its message.
 pub record Ran (words names : List (List ℕ)) (formats : List Format) (ended : Ended) (contents : Option Contents) (taken taken' : Option (List Take)) (held held' : Option Held) : Type 0 where
@@ -72,6 +103,7 @@ pub record Ran (words names : List (List ℕ)) (formats : List Format) (ended : 
   pub given : List Take
   pub takes : Takes meant ended given contents taken taken'
   pub leaves : ChangesAt Stdout (outcomes.Leaves ended (text_for meant given)) held held'
+  pub whole : IfSome contents (λ told. IfSome taken (λ _. RanWhole ended meant told held held'))
 
 -- what each outcome says of the counts of the outputs
 abbrev pub OutputCause : Ended → (Target → ℕ) → (Target → ℕ) → Type 0
@@ -82,18 +114,3 @@ OutputCause (answer.Read name) before now = Unit {0}
 OutputCause (answer.Written target) before now = Rose (before target) (now target)
 OutputCause answer.TooLong before now = Unit {0}
 OutputCause answer.NoMemory before now = Unit {0}
-
--- standard output contains the text of all that the inputs hold
-abbrev pub Holds : Ended → serial.Command → List Take → Option Held → Option Held → Type 0
-Holds ended command whole held held' =
-    outcomes.Says ended command whole × WhereTold (λ before now. outcomes.Leaves ended (serial.text command whole) (before Stdout) (now Stdout)) held held'
-
--- the outcome is that of all that the inputs hold, or memory ran out
-abbrev pub Completes : Ended → serial.Command → List Take → Option Held → Option Held → Type 0
-Completes answer.Done command whole held held' = Holds answer.Done command whole held held'
-Completes (answer.Refused refusal) command whole held held' = ⊥
-Completes (answer.Data fault) command whole held held' = Holds (answer.Data fault) command whole held held'
-Completes (answer.Read name) command whole held held' = ⊥
-Completes (answer.Written target) command whole held held' = ⊥
-Completes answer.TooLong command whole held held' = ⊥
-Completes answer.NoMemory command whole held held' = Unit {0}

@@ -10,6 +10,8 @@ mod run;
 mod test_rows;
 #[cfg(test)]
 mod tests;
+#[cfg(test)]
+mod worked_rows;
 
-pub use run::run_mlr;
-pub use serial_core::{Ended, Refusal, Why};
+pub use chain_core::{Ended, Refusal, Why};
+pub use run::{run_alone, run_mlr};

@@ -1,18 +1,18 @@
 //! The message of an outcome.
-ghost use Rattle.std.specs.Prelude.{◌≡◌, ◌∷◌, []};
+ghost use Rattle.std.specs.Prelude.{◌≡◌, ◌∷◌, [], ℕ};
 ghost use Rattle.std.specs.Fmt.{decimal};
 ghost use Rattle.std.specs.List.{flat_map};
 ghost use Rattle.mlr_event.specs.declared.names.Target.TheVariants.{Stderr};
 ghost use Rattle.mlr_world.specs.Counts.{Counted, Tallied};
 ghost use Rattle.mlr_world.specs.Outputs.{ChangesAt, call_failed, lacked_memory};
-ghost use Rattle.cli_run.specs.Message.{Appends, message_of, fault_pieces, length_pieces, line_pieces, byte_pieces, verb_pieces, turns_pieces, output_pieces, file_text, named, input_text, target_text, mode_text, style_text, format_text};
+ghost use Rattle.cli_run.specs.Message.{Appends, message_of, fault_pieces, length_pieces, line_pieces, byte_pieces, verb_pieces, turns_pieces, output_pieces, file_text, named, input_text, target_text, mode_text, style_text, format_text, what_text, shows_word, word_pieces, refusal_pieces};
 ghost use Rattle.cli_run.specs.Meaning.{word_at};
 
+use chain_core::{Ended, Refusal, Why};
 use itoa::Buffer;
 use mlr_event::{Fault, FileRef, Format, InputName, Mode, StyleId, Target};
 use mlr_value::Bytes;
 use mlr_world::{Done, Outputs};
-use serial_core::Ended;
 
 /// Room for the numbers of one message.
 #[derive(Drop)]
@@ -61,21 +61,7 @@ fn message_pieces<'a>(
 {
     match ended {
         Ended::Done => [b""; 9],
-        Ended::Refused(refusal) => {
-            let number = decimal(&mut digits.first, refusal.word);
-            let word = word_at(words, refusal.word);
-            return [
-                b"mlr: word ",
-                number,
-                b": not built: ",
-                word,
-                b"\n",
-                b"",
-                b"",
-                b"",
-                b"",
-            ];
-        }
+        Ended::Refused(refusal) => return refusal_pieces(words, refusal, digits),
         Ended::Data(fault) => return fault_pieces(names, formats, fault, digits),
         Ended::Read(name) => one_line(b"mlr: cannot read ", input_text(name)),
         Ended::Written(target) => one_line(b"mlr: cannot write ", target_text(target)),
@@ -90,6 +76,64 @@ fn one_line<'a>(first: &'a [u8], second: &'a [u8]) -> [&'a [u8]; 9]
         ≡ flat_map (λ piece. piece) (first.now ∷ second.now ∷ (10 ∷ []) ∷ []) }
 {
     [first, second, b"\n", b"", b"", b"", b"", b"", b""]
+}
+
+/// The pieces of the message of words that aren't accepted.
+fn refusal_pieces<'a>(
+    words: &'a [Bytes],
+    refusal: &'a Refusal,
+    digits: &'a mut Digits,
+) -> [&'a [u8]; 9]
+    ensures { flat_map (λ piece. piece.now) result
+        ≡ flat_map (λ piece. piece) (refusal_pieces words.now refusal.now) }
+{
+    let number = decimal(&mut digits.first, refusal.word);
+    word_pieces(
+        shows_word(&refusal.why),
+        number,
+        what_text(&refusal.why),
+        word_at(words, refusal.word),
+    )
+}
+
+/// The pieces of a line about the word with this number.
+fn word_pieces<'a>(shows: bool, number: &'a [u8], what: &'a [u8], word: &'a [u8]) -> [&'a [u8]; 9]
+    ensures { (value : ℕ) → number.now ≡ decimal value
+        → flat_map (λ piece. piece.now) result
+        ≡ flat_map (λ piece. piece) (word_pieces shows value what.now word.now) }
+{
+    let start: &[u8] = b"mlr: word ";
+    if shows {
+        [start, number, b": ", what, b": ", word, b"\n", b"", b""]
+    } else {
+        [start, number, b": ", what, b"\n", b"", b"", b"", b""]
+    }
+}
+
+/// What is wrong with a word.
+fn what_text(why: &Why) -> &[u8]
+    ensures { result.now ≡ what_text why.now }
+{
+    match why {
+        Why::NoVerb => b"no verb",
+        Why::UnknownFlag => b"unknown flag",
+        Why::UnknownVerb => b"unknown verb",
+        Why::MissingArgument => b"missing argument",
+        Why::BadNumber => b"bad number",
+        Why::BadSeparator => b"bad separator",
+        Why::BadPattern => b"bad pattern",
+        Why::PatternSize => b"pattern too large",
+        Why::TooManyVerbs => b"too many verbs",
+        Why::Clash => b"clash",
+        Why::NotBuilt => b"not built",
+    }
+}
+
+/// Whether the message shows the word.
+fn shows_word(why: &Why) -> bool
+    ensures { result ≡ shows_word why.now }
+{
+    !matches!(why, Why::NoVerb)
 }
 
 /// The pieces of the message of a fault.

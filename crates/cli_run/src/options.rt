@@ -5,7 +5,7 @@ ghost use Rattle.writers.specs.Style.{is_nested};
 ghost use Rattle.cli_run.specs.Options.{write_options};
 
 use cli_words::Formats;
-use mlr_event::{Format, InputName};
+use mlr_event::{Format, InputName, NameList};
 use mlr_spec::NoMemory;
 use mlr_value::Bytes;
 use std::alloc::Global;
@@ -32,14 +32,14 @@ const MANY: usize = 1 << 60;
 
 /// The inputs in their order: standard input where no file is named. It finds no memory for more of them than any
 /// memory holds.
-pub(crate) fn inputs_of(alloc: Global, names: &[Bytes]) -> Result<Vec<InputName>, NoMemory>
-    ensures inputs { IfOk result (λ inputs. inputs.items ≡ inputs_of names.now) }
-    ensures few { IfOk result (λ inputs. length inputs.items ≤ 2 ^ 60) }
+pub(crate) fn inputs_of(alloc: Global, names: &[Bytes]) -> Result<NameList, NoMemory>
+    ensures inputs { IfOk result (λ inputs. inputs ≡ inputs_of names.now) }
+    ensures few { IfOk result (λ inputs. length inputs ≤ 2 ^ 60) }
 {
     if names.len() >= MANY {
         return Err(NoMemory);
     }
-    let mut inputs = Vec::with_capacity(alloc, names.len().max(1))?;
+    let mut inputs = NameList::new(alloc);
     if names.is_empty() {
         inputs.push(InputName::Stdin)?;
         return Ok(inputs);

@@ -2,13 +2,15 @@
 ghost use Rattle.std.specs.Prelude.{◌≡◌, ◌++◌, ◌∷◌, [], None, false, ℕ, List, IfOk, OnOk};
 ghost use Rattle.cli_words.specs.declared.verbs.Asked.{Asked as SpecAsked};
 ghost use Rattle.cli_words.specs.Grammar.{IsLine, names_of};
-ghost use Rattle.mlr_plan.specs.Plans.{IsCommandOf, IsSound};
-ghost use Rattle.cli_run.specs.Meaning.{command_of, field_of, spec_of, specs_of};
+ghost use Rattle.chain_core.specs.Plans.{IsSound};
+ghost use Rattle.cli_run.specs.Meaning.{field_of, spec_of, specs_of};
+ghost use Rattle.cli_run.specs.Planning.{IsPlanOf};
 
 use crate::options::{inputs_of, write_options};
+use chain_core::{Plan, VerbList, VerbSpec};
 use cli_words::{Asked, Command, Numbers, names_of, numbers_of, verbs_of};
 use mlr_event::ReadOpts;
-use mlr_plan::{Plan, VerbSpec};
+use mlr_list::List;
 use mlr_spec::NoMemory;
 use mlr_value::Bytes;
 use std::alloc::Global;
@@ -25,12 +27,11 @@ pub(crate) fn plan_of(alloc: Global, words: &[Bytes], command: Command) -> Resul
     requires { (verbs : List SpecAsked)
         × IsLine words.now command.formats verbs (names_of command words.now) }
     ensures sound { IfOk result (λ plan. IsSound plan) }
-    ensures command { IfOk result (λ plan. (verbs : List SpecAsked)
+    ensures plan { IfOk result (λ plan. (verbs : List SpecAsked)
         → IsLine words.now command.formats verbs (names_of command words.now)
-        → IsCommandOf plan (command_of command.formats verbs (names_of command words.now)
-        words.now)) }
+        → IsPlanOf command.formats verbs (names_of command words.now) words.now plan) }
 {
-    let mut styles = Vec::new(alloc);
+    let mut styles = List::new(alloc);
     styles.push(write_options(alloc, command.formats)?)?;
     let verbs = verbs_of(alloc, words)?;
     Ok(Plan {
@@ -46,10 +47,10 @@ pub(crate) fn plan_of(alloc: Global, words: &[Bytes], command: Command) -> Resul
 }
 
 /// The verbs of a command line with their options.
-fn specs_of(alloc: Global, words: &[Bytes], verbs: &[Asked]) -> Result<Vec<VerbSpec>, NoMemory>
-    ensures { IfOk result (λ specs. specs.items ≡ specs_of words.now verbs.now) }
+fn specs_of(alloc: Global, words: &[Bytes], verbs: &[Asked]) -> Result<VerbList, NoMemory>
+    ensures { IfOk result (λ specs. specs ≡ specs_of words.now verbs.now) }
 {
-    let mut specs = Vec::new(alloc);
+    let mut specs = List::new(alloc);
     for asked in verbs {
         push_spec(alloc, words, *asked, &mut specs)?;
     }
@@ -61,9 +62,9 @@ fn push_spec(
     alloc: Global,
     words: &[Bytes],
     asked: Asked,
-    specs: &mut Vec<VerbSpec>,
+    specs: &mut VerbList,
 ) -> Result<(), NoMemory>
-    ensures { OnOk result (specs.new.items ≡ specs.old.items ++ spec_of words.now asked ∷ []) }
+    ensures { OnOk result (specs.new ≡ specs.old ++ spec_of words.now asked ∷ []) }
 {
     match asked {
         Asked::Cat => {
@@ -95,8 +96,8 @@ fn plain_cat(name: Bytes) -> Cat
     }
 }
 
-fn push(specs: &mut Vec<VerbSpec>, spec: VerbSpec) -> Result<(), NoMemory>
-    ensures { OnOk result (specs.new.items ≡ specs.old.items ++ spec ∷ []) }
+fn push(specs: &mut VerbList, spec: VerbSpec) -> Result<(), NoMemory>
+    ensures { OnOk result (specs.new ≡ specs.old ++ spec ∷ []) }
 {
     specs.push(spec)?;
     Ok(())

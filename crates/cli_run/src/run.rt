@@ -1,35 +1,35 @@
 //! The top call: a command line run on inputs and outputs.
-ghost use Rattle.std.specs.Prelude.{◌≡◌, ◌⊎◌, ◌≤◌, ℕ, List, true};
+ghost use Rattle.std.specs.Prelude.{◌≡◌, ◌≤◌, ℕ, List, true};
 ghost use Rattle.mlr_event.specs.declared.names.InputName.{InputName};
 ghost use Rattle.mlr_event.specs.declared.names.Target.{Target};
-ghost use Rattle.mlr_event.specs.declared.names.Target.TheVariants.{Stdout, Stderr};
+ghost use Rattle.mlr_event.specs.declared.names.Target.TheVariants.{Stdout};
 ghost use Rattle.mlr_world.specs.Counts.{Counted, Rose};
-ghost use Rattle.serial_core.specs.Answer.{has_failed, is_refused};
+ghost use Rattle.outlet.specs.Represents.{CountedIf};
+ghost use Rattle.serial_core.specs.Answer.{IsOfNoInput, has_failed, is_refused, lacks_memory};
 ghost use Rattle.serial_core.specs.Command as serial;
-ghost use Rattle.serial_core.specs.Run.{Completes as Complete, HoldsAll, Run as SerialRun};
+ghost use Rattle.serial_core.specs.Run.{HoldsFew, Run as SerialRun};
 ghost use Rattle.serial_core.specs.Represents.{InputCause};
 ghost use Rattle.cli_words.specs.declared.verbs.Asked.{Asked};
 ghost use Rattle.cli_words.specs.Grammar.{IsLine, Reads, names_of};
 ghost use Rattle.cli_run.specs.Answer.{RefusesWhere};
 ghost use Rattle.cli_run.specs.Meaning.{IsCommandLine, command_of, formats_in, names_in};
-ghost use Rattle.cli_run.specs.Run.{Completes, OutputCause, Ran, Run};
+ghost use Rattle.cli_run.specs.Run.{OutputCause, Ran, Run};
 
 use crate::message::{Digits, write_message};
 use crate::planning::plan_of;
+use chain_core::{Ended, Refusal, Why, run_serial};
 use cli_words::{Command, Line, line_of, names_of};
 use itoa::Buffer;
 use mlr_event::Format;
-use mlr_plan::run_serial;
 use mlr_value::Bytes;
 use mlr_world::{Inputs, Outputs};
-use serial_core::{Ended, Refusal, Why};
 use std::alloc::Global;
 use std::slice::from_ref;
 use std::sync::Wait;
 use std::thread::Threads;
 
 /// The top call: runs a command line, and writes the message of its outcome to standard error. Returns how
-/// the run ended, and the inputs.
+/// the run ended, and the inputs. It is `run_alone`, with what a run in several threads will need.
 pub fn run_mlr<
     R: Threads + Wait + Copy + Send + 'static,
     I: Inputs + Drop + Send + 'static,
@@ -48,11 +48,11 @@ pub fn run_mlr<
     ensures refused { RefusesWhere words.now result.0 }
     ensures untouched { is_refused result.0 ≡ true → result.1 ≡ inputs }
 
-    // What the words mean, what was taken, what the outcome says of it, and what each output contains.
+    // What the words mean, what was taken, what the outcome says of it, and what each output contains; and the
+    // outcome and standard output by all that the inputs hold.
     ensures run { Run words.now result.0 (I.contents inputs) (I.taken inputs) (I.taken result.1)
-        (O.held outputs.old) (O.held outputs.new)
-        (Rose (O.faults outputs.old Stderr) (O.faults outputs.new Stderr) ⊎ Rose
-        (O.shortages outputs.old) (O.shortages outputs.new)) }
+        (O.held outputs.old) (O.held outputs.new) (O.faults outputs.old) (O.faults outputs.new)
+        (O.shortages outputs.old) (O.shortages outputs.new) }
     ensures contents { I.contents result.1 ≡ I.contents inputs }
 
     // Read comes only where a call on that input failed, and Written only where one on standard output did.
@@ -61,15 +61,51 @@ pub fn run_mlr<
         → O.faults outputs.old target ≤ O.faults outputs.new target }
     ensures output_cause { OutputCause result.0 (O.faults outputs.old) (O.faults outputs.new) }
 
-    // Where no call fails, the outcome is that of all that the inputs hold, and standard output has its text.
+    // Where no input fails, and all hold fewer than 2^60 bytes together, the outcome is of no input.
     ensures completes { (names : List (List ℕ)) (command : serial.Command)
         → IsCommandLine words.now names command
-        → (holds : HoldsAll command (I.contents inputs) (I.taken inputs))
+        → HoldsFew command (I.contents inputs) (I.taken inputs)
         → ((name : InputName) → ¬ Rose (I.faults inputs name) (I.faults result.1 name))
-        → ¬ Rose (O.faults outputs.old Stdout) (O.faults outputs.new Stdout)
-        → Completes result.0 command holds.whole (O.held outputs.old) (O.held outputs.new) }
+        → IsOfNoInput result.0 }
 {
     let _ = rt;
+    run_alone(alloc, words, env, inputs, outputs)
+}
+
+/// The same without other threads. It always returns.
+pub fn run_alone<I: Inputs + Drop, O: Outputs>(
+    alloc: Global,
+    words: &[Bytes],
+    env: &[(Bytes, Bytes)],
+    inputs: I,
+    outputs: &mut O,
+) -> (Ended, I)
+    // Refused comes exactly where the words aren't a command line, which is flags of formats, then verbs that
+    // are built with their options, each after `then` but the first, then file names, at the first word with
+    // which none continues; nothing is read.
+    ensures refused { RefusesWhere words.now result.0 }
+    ensures untouched { is_refused result.0 ≡ true → result.1 ≡ inputs }
+
+    // What the words mean, what was taken, what the outcome says of it, and what each output contains; and the
+    // outcome and standard output by all that the inputs hold.
+    ensures run { Run words.now result.0 (I.contents inputs) (I.taken inputs) (I.taken result.1)
+        (O.held outputs.old) (O.held outputs.new) (O.faults outputs.old) (O.faults outputs.new)
+        (O.shortages outputs.old) (O.shortages outputs.new) }
+    ensures contents { I.contents result.1 ≡ I.contents inputs }
+
+    // Read comes only where a call on that input failed, and Written only where one on standard output did.
+    ensures input_cause { InputCause result.0 (I.faults inputs) (I.faults result.1) }
+    ensures output_counts { (target : Target)
+        → O.faults outputs.old target ≤ O.faults outputs.new target }
+    ensures output_cause { OutputCause result.0 (O.faults outputs.old) (O.faults outputs.new) }
+
+    // Where no input fails, and all hold fewer than 2^60 bytes together, the outcome is of no input.
+    ensures completes { (names : List (List ℕ)) (command : serial.Command)
+        → IsCommandLine words.now names command
+        → HoldsFew command (I.contents inputs) (I.taken inputs)
+        → ((name : InputName) → ¬ Rose (I.faults inputs name) (I.faults result.1 name))
+        → IsOfNoInput result.0 }
+{
     let _ = env;
     let mut digits = Digits {
         first: Buffer::new(),
@@ -123,13 +159,13 @@ fn run_line<I: Inputs, O: Outputs>(
     ensures input_cause { InputCause result (I.faults inputs.old) (I.faults inputs.new) }
     ensures output_counts { Counted (has_failed result) (O.faults outputs.old)
         (O.faults outputs.new) Stdout }
-    ensures shortages { O.shortages outputs.old ≤ O.shortages outputs.new }
+    ensures shortages { CountedIf (lacks_memory result) (O.shortages outputs.old)
+        (O.shortages outputs.new) }
     ensures completes { (names : List (List ℕ)) (command : serial.Command)
         → IsCommandLine words.now names command
-        → (holds : HoldsAll command (I.contents inputs.old) (I.taken inputs.old))
+        → HoldsFew command (I.contents inputs.old) (I.taken inputs.old)
         → ((name : InputName) → ¬ Rose (I.faults inputs.old name) (I.faults inputs.new name))
-        → ¬ Rose (O.faults outputs.old Stdout) (O.faults outputs.new Stdout)
-        → Complete result command holds.whole (O.held outputs.old) (O.held outputs.new) }
+        → IsOfNoInput result }
 {
     match line {
         Line::Refused(word) => Ended::Refused(Refusal {
@@ -159,15 +195,14 @@ fn run_accepted<I: Inputs, O: Outputs>(
     ensures input_cause { InputCause result (I.faults inputs.old) (I.faults inputs.new) }
     ensures output_counts { Counted (has_failed result) (O.faults outputs.old)
         (O.faults outputs.new) Stdout }
-    ensures shortages { O.shortages outputs.old ≤ O.shortages outputs.new }
+    ensures shortages { CountedIf (lacks_memory result) (O.shortages outputs.old)
+        (O.shortages outputs.new) }
     ensures completes { (verbs : List Asked)
         → IsLine words.now command.formats verbs (names_of command words.now)
-        → (holds : HoldsAll (command_of command.formats verbs (names_of command words.now)
-        words.now) (I.contents inputs.old) (I.taken inputs.old))
+        → HoldsFew (command_of command.formats verbs (names_of command words.now)
+        words.now) (I.contents inputs.old) (I.taken inputs.old)
         → ((name : InputName) → ¬ Rose (I.faults inputs.old name) (I.faults inputs.new name))
-        → ¬ Rose (O.faults outputs.old Stdout) (O.faults outputs.new Stdout)
-        → Complete result (command_of command.formats verbs (names_of command words.now)
-        words.now) holds.whole (O.held outputs.old) (O.held outputs.new) }
+        → IsOfNoInput result }
 {
     match plan_of(alloc, words, command) {
         Ok(plan) => run_serial(alloc, &plan, inputs, outputs),

@@ -1,5 +1,6 @@
 //! The worked examples, over inputs and outputs in memory, and runs of which a call fails.
 use crate::test_rows::{DKVP, NAMED, NUMBERS, OTHERS, REFUSED, Row, VERBS, WRITTEN};
+use crate::worked_rows::WORKED;
 use crate::{Ended, Refusal, Why, run_mlr};
 use mlr_event::{InputName, Target};
 use mlr_spec::NoMemory;
@@ -120,6 +121,7 @@ fn first_wrong<R: Threads + Wait + Copy + Send + 'static>(
 #[test]
 fn formats_are_the_same_wherever_the_input_is_cut(rt: HostRuntime) -> Result<(), NoMemory> {
     let alloc = rt.alloc();
+    assert_eq!(rt; first_wrong(&rt, alloc, &WORKED)?, None);
     assert_eq!(rt; first_wrong(&rt, alloc, &DKVP)?, None);
     assert_eq!(rt; first_wrong(&rt, alloc, &OTHERS)?, None);
     assert_eq!(rt; first_wrong(&rt, alloc, &WRITTEN)?, None);
@@ -196,21 +198,21 @@ const CASES: [Case; 11] = [
     // The third call is the second read, before which the first record is written.
     Case {
         name: "the second read fails",
-        words: "--ojson cat",
-        input: b"a=1\nb=2\n",
-        pieces: &[4, 1],
+        words: "cat",
+        input: b"x=1\nx=2\n",
+        pieces: &[4],
         unread: &[3],
         before: "",
         room: 1000,
         unwritten: &[],
         ended: "read",
         status: 1,
-        out: Text::Whole(b"[\n{\n  \"a\": 1\n}"),
+        out: Text::Whole(b"x=1\n"),
         message: Text::Whole(b"mlr: cannot read (stdin)\n"),
     },
     Case {
         name: "a write fails",
-        words: "--ojson cat",
+        words: "cat",
         input: b"a=1\n",
         pieces: &[],
         unread: &[],
@@ -219,7 +221,7 @@ const CASES: [Case; 11] = [
         unwritten: &[1],
         ended: "written",
         status: 1,
-        out: Text::PrefixOf(b"[\n{\n  \"a\": 1\n}\n]\n"),
+        out: Text::PrefixOf(b"a=1\n"),
         message: Text::Whole(b"mlr: cannot write (stdout)\n"),
     },
     Case {

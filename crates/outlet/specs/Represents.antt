@@ -1,5 +1,5 @@
 -- How far an outlet has come, and what its calls leave.
-use Rattle.std.specs.Prelude.{◌≡◌, ℕ, Bool, true, false, List, [], ◌++◌, Option, Some, None}
+use Rattle.std.specs.Prelude.{◌≡◌, ◌≤◌, ℕ, Bool, true, false, List, [], ◌++◌, Option, Some, None}
 use Rattle.std.specs.List.{list_any}
 use Rattle.mlr_event.specs.declared.event.Event.{Event}
 use Rattle.mlr_event.specs.declared.names.Target.TheVariants.{Stdout}
@@ -24,6 +24,17 @@ has_failed Went = false
 has_failed (Over fault) = false
 has_failed (Failed target) = true
 has_failed NoMemory = false
+
+abbrev pub lacks_memory : Let → Bool
+lacks_memory Went = false
+lacks_memory (Over fault) = false
+lacks_memory (Failed target) = false
+lacks_memory NoMemory = true
+
+-- a count of shortages over calls that may have met one only where memory ran out
+abbrev pub CountedIf : Bool → ℕ → ℕ → Type 0
+CountedIf true before now = before ≤ now
+CountedIf false before now = now ≡ before
 
 -- what a result says of all events that were given
 abbrev pub LetSays : Let → List Event → Type 0

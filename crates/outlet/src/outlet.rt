@@ -1,5 +1,5 @@
 //! The end of a chain: what standard output gets of events.
-ghost use Rattle.std.specs.Prelude.{◌≡◌, ◌≤◌, ◌++◌, ◌∷◌, [], List, true, None, IfOk, OnOk};
+ghost use Rattle.std.specs.Prelude.{◌≡◌, ◌++◌, ◌∷◌, [], List, true, None, IfOk, OnOk};
 ghost use Rattle.mlr_event.specs.declared.event.Event.{Event as SpecEvent};
 ghost use Rattle.mlr_event.specs.declared.event.Event.TheVariants.{Out};
 ghost use Rattle.mlr_event.specs.declared.names.Target.TheVariants.{Stdout};
@@ -9,7 +9,7 @@ ghost use Rattle.mlr_world.specs.Outputs.{ChangesAt};
 ghost use Rattle.writers.specs.declared.options.WriteOpts.{WriteOpts as Options};
 ghost use Rattle.writers.specs.Represents.{IsOpen};
 ghost use Rattle.outlet.specs.Out.{event_bodies};
-ghost use Rattle.outlet.specs.Represents.{LetLeaves, Represents, Took, has_failed};
+ghost use Rattle.outlet.specs.Represents.{CountedIf, LetLeaves, Represents, Took, has_failed, lacks_memory};
 ghost use Rattle.outlet.specs.PendingText.{OutcomeFor, IsAt, Appends, let_of, over_by};
 
 use mlr_event::{Body, Event, Events, Fault, Piece, Target};
@@ -70,7 +70,8 @@ impl Outlet {
             → Represents opts (before ++ event ∷ []) self.new }
         ensures counts { Counted (has_failed result) (O.faults outputs.old) (O.faults outputs.new)
             Stdout }
-        ensures shortages { O.shortages outputs.old ≤ O.shortages outputs.new }
+        ensures shortages { CountedIf (lacks_memory result) (O.shortages outputs.old)
+            (O.shortages outputs.new) }
     {
         match self.put(event) {
             Ok(over) => self.write(over, outputs),
@@ -92,7 +93,8 @@ impl Outlet {
         ensures emptied { result ≡ Let.Went → events.new ≡ [] }
         ensures counts { Counted (has_failed result) (O.faults outputs.old) (O.faults outputs.new)
             Stdout }
-        ensures shortages { O.shortages outputs.old ≤ O.shortages outputs.new }
+        ensures shortages { CountedIf (lacks_memory result) (O.shortages outputs.old)
+            (O.shortages outputs.new) }
     {
         match self.put_all(events) {
             Ok(over) => self.write(over, outputs),
@@ -181,7 +183,8 @@ impl Outlet {
         ensures went { result ≡ Let.Went → self.new ≡ record self.old { text = [] } }
         ensures counts { Counted (has_failed result) (O.faults outputs.old) (O.faults outputs.new)
             Stdout }
-        ensures shortages { O.shortages outputs.old ≤ O.shortages outputs.new }
+        ensures shortages { CountedIf (lacks_memory result) (O.shortages outputs.old)
+            (O.shortages outputs.new) }
     {
         if self.text.is_empty() {
             return let_of(over);

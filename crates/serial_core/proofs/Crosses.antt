@@ -7,3 +7,6 @@ use Rattle.serial_core.specs.contracts.reader.Reader
 
 pub Reader-send : IsSend Reader.the_row
 Reader-send = search (FileReader-field-send, SeqSource-send, crosses, sendable) depth 60 fits 20000
+
+pub Reader-field-send : IsSend Reader.the_field.row
+Reader-field-send = search (FileReader-field-send, SeqSource-send, crosses, sendable) depth 60 fits 20000

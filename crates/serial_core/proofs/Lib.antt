@@ -6,4 +6,5 @@ pub mod Turns
 pub mod Left
 pub mod Running
 pub mod Stopping
+pub mod Wholes
 pub mod Crosses

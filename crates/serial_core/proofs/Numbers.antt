@@ -1,9 +1,12 @@
 -- The numbers of `seqgen`, some after others.
-use Rattle.std.proofs.Common.{◌≡◌, ℕ, zero, suc, ◌+◌, ◌≤◌, false, [], ◌∷◌, ◌++◌, length, ap, sym, ◌∙◌, arith, nat_lt}
-use Rattle.std.specs.Prelude.{map}
+use Rattle.std.proofs.Common.{◌≡◌, ℕ, zero, suc, ◌+◌, ◌≤◌, false, [], ◌∷◌, ◌++◌, length, ap, sym, ◌∙◌, arith, nat_lt, length-append}
+use Rattle.std.specs.Prelude.{map, min}
 use Rattle.std.specs.List.{range_with_len}
 use Rattle.std.proofs.lemmas.Bool.{ltb-false}
 use Rattle.std.proofs.lemmas.List.{map-append}
+use Rattle.std.proofs.lemmas.List.FromFn.{length-map-range_with_len}
+use Rattle.mlr_event.specs.declared.event.Ctx.{Ctx}
+use Rattle.mlr_event.specs.declared.event.Event.TheVariants as event
 use Rattle.verbs_seq.specs.declared.seq_spec.SeqSpec.{SeqSpec}
 use Rattle.verbs_seq.specs.Seq.{seq_event, seq_events}
 
@@ -24,3 +27,11 @@ some-put seq from (suc n) some none = omega (arith, ap length none)
 
 pub all-counted : (n m : ℕ) → nat_lt n m ≡ false → n ≤ m → n ≡ m
 all-counted n m none within = omega (arith, ltb-false n m none, within)
+
+-- the numbers of one turn, without and with the end
+pub few-events : (seq : SeqSpec) (from remaining : ℕ) → length (seq_events seq from (min 500 remaining)) ≤ 501
+few-events seq from remaining = omega (arith, length-map-range_with_len (seq_event seq) from (min 500 remaining))
+
+pub few-with-end : (seq : SeqSpec) (from remaining : ℕ) (ctx : Ctx) → length (seq_events seq from (min 500 remaining) ++ event.End ctx ∷ []) ≤ 501
+few-with-end seq from remaining ctx =
+    omega (arith, length-append (seq_events seq from (min 500 remaining)) (event.End ctx ∷ []), length-map-range_with_len (seq_event seq) from (min 500 remaining))

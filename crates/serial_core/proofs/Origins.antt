@@ -88,6 +88,7 @@ module _ (opts : ReadOpts) (names : List InputName) (before : Option (List Take)
     rest = [];
     events = sym all-is ∙ sym (append-nil (read ++ t.more));
     list = list;
+    few = tt;
     appends = t.appends;
     fails = λ name failed. none-following (events_taken opts given) t.more (sym t.events ∙ (says-of (turn.Failed name) failed).3);
     says = says-as took t.says;
@@ -139,6 +140,7 @@ module _ (seq : SeqSpec) (before : Option (List Take)) (given : List Take) (read
         rest = rest-from seq (n + c.some);
         events = all-from seq (n + c.some) next.2.within ∙ ap (λ xs. xs ++ rest-from seq (n + c.some)) (sym all);
         list = all-list seq;
+        few = c.few;
         appends = c.appends;
         fails = λ name failed. absurd (let f = failed in cc);
         says = (ap is_open all ∙ records-open seq (range_with_len 0 (n + c.some)), omega (arith, ap total given_is), inr given_is);
@@ -155,6 +157,7 @@ module _ (seq : SeqSpec) (before : Option (List Take)) (given : List Take) (read
         rest = [];
         events = sym all ∙ sym (append-nil (read ++ c.put));
         list = all-list seq;
+        few = c.few;
         appends = c.appends;
         fails = λ name failed. absurd (let f = failed in cc);
         says = (ap is_open all ∙ end-open (seq_events seq 0 (seq_count seq)) (seq_context (seq_count seq)), refl);
@@ -181,6 +184,7 @@ module _ (seq : SeqSpec) (before : Option (List Take)) (given : List Take) (read
     rest = rest-from seq n;
     events = all-from seq n at.within ∙ ap (λ xs. xs ++ rest-from seq n) (sym read_is ∙ sym (append-nil read));
     list = all-list seq;
+    few = let e : length {A = Event} [] ≤ 501 = omega arith in e;
     appends = λ memory. absurd (memory refl);
     fails = λ name failed. absurd (let f = failed in cc);
     says = tt;

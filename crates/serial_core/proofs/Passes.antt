@@ -15,10 +15,10 @@ use Rattle.writers.specs.declared.options.WriteOpts.{WriteOpts}
 use Rattle.outlet.specs.Out.{out_of}
 use Rattle.outlet.specs.Represents.{Represents}
 use Rattle.outlet.proofs.Writing.{unwritten}
-use Rattle.chain_core.specs.Chain.{chain}
-use Rattle.chain_core.specs.Represents as chains
-use Rattle.chain_core.proofs.Chains.{chain-list}
-use Rattle.chain_core.proofs.Closing.{chain-closes}
+use Rattle.verb_chain.specs.Chain.{chain}
+use Rattle.verb_chain.specs.Represents as chains
+use Rattle.verb_chain.proofs.Chains.{chain-list}
+use Rattle.verb_chain.proofs.Closing.{chain-closes}
 use Rattle.read_files.specs.declared.reader.ReadTurn.{ReadTurn}
 use Rattle.read_files.specs.declared.reader.ReadTurn.TheVariants as turn
 use Rattle.serial_core.specs.declared.answer.Ended.{Ended}

@@ -1,18 +1,18 @@
 -- A run, from turn to turn.
-use Rattle.std.proofs.Common.{◌≡◌, ℕ, Bool, true, false, List, [], ◌++◌, Option, Some, None, refl, ap, sym, ◌∙◌, subst, append_assoc, inl, arith}
+use Rattle.std.proofs.Common.{◌≡◌, ℕ, Bool, true, false, List, [], ◌++◌, Option, Some, None, refl, ap, sym, ◌∙◌, subst, inl, arith}
 use Rattle.mlr_event.specs.declared.event.Event.{Event}
 use Rattle.mlr_event.specs.declared.names.InputName.{InputName}
 use Rattle.mlr_event.specs.declared.names.Target.{Target}
 use Rattle.mlr_event.specs.declared.names.Target.TheVariants.{Stdout}
-use Rattle.mlr_event.specs.Verb.{Verb, is_open}
-use Rattle.mlr_world.specs.Counts.{Counted}
+use Rattle.mlr_event.specs.Verb.{Verb}
+use Rattle.mlr_world.specs.Counts.{Counted, Rose}
 use Rattle.mlr_world.specs.Inputs.{Contents}
 use Rattle.mlr_world.specs.Outputs.{Held, ChangesAt, with_bytes}
 use Rattle.mlr_world.specs.Taken.{Take, OpenEntry}
-use Rattle.mlr_world.proofs.Changes.{ChangesAt-map, ChangesAt-none, ChangesAt-then, with_bytes-none}
+use Rattle.mlr_world.proofs.Changes.{ChangesAt-none, ChangesAt-then, with_bytes-none}
 use Rattle.outlet.specs.Out.{out_of}
-use Rattle.outlet.specs.Represents.{AppendsPrefix}
-use Rattle.chain_core.specs.Chain.{chain}
+use Rattle.outlet.specs.Represents.{CountedIf}
+use Rattle.verb_chain.specs.Chain.{chain}
 use Rattle.std.specs.Prelude.{IfSome}
 use Rattle.std.specs.Option.{option_map}
 use Rattle.std.proofs.lemmas.List.{append-nil}
@@ -21,11 +21,14 @@ use Rattle.serial_core.specs.declared.answer.Ended.{Ended}
 use Rattle.serial_core.specs.declared.answer.Ended.TheVariants as answer
 use Rattle.serial_core.specs.declared.serial.Serial.{Serial}
 use Rattle.serial_core.specs.declared.serial.SerialTurn.TheVariants.{Went, Over}
-use Rattle.serial_core.specs.Command.{Command, result, text}
-use Rattle.serial_core.specs.Run.{Run}
+use Rattle.serial_core.specs.Command.{Command, names_of, text}
+use Rattle.serial_core.specs.Answer.{IsOfNoInput}
+use Rattle.serial_core.specs.Run.{HoldsFew, Run}
+use Rattle.serial_core.specs.Whole.{whole_of}
 use Rattle.serial_core.specs.Represents.{Begins, InputCause, Leaves, MayGoOn, Ran, SerialRepresents}
-use Rattle.serial_core.proofs.Stopping.{EndsEarly}
-use Rattle.serial_core.proofs.Turns.{leaves-following, reader-few, reader-order, reader-rest, whole-following}
+use Rattle.serial_core.proofs.Stopping.{EndsEarly, MeansWhole, following-prefixes, total-on}
+use Rattle.serial_core.proofs.Wholes.{goes-whole}
+use Rattle.serial_core.proofs.Turns.{leaves-following, reader-order, whole-following}
 
 -- how far a run has come
 pub record Going {S : Type 0} (verb : S → Verb) (represents : S → List Event → Type 0) (command : Command) (before : Option (List Take)) (contents : Option Contents) (taken : Option (List Take)) (name : Option OpenEntry) (first held : Option Held) (serial : Serial S) : Type 0 where
@@ -80,19 +83,21 @@ module _ {S : Type 0} (verb : S → Verb) (represents : S → List Event → Typ
           first held held' now.leaves ran.outcome.leaves;
     }
 
-    pub came-over : EndsEarly command before contents → (ended : Ended) → Ran (Over ended) verb represents command before now.given now.read now.shown after contents taken' name' held held' → Run ended command contents before taken' name' first held'
-    came-over ends ended ran = record {
-      given = ran.given';
-      order = ran.took.order;
-      following = ran.took.following;
-      few = ran.took.few;
-      says = ran.outcome.says;
-      leaves =
-          ChangesAt-then Stdout (λ b n. n ≡ with_bytes (out_of command.write now.shown) b) (Leaves ended ran.outcome.more) (Leaves ended (text command ran.given'))
-          (λ a b c one two. subst (λ t. Leaves ended t a c) (sym ran.outcome.text) (leaves-following ended command ran.given' ran.outcome.says (out_of command.write now.shown) ran.outcome.more a b c one two))
-          first held held' now.leaves ran.outcome.leaves;
-      early = ends now.given ran.given' taken name (reader-order command.origin now.given now.read serial.reader now.at.reader) now.following now.may_go_on ran.outcome.early ran.took.one_read;
-    }
+    pub came-over : EndsEarly command before contents → MeansWhole command before contents → (ended : Ended) → Ran (Over ended) verb represents command before now.given now.read now.shown after contents taken' name' held held' → Run ended command contents before taken' name' first held'
+    came-over ends means ended ran =
+        let leaves = ChangesAt-then Stdout (λ b n. n ≡ with_bytes (out_of command.write now.shown) b) (Leaves ended ran.outcome.more) (Leaves ended (text command ran.given'))
+        (λ a b c one two. subst (λ t. Leaves ended t a c) (sym ran.outcome.text) (leaves-following ended command ran.given' ran.outcome.says (out_of command.write now.shown) ran.outcome.more a b c one two))
+        first held held' now.leaves ran.outcome.leaves in
+        record {
+          given = ran.given';
+          order = ran.took.order;
+          following = ran.took.following;
+          few = ran.took.few;
+          says = ran.outcome.says;
+          leaves = leaves;
+          early = ends now.given ran.given' taken name (reader-order command.origin now.given now.read serial.reader now.at.reader) now.following now.may_go_on ran.outcome.early ran.took.one_read;
+          whole = means ended ran.given' taken' name' first held' ran.took.order ran.took.following ran.outcome.says leaves;
+        }
 
 -- counts after calls that changed none
 pub cause-from : (ended : Ended) (f0 f1 f2 : InputName → ℕ) → ((name : InputName) → f1 name ≡ f0 name) → InputCause ended f1 f2 → InputCause ended f0 f2
@@ -107,3 +112,20 @@ cause-from answer.NoMemory f0 f1 f2 same cause = λ name. cause name ∙ same na
 pub counted-from : (failed : Bool) (f0 f1 f2 : Target → ℕ) → ((target : Target) → f1 target ≡ f0 target) → Counted failed f1 f2 Stdout → Counted failed f0 f2 Stdout
 counted-from true f0 f1 f2 same counted = (λ other. omega (arith, same other, counted.0 other), omega (arith, same Stdout, counted.1))
 counted-from false f0 f1 f2 same counted = λ other. counted other ∙ same other
+
+pub counted_if-from : (lacks : Bool) (s0 s1 s2 : ℕ) → s1 ≡ s0 → CountedIf lacks s1 s2 → CountedIf lacks s0 s2
+counted_if-from true s0 s1 s2 same counted = omega (arith, same, counted)
+counted_if-from false s0 s1 s2 same counted = counted ∙ same
+
+-- where no input fails, and all hold few bytes, the outcome is of no input
+pub completes : (command : Command) (contents : Option Contents) (taken taken' : Option (List Take)) (name' : Option OpenEntry) (held held' : Option Held) → HoldsFew command contents taken
+    → (ended : Ended) → Run ended command contents taken taken' name' held held' → (f0 f1 : InputName → ℕ) → InputCause ended f0 f1 → ((name : InputName) → Rose (f0 name) (f1 name) → ⊥) → IsOfNoInput ended
+completes command contents taken taken' name' held held' holds answer.Done run f0 f1 cause reads = tt
+completes command contents taken taken' name' held held' holds (answer.Refused refusal) run f0 f1 cause reads = run.says
+completes command contents taken taken' name' held held' holds (answer.Data fault) run f0 f1 cause reads = tt
+completes command contents taken taken' name' held held' holds (answer.Read name) run f0 f1 cause reads = reads name cause.1
+completes command contents taken taken' name' held held' holds (answer.Written target) run f0 f1 cause reads = tt
+completes command contents taken taken' name' held held' holds answer.TooLong run f0 f1 cause reads =
+    let prefixes = following-prefixes taken run.given contents taken' name' run.following holds.told holds.before holds.contents_told holds.taken_told in
+    omega (arith, run.says.1, holds.few, total-on run.given (whole_of holds.told (names_of command.origin)) (goes-whole holds.told (names_of command.origin) run.given run.order prefixes))
+completes command contents taken taken' name' held held' holds answer.NoMemory run f0 f1 cause reads = tt

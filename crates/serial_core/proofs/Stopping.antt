@@ -1,32 +1,27 @@
--- How little a run takes, and its outcome where no call fails.
+-- How little a run takes.
 use Rattle.std.proofs.Common.{◌≡◌, ℕ, ◌+◌, ◌<◌, ◌≤◌, true, false, List, [], ◌∷◌, ◌++◌, length, Option, Some, None, refl, ap, sym, ◌∙◌, subst, inl, inr, arith, length-append}
 use Rattle.std.specs.Prelude.{◌⊎◌, IfSome}
-use Rattle.std.specs.List.{list_any}
 use Rattle.std.specs.Option.{option_map}
 use Rattle.std.proofs.lemmas.Bool.{cases_Bool, cases_lt, true≢false}
 use Rattle.std.proofs.lemmas.List.{append-nil}
 use Rattle.mlr_event.specs.declared.event.Event.{Event}
 use Rattle.mlr_event.specs.declared.names.InputName.{InputName}
-use Rattle.mlr_event.specs.declared.names.Target.{Target}
 use Rattle.mlr_event.specs.declared.names.Target.TheVariants.{Stdout}
 use Rattle.mlr_event.specs.declared.options.ReadOpts.{ReadOpts}
-use Rattle.mlr_event.specs.Verb.{is_end, is_list, is_open}
-use Rattle.mlr_world.specs.Counts.{Counted, Rose}
+use Rattle.mlr_event.specs.Verb.{is_list, is_open}
 use Rattle.mlr_world.specs.Inputs.{Contents}
 use Rattle.mlr_world.specs.Outputs.{Held, ChangesAt}
 use Rattle.mlr_world.specs.Taken.{Take, OpenEntry}
-use Rattle.outlet.specs.Out.{fault_in, out_of}
-use Rattle.chain_core.specs.Chain.{chain}
-use Rattle.read_files.specs.Takes.{ArePrefixesTaken, AreWhole, After, GoesOn, InOrder, taken_by, total}
+use Rattle.verb_chain.specs.Chain.{chain}
+use Rattle.read_files.specs.Takes.{ArePrefixesTaken, After, GoesOn, InOrder, taken_by, total}
 use Rattle.read_files.specs.Sources.{events_taken, source}
 use Rattle.serial_core.specs.declared.answer.Ended.{Ended}
-use Rattle.serial_core.specs.declared.answer.Ended.TheVariants as answer
-use Rattle.serial_core.specs.Answer.{has_failed}
-use Rattle.serial_core.specs.Command.{Command, Origin, files, numbers, given_by, names_of, result}
-use Rattle.serial_core.specs.Run.{Completes, HoldsAll, Run, StopsEarly}
-use Rattle.serial_core.specs.Represents.{InputCause, Leaves, MayGoOn}
+use Rattle.serial_core.specs.Command.{Command, Origin, files, numbers, given_by, names_of, result, text}
+use Rattle.serial_core.specs.Run.{StopsEarly}
+use Rattle.serial_core.specs.Represents.{Leaves, MayGoOn, Says}
+use Rattle.serial_core.specs.Whole.{OfWhole}
 use Rattle.serial_core.proofs.Origins.{open-source}
-use Rattle.serial_core.proofs.Turning.{end-closes, fault-closes, last-alone}
+use Rattle.serial_core.proofs.Turning.{last-alone}
 
 -- the laws of what inputs give
 abbrev pub SourceList : Type 0
@@ -39,9 +34,6 @@ abbrev pub SourceFixed : Type 0
 SourceFixed = (opts : ReadOpts) (names : List InputName) (given longer : List Take) → InOrder names given → InOrder names longer → GoesOn given longer → is_open (source opts names given) ≡ false
     → source opts names longer ≡ source opts names given
 
-abbrev pub SourceWhole : Type 0
-SourceWhole = (told : Contents) (names : List InputName) (given whole : List Take) → InOrder names given → ArePrefixesTaken told given → AreWhole told names whole → GoesOn given whole × InOrder names whole
-
 abbrev pub SourceEarly : Type 0
 SourceEarly = (told : Contents) (names : List InputName) (given : List Take) (n : ℕ) → InOrder names given → ArePrefixesTaken told given → n < total given → GoesOn (taken_by told names n) given × InOrder names (taken_by told names n)
 
@@ -50,24 +42,29 @@ abbrev pub EndsEarly : Command → Option (List Take) → Option Contents → Ty
 EndsEarly command before contents = (given given' : List Take) (taken : Option (List Take)) (name : Option OpenEntry) → InOrder (names_of command.origin) given → After before given contents taken name → MayGoOn command given
     → (given' ≡ given) ⊎ (is_open (result command given) ≡ true) → total given' < total given + 65536 → IfSome contents (λ told. IfSome before (λ _. StopsEarly command told given'))
 
+-- a run that ended so left what the outcome says by all that the inputs hold
+abbrev pub MeansWhole : Command → Option (List Take) → Option Contents → Type 0
+MeansWhole command before contents = (ended : Ended) (given : List Take) (taken : Option (List Take)) (name : Option OpenEntry) (held held' : Option Held) → InOrder (names_of command.origin) given → After before given contents taken name
+    → Says ended command given → ChangesAt Stdout (Leaves ended (text command given)) held held' → IfSome contents (λ told. IfSome before (λ _. OfWhole ended command told held held'))
+
 none-order : (names : List InputName) → InOrder names []
 none-order [] = tt
 none-order (name ∷ names) = tt
 
 -- as more is taken no byte is lost
-total-on : (given longer : List Take) → GoesOn given longer → total given ≤ total longer
+pub total-on : (given longer : List Take) → GoesOn given longer → total given ≤ total longer
 total-on [] longer on = omega arith
 total-on (t ∷ given) [] on = absurd on
 total-on (t ∷ given) (u ∷ longer) on = omega (arith, total-on given longer on.1, ap length on.0.1.1, length-append t.bytes on.0.1.0)
 
 -- what was taken, where contents and takes are known
-following-prefixes : (before : Option (List Take)) (given : List Take) (contents : Option Contents) (taken : Option (List Take)) (name : Option OpenEntry) → After before given contents taken name
+pub following-prefixes : (before : Option (List Take)) (given : List Take) (contents : Option Contents) (taken : Option (List Take)) (name : Option OpenEntry) → After before given contents taken name
     → (told : Contents) (takes : List Take) → contents ≡ Some told → before ≡ Some takes → ArePrefixesTaken told given
 following-prefixes before given contents taken name following told takes told_is takes_is =
     subst (λ c. IfSome c (λ told. ArePrefixesTaken told given)) told_is
     (subst (λ t. IfSome contents (λ told. IfSome t (λ _. ArePrefixesTaken told given))) (following.entries ∙ ap (option_map (λ takes. takes ++ given)) takes_is) following.prefixes)
 
-if-both : {A B : Type 0} (o : Option A) (p : Option B) (P : A → Type 0) → ((a : A) (b : B) → o ≡ Some a → p ≡ Some b → P a) → IfSome o (λ a. IfSome p (λ _. P a))
+pub if-both : {A B : Type 0} (o : Option A) (p : Option B) (P : A → Type 0) → ((a : A) (b : B) → o ≡ Some a → p ≡ Some b → P a) → IfSome o (λ a. IfSome p (λ _. P a))
 if-both None p P holds = tt
 if-both (Some a) None P holds = tt
 if-both (Some a) (Some b) P holds = holds a b refl refl
@@ -91,7 +88,7 @@ module _ (lists : SourceList) (grows : SourceGrows) (fixed : SourceFixed) (comma
     | inr shut ↦ ap (chain command.verbs) (fixed opts names given longer order order' on shut)
   ]
 
-  result-fixed : (given longer : List Take) → InOrder (names_of command.origin) given → InOrder (names_of command.origin) longer → GoesOn given longer → is_open (result command given) ≡ false → result command longer ≡ result command given
+  pub result-fixed : (given longer : List Take) → InOrder (names_of command.origin) given → InOrder (names_of command.origin) longer → GoesOn given longer → is_open (result command given) ≡ false → result command longer ≡ result command given
   result-fixed given longer order order' on closed = origin-fixed command.origin given longer order order' on closed
 
   -- a run continues only while the result may
@@ -121,28 +118,3 @@ module _ (lists : SourceList) (grows : SourceGrows) (fixed : SourceFixed) (comma
   stopped-early early before contents given given' taken name order following may ends one =
       if-both contents before (λ told. StopsEarly command told given')
       (λ told takes told_is takes_is. stops-early early told given given' order (following-prefixes before given contents taken name following told takes told_is takes_is) may ends one)
-
-  -- where no call fails the outcome is that of all that the inputs hold
-  module _ (whole : SourceWhole) (contents : Option Contents) (taken taken' : Option (List Take)) (name' : Option OpenEntry) (held held' : Option Held) (holds : HoldsAll command contents taken) where
-    on-whole : (ended : Ended) (run : Run ended command contents taken taken' name' held held') → GoesOn run.given holds.whole × InOrder (names_of command.origin) holds.whole
-    on-whole ended run =
-        whole holds.told (names_of command.origin) run.given holds.whole run.order
-        (following-prefixes taken run.given contents taken' name' run.following holds.told holds.before holds.contents_told holds.taken_told) holds.wholes
-
-    same-whole : (ended : Ended) (run : Run ended command contents taken taken' name' held held') → is_open (result command run.given) ≡ false → result command holds.whole ≡ result command run.given
-    same-whole ended run closed = let on = on-whole ended run in result-fixed run.given holds.whole run.order on.1 on.0 closed
-
-    pub completes : (ended : Ended) → Run ended command contents taken taken' name' held held' → (f0 f1 : InputName → ℕ) → InputCause ended f0 f1 → ((name : InputName) → Rose (f0 name) (f1 name) → ⊥)
-        → (o0 o1 : Target → ℕ) → Counted (has_failed ended) o0 o1 Stdout → (Rose (o0 Stdout) (o1 Stdout) → ⊥) → Completes ended command holds.whole held held'
-    completes answer.Done run f0 f1 cause reads o0 o1 counts writes =
-        let same = same-whole answer.Done run (end-closes (result command run.given) run.says) in
-        (ap (list_any is_end) same ∙ run.says, subst (λ t. ChangesAt Stdout (Leaves answer.Done (out_of command.write t)) held held') (sym same) run.leaves)
-    completes (answer.Refused refusal) run f0 f1 cause reads o0 o1 counts writes = absurd run.says
-    completes (answer.Data fault) run f0 f1 cause reads o0 o1 counts writes =
-        let same = same-whole (answer.Data fault) run (fault-closes (result command run.given) fault run.says) in
-        (ap fault_in same ∙ run.says, subst (λ t. ChangesAt Stdout (Leaves (answer.Data fault) (out_of command.write t)) held held') (sym same) run.leaves)
-    completes (answer.Read name) run f0 f1 cause reads o0 o1 counts writes = absurd (reads name cause.1)
-    completes (answer.Written target) run f0 f1 cause reads o0 o1 counts writes = absurd (writes counts.1)
-    completes answer.TooLong run f0 f1 cause reads o0 o1 counts writes =
-        absurd (omega (arith, run.says.1, holds.few, total-on run.given holds.whole (on-whole answer.TooLong run).0))
-    completes answer.NoMemory run f0 f1 cause reads o0 o1 counts writes = tt

@@ -1,5 +1,5 @@
 -- What a read and a pass give together.
-use Rattle.std.proofs.Common.{◌≡◌, ℕ, Bool, true, false, not, ◌||◌, ◌&&◌, List, [], ◌∷◌, ◌++◌, Option, Some, None, refl, ap, sym, ◌∙◌, append_assoc, inl, inr}
+use Rattle.std.proofs.Common.{◌≡◌, ℕ, Bool, true, false, not, ◌||◌, ◌&&◌, List, [], ◌∷◌, ◌++◌, Option, Some, None, refl, ap, sym, ◌∙◌, append_assoc, inl, inr, arith}
 use Rattle.std.specs.List.{list_any}
 use Rattle.std.proofs.lemmas.Bool.{and_parts, cases_Bool, true≢false}
 use Rattle.std.proofs.lemmas.List.{append-nil}
@@ -16,8 +16,8 @@ use Rattle.mlr_world.specs.Outputs.{Held, ChangesAt}
 use Rattle.mlr_world.proofs.Changes.{ChangesAt-map}
 use Rattle.writers.specs.declared.options.WriteOpts.{WriteOpts}
 use Rattle.outlet.specs.Out.{fault_in, out_of}
-use Rattle.outlet.specs.Represents.{AppendsPrefix}
-use Rattle.chain_core.specs.Chain.{chain}
+use Rattle.outlet.specs.Represents.{AppendsPrefix, CountedIf}
+use Rattle.verb_chain.specs.Chain.{chain}
 use Rattle.read_files.specs.declared.reader.ReadTurn.{ReadTurn}
 use Rattle.read_files.specs.declared.reader.ReadTurn.TheVariants as turn
 use Rattle.read_files.specs.Represents.{TurnCause}
@@ -25,7 +25,7 @@ use Rattle.serial_core.specs.declared.answer.Ended.{Ended}
 use Rattle.serial_core.specs.declared.answer.Ended.TheVariants as answer
 use Rattle.mlr_world.specs.Taken.{Take}
 use Rattle.serial_core.specs.Command.{Command, result}
-use Rattle.serial_core.specs.Represents.{InputCause, Leaves, Says, TurnCounts, WriteLeaves, WriteSays, following, turn_failed}
+use Rattle.serial_core.specs.Represents.{InputCause, Leaves, Says, TurnCounts, WriteLeaves, WriteSays, following, turn_failed, turn_lacks}
 
 -- no count rose but in a read that failed
 pub turn-same : (read : ReadTurn) (f0 f1 : InputName → ℕ) → ((name : InputName) → read ≡ turn.Failed name → ⊥) → TurnCause read f0 f1 → (name : InputName) → f1 name ≡ f0 name
@@ -48,6 +48,13 @@ following-counts turn.Ended f0 f1 same = same
 following-counts (turn.Failed name) f0 f1 same = same
 following-counts turn.TooLong f0 f1 same = same
 following-counts turn.NoMemory f0 f1 same = same
+
+pub following-lacks : (read : ReadTurn) (s0 s1 : ℕ) → s1 ≡ s0 → CountedIf (turn_lacks (following read)) s0 s1
+following-lacks turn.Went s0 s1 same = same
+following-lacks turn.Ended s0 s1 same = same
+following-lacks (turn.Failed name) s0 s1 same = same
+following-lacks turn.TooLong s0 s1 same = same
+following-lacks turn.NoMemory s0 s1 same = omega (arith, same)
 
 -- an outcome of a write says nothing of the inputs
 pub written-cause : (ended : Ended) (events : List Event) (f0 f1 : InputName → ℕ) → WriteSays (Some ended) events → ((name : InputName) → f1 name ≡ f0 name) → InputCause ended f0 f1

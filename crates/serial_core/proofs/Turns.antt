@@ -14,9 +14,9 @@ use Rattle.mlr_world.specs.Taken.{Take, OpenEntry}
 use Rattle.mlr_world.proofs.Changes.{ChangesAt-then, with_bytes-twice}
 use Rattle.outlet.specs.Out.{out_of}
 use Rattle.outlet.specs.Represents.{AppendsPrefix, Represents}
-use Rattle.chain_core.specs.Chain.{chain}
-use Rattle.chain_core.specs.Represents as chains
-use Rattle.chain_core.proofs.Chains.{chain-list}
+use Rattle.verb_chain.specs.Chain.{chain}
+use Rattle.verb_chain.specs.Represents as chains
+use Rattle.verb_chain.proofs.Chains.{chain-list}
 use Rattle.read_files.specs.Takes.{After, InOrder, total}
 use Rattle.std.specs.Prelude.{if◌then◌else◌}
 use Rattle.read_files.specs.Sources.{ctx_from, is_whole, source, zero_context}

@@ -31,3 +31,22 @@ has_failed (Read name) = false
 has_failed (Written target) = true
 has_failed TooLong = false
 has_failed NoMemory = false
+
+abbrev pub lacks_memory : Ended → Bool
+lacks_memory Done = false
+lacks_memory (Refused refusal) = false
+lacks_memory (Data fault) = false
+lacks_memory (Read name) = false
+lacks_memory (Written target) = false
+lacks_memory TooLong = false
+lacks_memory NoMemory = true
+
+-- the outcome says something of the data, of an output or of memory, and of no input
+abbrev pub IsOfNoInput : Ended → Type 0
+IsOfNoInput Done = Unit {0}
+IsOfNoInput (Refused refusal) = ⊥
+IsOfNoInput (Data fault) = Unit {0}
+IsOfNoInput (Read name) = ⊥
+IsOfNoInput (Written target) = Unit {0}
+IsOfNoInput TooLong = ⊥
+IsOfNoInput NoMemory = Unit {0}

@@ -10,7 +10,7 @@ use Rattle.outlet.specs.Out.{out_of}
 use Rattle.verbs_seq.specs.declared.seq_spec.SeqSpec.{SeqSpec}
 use Rattle.verbs_seq.specs.Seq.{seq_all}
 use Rattle.read_files.specs.Sources.{source}
-use Rattle.chain_core.specs.Chain.{chain}
+use Rattle.verb_chain.specs.Chain.{chain}
 
 -- what the events come from: inputs in their order, or the numbers of `seqgen`
 pub data Origin : Type 0 where

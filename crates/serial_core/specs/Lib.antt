@@ -1,6 +1,7 @@
 pub mod Answer
 pub mod Command
 pub mod Reading
+pub mod Whole
 pub mod Run
 pub mod Represents
 pub mod Models

@@ -1,5 +1,5 @@
 -- How far a reader has come, and what a turn of it does.
-use Rattle.std.specs.Prelude.{◌≡◌, ◌⊎◌, ℕ, ◌+◌, ◌<◌, ◌≤◌, ◌^◌, true, false, List, [], ◌++◌, Option, Some}
+use Rattle.std.specs.Prelude.{◌≡◌, ◌⊎◌, ℕ, ◌+◌, ◌<◌, ◌≤◌, ◌^◌, true, false, List, [], ◌++◌, length, Option, Some}
 use Rattle.mlr_event.specs.declared.event.Event.{Event}
 use Rattle.mlr_event.specs.declared.names.InputName.{InputName}
 use Rattle.mlr_event.specs.Verb.{is_list, is_open}
@@ -26,10 +26,11 @@ ReaderRepresents (numbers spec) given read (reader.Files all) = ⊥
 ReaderRepresents (numbers spec) given read (reader.Numbers all) =
     (n : ℕ) × IsSoundSeq spec × seq.RepresentsAt spec n all × (read ≡ seq_events spec 0 n) × (given ≡ [])
 
--- what a turn of the numbers says: the next of them came, or all that were left and the end
+-- What a turn of the numbers says: the next of them came, or all that were left and the end. They are at most 500 numbers.
 pub record Counts (turn : ReadTurn) (spec : SeqSpec) (given : ℕ) (after : SeqSource) (out out' : List Event) : Type 0 where
   pub some : ℕ
   pub put : List Event
+  pub few : length put ≤ 501
   pub appends : (turn ≡ NoMemory → ⊥) → out' ≡ out ++ put
   pub next : turn ≡ Went → (put ≡ seq_events spec given some) × (put ≡ [] → ⊥) × seq.RepresentsAt spec (given + some) after
   pub last : turn ≡ Ended → seq_events spec 0 given ++ put ≡ seq_all spec
@@ -56,6 +57,11 @@ abbrev pub CameOn : Origin → List Take → List Take → List Event → Type 0
 CameOn (files opts names) given given' put = total given + ends given < total given' + ends given'
 CameOn (numbers spec) given given' put = put ≡ [] → ⊥
 
+-- so many events come in one turn: at most 500 numbers and the end, and of inputs what one read fixes
+abbrev pub AreFew : Origin → List Event → Type 0
+AreFew (files opts names) put = Unit {0}
+AreFew (numbers spec) put = length put ≤ 501
+
 -- What a turn did: more was taken, and unless memory ran out the next events were pushed.
 pub record Read (turn : ReadTurn) (origin : Origin) (before : Option (List Take)) (given : List Take) (read : List Event) (after : Reader) (contents : Option Contents) (taken' : Option (List Take)) (entry' : Option OpenEntry) (out out' : List Event) : Type 0 where
   pub given' : List Take
@@ -64,6 +70,7 @@ pub record Read (turn : ReadTurn) (origin : Origin) (before : Option (List Take)
   pub rest : List Event
   pub events : given_by origin given' ≡ (read ++ put) ++ rest
   pub list : is_list (given_by origin given') ≡ true
+  pub few : AreFew origin put
   pub appends : (turn ≡ NoMemory → ⊥) → out' ≡ out ++ put
   pub fails : ((name : InputName) → turn ≡ Failed name → put ≡ [])
   pub says : ReadSays turn origin given' (read ++ put) rest

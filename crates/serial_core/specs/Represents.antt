@@ -1,5 +1,5 @@
 -- How far a run has come, and what a turn of it does.
-use Rattle.std.specs.Prelude.{◌≡◌, ◌⊎◌, ℕ, ◌+◌, ◌<◌, ◌≤◌, ◌^◌, Bool, true, false, List, [], ◌++◌, Option, Some, None}
+use Rattle.std.specs.Prelude.{◌≡◌, ◌⊎◌, ℕ, ◌<◌, ◌≤◌, ◌^◌, Bool, true, false, List, [], ◌++◌, Option, Some, None}
 use Rattle.std.specs.List.{list_any}
 use Rattle.mlr_event.specs.declared.event.Event.{Event}
 use Rattle.mlr_event.specs.declared.names.InputName.{InputName}
@@ -12,8 +12,8 @@ use Rattle.mlr_world.specs.Taken.{Take, OpenEntry}
 use Rattle.writers.specs.declared.options.WriteOpts.{WriteOpts}
 use Rattle.outlet.specs.Out.{fault_in, out_of}
 use Rattle.outlet.specs.Represents as outlet
-use Rattle.chain_core.specs.Chain.{chain}
-use Rattle.chain_core.specs.Represents as chain
+use Rattle.verb_chain.specs.Chain.{chain}
+use Rattle.verb_chain.specs.Represents as chain
 use Rattle.read_files.specs.declared.reader.ReadTurn.{ReadTurn}
 use Rattle.read_files.specs.declared.reader.ReadTurn.TheVariants as turn
 use Rattle.read_files.specs.Takes.{stops_at, total}
@@ -22,7 +22,7 @@ use Rattle.serial_core.specs.declared.answer.Ended.TheVariants as answer
 use Rattle.serial_core.specs.declared.serial.Serial.{Serial}
 use Rattle.serial_core.specs.declared.serial.SerialTurn.{SerialTurn}
 use Rattle.serial_core.specs.declared.serial.SerialTurn.TheVariants.{Went, Over}
-use Rattle.serial_core.specs.Answer.{has_failed}
+use Rattle.serial_core.specs.Answer.{has_failed, lacks_memory}
 use Rattle.serial_core.specs.Command.{Command, given_by, names_of, result}
 use Rattle.serial_core.specs.Reading.{CameOn, ReaderRepresents, TookMore}
 
@@ -115,6 +115,10 @@ abbrev pub turn_failed : SerialTurn → Bool
 turn_failed Went = false
 turn_failed (Over ended) = has_failed ended
 
+abbrev pub turn_lacks : SerialTurn → Bool
+turn_lacks Went = false
+turn_lacks (Over ended) = lacks_memory ended
+
 abbrev pub TurnCounts : SerialTurn → (InputName → ℕ) → (InputName → ℕ) → Type 0
 TurnCounts Went before now = (name : InputName) → now name ≡ before name
 TurnCounts (Over ended) before now = InputCause ended before now
@@ -137,6 +141,10 @@ WriteLeaves (Some ended) text before now = Leaves ended text before now
 abbrev pub write_failed : Option Ended → Bool
 write_failed None = false
 write_failed (Some ended) = has_failed ended
+
+abbrev pub write_lacks : Option Ended → Bool
+write_lacks None = false
+write_lacks (Some ended) = lacks_memory ended
 
 -- The text of events after others was written.
 pub record Wrote (ended : Option Ended) (opts : WriteOpts) (shown events : List Event) (held held' : Option Held) : Type 0 where

@@ -1,5 +1,5 @@
 //! A run from turn to turn.
-ghost use Rattle.std.specs.Prelude.{◌≡◌, ◌≤◌, ◌++◌, List, [], Option, None, true};
+ghost use Rattle.std.specs.Prelude.{◌≡◌, ◌++◌, List, [], Option, None, true};
 ghost use Rattle.mlr_event.specs.declared.event.Event.{Event as SpecEvent};
 ghost use Rattle.mlr_event.specs.declared.names.InputName.{InputName};
 ghost use Rattle.mlr_event.specs.declared.names.Target.TheVariants.{Stdout};
@@ -9,21 +9,21 @@ ghost use Rattle.read_files.specs.Takes.{After};
 ghost use Rattle.serial_core.specs.Command.{Command};
 ghost use Rattle.mlr_event.specs.Verb.{is_list};
 ghost use Rattle.writers.specs.declared.options.WriteOpts.{WriteOpts as Options};
-ghost use Rattle.outlet.specs.Represents.{Represents};
-ghost use Rattle.chain_core.specs.Chain.{chain};
-ghost use Rattle.chain_core.specs.Represents.{Represents as Chained, verbs_in};
+ghost use Rattle.outlet.specs.Represents.{CountedIf, Represents};
+ghost use Rattle.verb_chain.specs.Chain.{chain};
+ghost use Rattle.verb_chain.specs.Represents.{Represents as Chained, verbs_in};
 ghost use Rattle.serial_core.specs.Reading.{ReaderRepresents};
-ghost use Rattle.serial_core.specs.Answer.{has_failed};
-ghost use Rattle.serial_core.specs.Run.{Completes, HoldsAll, Run};
-ghost use Rattle.serial_core.specs.Represents.{Begins, CanPass, InputCause, Passed, Ran, SerialRepresents, Settled, TurnCounts, Wrote, following, turn_failed, write_failed};
+ghost use Rattle.serial_core.specs.Answer.{IsOfNoInput, has_failed, lacks_memory};
+ghost use Rattle.serial_core.specs.Run.{HoldsFew, Run};
+ghost use Rattle.serial_core.specs.Represents.{Begins, CanPass, InputCause, Passed, Ran, SerialRepresents, Settled, TurnCounts, Wrote, following, turn_failed, turn_lacks, write_failed, write_lacks};
 
 use crate::answer::Ended;
 use crate::reader::Reader;
-use chain_core::{Chain, chain_laws};
 use mlr_event::{Events, Step};
 use mlr_world::{Inputs, Outputs};
 use outlet::{Let, Outlet, outlet_laws};
 use read_files::{ReadTurn, source_laws};
+use verb_chain::{Chain, chain_laws};
 
 /// The result of a turn of a run.
 #[derive(Debug, PartialEq, Eq, Drop)]
@@ -95,7 +95,8 @@ impl<S: Step + Drop> Serial<S> {
         ensures cause { TurnCounts result (I.faults inputs.old) (I.faults inputs.new) }
         ensures counts { Counted (turn_failed result) (O.faults outputs.old) (O.faults outputs.new)
             Stdout }
-        ensures shortages { O.shortages outputs.old ≤ O.shortages outputs.new }
+        ensures shortages { CountedIf (turn_lacks result) (O.shortages outputs.old)
+            (O.shortages outputs.new) }
     {
         chain_laws();
         outlet_laws();
@@ -116,13 +117,13 @@ impl<S: Step + Drop> Serial<S> {
         ensures cause { InputCause result (I.faults inputs.old) (I.faults inputs.new) }
         ensures counts { Counted (has_failed result) (O.faults outputs.old) (O.faults outputs.new)
             Stdout }
-        ensures shortages { O.shortages outputs.old ≤ O.shortages outputs.new }
-        // Where no call fails, the outcome is that of all that the inputs hold.
+        ensures shortages { CountedIf (lacks_memory result) (O.shortages outputs.old)
+            (O.shortages outputs.new) }
+        // Where no input fails, and all hold fewer than 2^60 bytes, the outcome is of no input.
         ensures completes { (command : Command) → Begins S.verb S.represents command self.old
-            → (holds : HoldsAll command (I.contents inputs.old) (I.taken inputs.old))
+            → HoldsFew command (I.contents inputs.old) (I.taken inputs.old)
             → ((name : InputName) → ¬ Rose (I.faults inputs.old name) (I.faults inputs.new name))
-            → ¬ Rose (O.faults outputs.old Stdout) (O.faults outputs.new Stdout)
-            → Completes result command holds.whole (O.held outputs.old) (O.held outputs.new) }
+            → IsOfNoInput result }
     {
         chain_laws();
         outlet_laws();
@@ -153,7 +154,8 @@ impl<S: Step + Drop> Serial<S> {
         ensures cause { TurnCounts result (I.faults inputs.old) (I.faults inputs.new) }
         ensures counts { Counted (turn_failed result) (O.faults outputs.old) (O.faults outputs.new)
             Stdout }
-        ensures shortages { O.shortages outputs.old ≤ O.shortages outputs.new }
+        ensures shortages { CountedIf (turn_lacks result) (O.shortages outputs.old)
+            (O.shortages outputs.new) }
     {
         chain_laws();
         outlet_laws();
@@ -178,7 +180,8 @@ impl<S: Step + Drop> Serial<S> {
         ensures reader { self.new.reader ≡ self.old.reader }
         ensures counts { Counted (write_failed result) (O.faults outputs.old) (O.faults outputs.new)
             Stdout }
-        ensures shortages { O.shortages outputs.old ≤ O.shortages outputs.new }
+        ensures shortages { CountedIf (write_lacks result) (O.shortages outputs.old)
+            (O.shortages outputs.new) }
     {
         chain_laws();
         outlet_laws();
@@ -203,7 +206,8 @@ impl<S: Step + Drop> Serial<S> {
         ensures stages { self.new.stages ≡ self.old.stages }
         ensures counts { Counted (write_failed result) (O.faults outputs.old) (O.faults outputs.new)
             Stdout }
-        ensures shortages { O.shortages outputs.old ≤ O.shortages outputs.new }
+        ensures shortages { CountedIf (write_lacks result) (O.shortages outputs.old)
+            (O.shortages outputs.new) }
     {
         match self.outlet.take_all(&mut self.events, outputs) {
             Let::Went => None,

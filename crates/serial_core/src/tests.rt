@@ -6,7 +6,6 @@ ghost use Rattle.serial_core.specs.Represents.{Begins};
 
 use crate::first_record::FirstRecord;
 use crate::{Ended, Reader, Serial};
-use chain_core::Chain;
 use mlr_event::models::Cat;
 use mlr_event::{Events, Format, InputName, ReadOpts, Step, Target};
 use mlr_spec::NoMemory;
@@ -14,10 +13,8 @@ use mlr_value::Bytes;
 use mlr_world::{MemInputs, MemOutputs};
 use outlet::Outlet;
 use read_files::{FileReader, can_read};
-use std::alloc::{AllocError, Global};
-use std::test::Fail;
-use std::thread;
-use std::thread::Threads;
+use std::alloc::Global;
+use verb_chain::Chain;
 use verbs_seq::{SeqSource, SeqSpec};
 use writers::WriteOpts;
 
@@ -297,22 +294,5 @@ fn first_wrong(alloc: Global) -> Result<Option<&'static str>, NoMemory> {
 #[test]
 fn runs_end_as_the_cases_say(rt: HostRuntime) -> Result<(), NoMemory> {
     assert_eq!(rt; first_wrong(rt.alloc())?, None);
-    Ok(())
-}
-
-/// Whether a reader reads inputs, as another thread says that it is moved to.
-fn reads_inputs<R: Threads>(rt: &R, reader: Reader) -> Result<bool, AllocError> {
-    let child = thread::spawn(rt, move || matches!(reader, Reader::Files(_)))?;
-    Ok(child.join(rt))
-}
-
-#[test]
-fn a_reader_goes_into_a_thread(rt: HostRuntime) -> Result<(), Fail> {
-    let alloc = rt.alloc();
-    let opts = ReadOpts::of(alloc, Format::Csv)?;
-    if can_read(&opts) {
-        let files = FileReader::new(alloc, opts, Vec::new(alloc))?;
-        assert!(rt; reads_inputs(&rt, Reader::Files(files))?);
-    }
     Ok(())
 }

@@ -1,7 +1,6 @@
-use Rattle.std.proofs.Common.{ℕ, List, [], ap, sym, ◌∙◌}
+use Rattle.std.proofs.Common.{ℕ, List, ap, sym, ◌∙◌}
 use Rattle.std.specs.Prelude.{codes}
 use Rattle.std.specs.List.{flat_map}
-use Rattle.mlr_event.specs.declared.fault.Fault.{Fault}
 use Rattle.cli_run.specs.Message.{byte_pieces, fault_pieces, verb_pieces}
 use Rattle.cli_run.proofs.message.fault_pieces.Goals as goal
 

@@ -4,4 +4,4 @@ use Rattle.cli_run.proofs.planning.specs_of.Given as goal
 
 -- the verbs so far
 abbrev pub invariant-loop-asked : goal.invariant-loop-asked
-invariant-loop-asked l = l.specs.items ≡ map (spec_of l.words) (take l.asked-index l.verbs)
+invariant-loop-asked l = l.specs ≡ map (spec_of l.words) (take l.asked-index l.verbs)

@@ -1,6 +1,5 @@
 use Rattle.std.proofs.Common.{refl, sym, subst}
 use Rattle.mlr_event.specs.declared.names.InputName.{InputName}
-use Rattle.mlr_event.specs.declared.names.Target.TheVariants.{Stdout}
 use Rattle.mlr_world.specs.Counts.{Rose}
 use Rattle.serial_core.specs.declared.answer.Ended.TheVariants as answer
 use Rattle.serial_core.specs.declared.answer.Why.TheVariants as why
@@ -25,7 +24,7 @@ returns-in-Refused-clause-run g c =
     (ran-refused words c.in-Refused.word (subst (Reads words) c.in-Refused.is c.requires) contents taken (g.I.Inputs.open_entry c.args.inputs.now) held)
 
 pub returns-in-Refused-clause-completes : goal.returns-in-Refused-clause-completes
-returns-in-Refused-clause-completes g c = λ names command is holds quiet_in quiet_out.
+returns-in-Refused-clause-completes g c = λ names command is holds quiet.
     let words = c.args.words.now in
     absurd ((subst (Reads words) c.in-Refused.is c.requires).none is.formats is.verbs names is.line)
 
@@ -57,15 +56,15 @@ returns-in-Accepted-clause-run g c =
     c.run_accepted.result contents taken taken' (g.I.Inputs.open_entry c.run_accepted.new.inputs) held held' (c.run_accepted.ensures.run line.0 line.1))
 
 pub returns-in-Accepted-clause-completes : goal.returns-in-Accepted-clause-completes
-returns-in-Accepted-clause-completes g c = λ names' command is holds quiet_in quiet_out.
+returns-in-Accepted-clause-completes g c = λ names' command is holds quiet.
     let words = c.args.words.now in
     let formats = c.in-Accepted.command.formats in
     let names = names_of c.in-Accepted.command words in
     let line = subst (Reads words) c.in-Accepted.is c.requires in
-    subst (CompletesAs (((name : InputName) → Rose (g.I.Inputs.faults c.args.inputs.now name) (g.I.Inputs.faults c.run_accepted.new.inputs name) → ⊥) × (Rose (g.O.Outputs.faults c.args.outputs.now Stdout) (g.O.Outputs.faults c.run_accepted.new.outputs Stdout) → ⊥))
-    c.run_accepted.result (g.I.Inputs.contents c.args.inputs.now) (g.I.Inputs.taken c.args.inputs.now) (g.O.Outputs.held c.args.outputs.now) (g.O.Outputs.held c.run_accepted.new.outputs))
+    subst (CompletesAs ((name : InputName) → Rose (g.I.Inputs.faults c.args.inputs.now name) (g.I.Inputs.faults c.run_accepted.new.inputs name) → ⊥)
+    c.run_accepted.result (g.I.Inputs.contents c.args.inputs.now) (g.I.Inputs.taken c.args.inputs.now))
     (command-is words formats line.0 names names' command line.1 is)
-    (λ whole quiet. c.run_accepted.ensures.completes line.0 line.1 whole quiet.0 quiet.1) holds (quiet_in, quiet_out)
+    (c.run_accepted.ensures.completes line.0 line.1) holds quiet
 
 pub returns-in-Accepted-clause-untouched : goal.returns-in-Accepted-clause-untouched
 returns-in-Accepted-clause-untouched g c = λ refused.

@@ -1,6 +1,6 @@
 use Rattle.std.proofs.Common.{◌≡◌, [], ◌∷◌, ◌++◌, ap, ◌∙◌}
-use Rattle.chain_core.specs.Chain.{chain}
-use Rattle.chain_core.specs.Represents.{verbs_in}
+use Rattle.verb_chain.specs.Chain.{chain}
+use Rattle.verb_chain.specs.Represents.{verbs_in}
 use Rattle.serial_core.specs.Command.{Command}
 use Rattle.serial_core.proofs.tests.run_of.Goals as goal
 

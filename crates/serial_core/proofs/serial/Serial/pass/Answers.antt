@@ -3,9 +3,9 @@ use Rattle.mlr_event.specs.Verb.{is_list}
 use Rattle.outlet.specs.Out.{out_of}
 use Rattle.outlet.specs.Represents.{Represents}
 use Rattle.outlet.proofs.Writing.{unwritten}
-use Rattle.chain_core.specs.Chain.{chain}
-use Rattle.chain_core.specs.Represents as chains
-use Rattle.chain_core.proofs.Chains.{chain-list}
+use Rattle.verb_chain.specs.Chain.{chain}
+use Rattle.verb_chain.specs.Represents as chains
+use Rattle.verb_chain.proofs.Chains.{chain-list}
 use Rattle.serial_core.specs.Represents.{WriteSays}
 use Rattle.serial_core.proofs.serial.Serial.pass.Goals as goal
 

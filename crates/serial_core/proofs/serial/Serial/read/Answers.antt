@@ -1,10 +1,11 @@
 use Rattle.std.proofs.Common.{sym, subst}
 use Rattle.mlr_event.specs.declared.names.Target.TheVariants.{Stdout}
 use Rattle.mlr_world.specs.Counts.{Counted}
-use Rattle.chain_core.specs.Chain.{chain}
-use Rattle.serial_core.specs.Represents.{Outcome, TurnCounts, turn_failed}
+use Rattle.outlet.specs.Represents.{CountedIf}
+use Rattle.verb_chain.specs.Chain.{chain}
+use Rattle.serial_core.specs.Represents.{Outcome, TurnCounts, turn_failed, turn_lacks}
 use Rattle.serial_core.proofs.Passes.{can-pass, failed, none-passed, over-passed, unread}
-use Rattle.serial_core.proofs.Turning.{following-cause, following-counts, turn-same, written-cause}
+use Rattle.serial_core.proofs.Turning.{following-cause, following-counts, following-lacks, turn-same, written-cause}
 use Rattle.serial_core.proofs.serial.Serial.read.Goals as goal
 
 pub returns-in-NoMemory-clause-ran : goal.returns-in-NoMemory-clause-ran
@@ -70,7 +71,7 @@ returns-in-Some g c = record {
       written-cause c.in-Some.ended _ (g.I.Inputs.faults c.args.inputs.now) (g.I.Inputs.faults c.turn.new.inputs) p.says
       (turn-same c.turn.result (g.I.Inputs.faults c.args.inputs.now) (g.I.Inputs.faults c.turn.new.inputs) c.in_default.not-Failed c.turn.ensures.cause));
   counts = c.in-Some.ensures.counts;
-  shortages = c.pass.ensures.shortages;
+  shortages = c.in-Some.ensures.shortages;
 }
 
 pub returns-in-None : goal.returns-in-None
@@ -96,5 +97,7 @@ returns-in-None g c = record {
   counts =
       subst (λ t. Counted (turn_failed t) (g.O.Outputs.faults c.args.outputs.now) (g.O.Outputs.faults c.pass.new.outputs) Stdout) (sym c.following.ensures)
       (following-counts c.turn.result (g.O.Outputs.faults c.args.outputs.now) (g.O.Outputs.faults c.pass.new.outputs) c.in-None.ensures.counts);
-  shortages = c.pass.ensures.shortages;
+  shortages =
+      subst (λ t. CountedIf (turn_lacks t) (g.O.Outputs.shortages c.args.outputs.now) (g.O.Outputs.shortages c.pass.new.outputs)) (sym c.following.ensures)
+      (following-lacks c.turn.result (g.O.Outputs.shortages c.args.outputs.now) (g.O.Outputs.shortages c.pass.new.outputs) c.in-None.ensures.shortages);
 }

@@ -1,0 +1,32 @@
+-- A copy of a plan that can be run can be run.
+use Rattle.std.proofs.Common.{List, [], ◌∷◌, ap, sym, ◌∙◌, subst}
+use Rattle.read_files.specs.Represents.{can_read}
+use Rattle.verbs_seq.specs.Seq.{IsSoundSeq}
+use Rattle.chain_core.specs.declared.plan.Plan.{Plan}
+use Rattle.chain_core.specs.declared.verb_spec.VerbSpec.{VerbSpec}
+use Rattle.chain_core.specs.declared.verb_spec.VerbSpec.TheVariants.{Stream, Seq}
+use Rattle.chain_core.specs.Plans.{AreSameVerbs, AreSound, AreVerbs, IsCopy, IsSound}
+
+verbs-copied : (specs copies : List VerbSpec) → AreSameVerbs specs copies → AreVerbs specs → AreVerbs copies
+verbs-copied [] [] same are = tt
+verbs-copied [] (copy ∷ copies) same are = absurd same
+verbs-copied (spec ∷ specs) [] same are = absurd same
+verbs-copied (Stream spec ∷ specs) (Stream copy ∷ copies) same are = (same.0.1 are.0, verbs-copied specs copies same.1 are.1)
+verbs-copied (Stream spec ∷ specs) (Seq copy ∷ copies) same are = absurd same.0
+verbs-copied (Seq spec ∷ specs) (copy ∷ copies) same are = absurd are.0
+
+sound-copied : (specs copies : List VerbSpec) → AreSameVerbs specs copies → AreSound specs → AreSound copies
+sound-copied [] [] same are = tt
+sound-copied [] (copy ∷ copies) same are = absurd same
+sound-copied (spec ∷ specs) [] same are = absurd same
+sound-copied (Stream spec ∷ specs) (Stream copy ∷ copies) same are = (same.0.1 are.0, verbs-copied specs copies same.1 are.1)
+sound-copied (Stream spec ∷ specs) (Seq copy ∷ copies) same are = absurd same.0
+sound-copied (Seq spec ∷ specs) (Stream copy ∷ copies) same are = absurd same.0
+sound-copied (Seq spec ∷ specs) (Seq copy ∷ copies) same are = (subst IsSoundSeq (sym same.0) are.0, verbs-copied specs copies same.1 are.1)
+
+pub copy-is-sound : (plan copy : Plan) → IsCopy plan copy → IsSound plan → IsSound copy
+copy-is-sound plan copy is sound = record {
+  readable = ap can_read is.read ∙ sound.readable;
+  verbs = sound-copied plan.verbs copy.verbs is.verbs sound.verbs;
+  styled = λ none. sound.styled (sym is.styles ∙ none);
+}

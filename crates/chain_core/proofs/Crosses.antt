@@ -1,0 +1,13 @@
+-- The parts of a plan may go into a thread.
+use denote.Param.Send.{IsSend, sendable}
+use Rattle.std.proofs.Crossing.{crosses}
+use Rattle.serial_core.proofs.Crosses.{Reader-field-send}
+use Rattle.verbs_stream.proofs.Crosses.{StreamVerb-field-send}
+use Rattle.chain_core.specs.contracts.reader.Reader
+use Rattle.chain_core.specs.contracts.verb.Verb
+
+pub Reader-send : IsSend Reader.the_row
+Reader-send = search (Reader-field-send, crosses, sendable) depth 60 fits 20000
+
+pub Verb-send : IsSend Verb.the_row
+Verb-send = search (StreamVerb-field-send, crosses, sendable) depth 60 fits 20000

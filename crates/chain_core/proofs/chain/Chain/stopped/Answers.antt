@@ -1,8 +1,0 @@
-use Rattle.std.proofs.Common.{true, ap, ◌∙◌}
-use Rattle.std.specs.List.{list_any}
-use Rattle.chain_core.proofs.Chains.{shut-stopped}
-use Rattle.chain_core.proofs.chain.Chain.stopped.Goals as goal
-
-pub returns : goal.returns
-returns g c given at =
-    c.any_shut.ensures ∙ ap (list_any (λ stage. stage.gate.shut)) c.deref.ensures.value ∙ shut-stopped g.S.Step.verb g.S.Step.represents true c.args.self.now.stages.items given at.stages

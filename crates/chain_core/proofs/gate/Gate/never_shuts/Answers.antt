@@ -1,5 +1,0 @@
-use Rattle.chain_core.proofs.Unclosed.{never-cut}
-use Rattle.chain_core.proofs.gate.Gate.never_shuts.Goals as goal
-
-pub returns-else-not-self : goal.returns-else-not-self
-returns-else-not-self g c is given = never-cut c.args.self.now.quiet (g.S.Step.verb c.args.self.now.verb) (c.never_closes.ensures is) given

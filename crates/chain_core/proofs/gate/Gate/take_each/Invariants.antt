@@ -1,9 +1,0 @@
-use Rattle.std.proofs.Common.{length}
-use Rattle.chain_core.proofs.Passing.{Passed}
-use Rattle.chain_core.proofs.gate.Gate.take_each.Given as goal
-
-abbrev pub invariant-loop-event : goal.invariant-loop-event
-invariant-loop-event g l = Passed g.S.Step.verb g.S.Step.represents l.fn.self l.fn.events l.fn.out l.self l.events l.out
-
-abbrev pub decreases-loop-event : goal.decreases-loop-event
-decreases-loop-event g l = length l.events

@@ -1,0 +1,5 @@
+use Rattle.std.proofs.Common.{refl}
+use Rattle.chain_core.proofs.tests.begun.Goals as goal
+
+pub begin-requires : goal.begin-requires
+begin-requires c = (_, c.in_ok-verb.ensures _ refl)

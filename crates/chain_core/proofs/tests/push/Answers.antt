@@ -1,0 +1,19 @@
+use Rattle.std.proofs.Common.{List, [], ◌∷◌, ◌++◌, sym, subst}
+use Rattle.verbs_stream.specs.declared.spec.Spec.{Spec}
+use Rattle.verbs_stream.specs.Meaning.{IsSound}
+use Rattle.chain_core.specs.declared.verb_spec.VerbSpec.{VerbSpec}
+use Rattle.chain_core.specs.declared.verb_spec.VerbSpec.TheVariants.{Stream, Seq}
+use Rattle.chain_core.specs.Plans.{AreSound, AreVerbs}
+use Rattle.chain_core.proofs.tests.push.Goals as goal
+
+verbs-append : (specs : List VerbSpec) (spec : Spec) → AreVerbs specs → IsSound spec → AreVerbs (specs ++ Stream spec ∷ [])
+verbs-append [] spec are sound = (sound, tt)
+verbs-append (first ∷ specs) spec are sound = (are.0, verbs-append specs spec are.1 sound)
+
+sound-append : (specs : List VerbSpec) (spec : Spec) → AreSound specs → IsSound spec → AreSound (specs ++ Stream spec ∷ [])
+sound-append [] spec are sound = (sound, tt)
+sound-append (Stream first ∷ specs) spec are sound = (are.0, verbs-append specs spec are.1 sound)
+sound-append (Seq first ∷ specs) spec are sound = (are.0, verbs-append specs spec are.1 sound)
+
+pub returns : goal.returns
+returns c = subst AreSound (sym c.in_ok-push.ensures) (sound-append c.args.verbs.now c.args.spec c.requires.verbs c.requires.options)

@@ -1,0 +1,24 @@
+use Rattle.std.proofs.Common.{[], sym, subst}
+use Rattle.read_files.specs.Takes.{After}
+use Rattle.serial_core.proofs.Running.{following-none}
+use Rattle.chain_core.proofs.Runs.{command-of}
+use Rattle.chain_core.proofs.tests.run_twice.Goals as goal
+
+pub turn-requires : goal.turn-requires
+turn-requires g c =
+    let own = command-of c.args.plan.now c.requires in
+    (own.0, g.I.Inputs.taken c.args.inputs.now, [], [], [], c.in_ok-serial.ensures own.0 own.1, following-none _ _ _)
+
+pub turn-requires-2 : goal.turn-requires-2
+turn-requires-2 g c =
+    let own = command-of c.args.plan.now c.requires in
+    let before = g.I.Inputs.taken c.args.inputs.now in
+    let first = c.in-Went.ensures.ran own.0 before [] [] [] (c.in_ok-serial.ensures own.0 own.1) (following-none _ _ _) in (
+      own.0,
+      before,
+      first.given',
+      first.outcome.put,
+      _,
+      first.outcome.represent,
+      subst (λ told. After before first.given' told (g.I.Inputs.taken c.turn.new.inputs) (g.I.Inputs.open_entry c.turn.new.inputs)) (sym c.in-Went.ensures.contents) first.took.following,
+    )

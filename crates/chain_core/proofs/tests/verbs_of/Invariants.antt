@@ -1,0 +1,6 @@
+use Rattle.chain_core.specs.Plans.{AreSound}
+use Rattle.chain_core.proofs.tests.verbs_of.Given as goal
+
+-- verbs that may be run
+abbrev pub invariant-loop-verb : goal.invariant-loop-verb
+invariant-loop-verb l = AreSound l.made

@@ -1,0 +1,27 @@
+-- What a verb is, and how far it has come.
+use Rattle.std.specs.Prelude.{◌≡◌, List, [], ◌∷◌}
+use Rattle.mlr_event.specs.declared.event.Event.{Event}
+use Rattle.mlr_event.specs.Verb as meaning
+use Rattle.verbs_stream.specs.contracts.verb.StreamVerbStep.TheImpl as stream
+use Rattle.chain_core.specs.declared.verb.Verb.{Verb}
+use Rattle.chain_core.specs.declared.verb.Verb.TheVariants.{Stream}
+
+abbrev pub meaning_in : Verb → meaning.Verb
+meaning_in = elim [ Stream s ↦ stream.ghosts.verb s ]
+
+-- it has begun, and was given these events
+abbrev pub WasGiven : Verb → List Event → Type 0
+WasGiven = elim [ Stream s ↦ stream.ghosts.represents s ]
+
+abbrev pub HasBegun : meaning.Verb → Verb → Type 0
+HasBegun verb made = (meaning_in made ≡ verb) × WasGiven made []
+
+-- it hasn't begun; a streaming verb makes nothing when it begins, so that it has begun from the start
+abbrev pub IsNew : meaning.Verb → Verb → Type 0
+IsNew verb (Stream s) = HasBegun verb (Stream s)
+
+abbrev pub AreNew : List meaning.Verb → List Verb → Type 0
+AreNew [] [] = Unit {0}
+AreNew [] (one ∷ made) = ⊥
+AreNew (verb ∷ verbs) [] = ⊥
+AreNew (verb ∷ verbs) (one ∷ made) = IsNew verb one × AreNew verbs made

@@ -1,0 +1,125 @@
+//! Verbs of a chain, of any kind.
+ghost use Rattle.std.specs.Prelude.{◌≡◌, ◌++◌, ◌∷◌, [], IfOk, OnOk};
+ghost use Rattle.mlr_event.specs.Verb.{Verb as SpecVerb};
+ghost use Rattle.chain_core.specs.Plans.{IsVerb, verb_with};
+ghost use Rattle.chain_core.specs.Verbs.{HasBegun, IsNew};
+
+use crate::verb_spec::VerbSpec;
+use mlr_event::{Event, Events, Step};
+use mlr_spec::NoMemory;
+use std::alloc::Global;
+use verbs_stream::StreamVerb;
+
+/// A verb of a chain, of any kind. It begins with `begin`, and takes events after that.
+pub enum Verb {
+    /// A streaming verb.
+    Stream(StreamVerb),
+}
+
+// Written by hand, so that the crates above call it instead of dropping the fields themselves.
+impl Drop for Verb {
+    fn drop(self) {
+        match self {
+            Verb::Stream(verb) => drop(verb),
+        }
+    }
+}
+
+impl Verb {
+    /// The verb of these options, which hasn't begun, with the records of its left file. It takes memory for a copy of the
+    /// options, and for what the verb keeps.
+    pub fn new(alloc: Global, spec: &VerbSpec, left: Events) -> Result<Self, NoMemory>
+        requires { IsVerb spec.now }
+        ensures { IfOk result (λ made. (verb : SpecVerb) → verb_with spec.now left ≡ verb ∷ []
+            → IsNew verb made) }
+    {
+        drop(left);
+        match spec {
+            VerbSpec::Stream(options) => match StreamVerb::of(alloc, options) {
+                Ok(verb) => Ok(Verb::Stream(verb)),
+                Err(error) => Err(error),
+            },
+            VerbSpec::Seq(_) => unreachable!(),
+        }
+    }
+
+    /// Appends what the verb makes before all events. It is called once, before the first step.
+    pub fn begin(&mut self, out: &mut Events) -> Result<(), NoMemory>
+        requires { (verb : SpecVerb) × IsNew verb self.old }
+        ensures begun { OnOk result ((verb : SpecVerb) → IsNew verb self.old
+            → HasBegun verb self.new) }
+        ensures first { OnOk result ((verb : SpecVerb) → IsNew verb self.old
+            → out.new ≡ out.old ++ verb.first) }
+    {
+        match self {
+            // It makes nothing before them.
+            Verb::Stream(_) => {
+                let _ = out;
+                Ok(())
+            }
+        }
+    }
+}
+
+impl Step for Verb {
+    ghost use Rattle.chain_core.specs.declared.verb.Verb.TheVariants.{Stream};
+    ghost use Rattle.chain_core.specs.Verbs.{WasGiven, meaning_in};
+    ghost use Rattle.verbs_stream.specs.contracts.verb.StreamVerbStep.TheImpl.Laws as stream;
+
+    ghost verb = { meaning_in };
+
+    ghost represents = { WasGiven };
+
+    ghost broken = { elim [ Stream s ↦ ⟦<StreamVerb as Step>⟧.broken s ] };
+
+    ghost whole = { elim [ Stream s ↦ stream.whole-law s ] };
+
+    ghost quiet = { elim [ Stream s ↦ stream.quiet-law s ] };
+
+    ghost orderly = { elim [ Stream s ↦ stream.orderly-law s ] };
+
+    ghost closes = { elim [ Stream s ↦ stream.closes-law s ] };
+
+    fn step(&mut self, event: Event, out: &mut Events) -> Result<(), NoMemory> {
+        match self {
+            Verb::Stream(verb) => verb.step(event, out)?,
+        }
+        Ok(())
+    }
+
+    fn step_all(&mut self, events: &mut Events, out: &mut Events) -> Result<(), NoMemory> {
+        match self {
+            Verb::Stream(verb) => verb.step_all(events, out),
+        }
+    }
+
+    fn never_closes(&self) -> bool {
+        match self {
+            Verb::Stream(verb) => verb.never_closes(),
+        }
+    }
+
+    fn closed(&self) -> bool {
+        match self {
+            Verb::Stream(verb) => verb.closed(),
+        }
+    }
+
+    fn has_effects(&self) -> bool {
+        match self {
+            Verb::Stream(verb) => verb.has_effects(),
+        }
+    }
+
+    fn passes_all(&self) -> bool {
+        match self {
+            Verb::Stream(verb) => verb.passes_all(),
+        }
+    }
+
+    fn is_broken(&self) -> bool {
+        match self {
+            Verb::Stream(verb) => verb.is_broken(),
+        }
+    }
+}

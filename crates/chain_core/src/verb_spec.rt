@@ -1,0 +1,39 @@
+//! Verbs of a plan, of any kind, with their options.
+ghost use Rattle.std.specs.Prelude.{IfOk, IsOk};
+ghost use Rattle.chain_core.specs.Plans.{AreSame, IsShort};
+
+use mlr_spec::NoMemory;
+use std::alloc::Global;
+use verbs_seq::SeqSpec;
+use verbs_stream::Spec;
+
+/// A verb of a plan, with its options.
+pub enum VerbSpec {
+    /// A streaming verb.
+    Stream(Spec),
+    /// The source `seqgen`.
+    Seq(SeqSpec),
+}
+
+// Written by hand, so that the crates above call it instead of dropping the fields themselves.
+impl Drop for VerbSpec {
+    fn drop(self) {
+        match self {
+            VerbSpec::Stream(spec) => drop(spec),
+            VerbSpec::Seq(seq) => drop(seq),
+        }
+    }
+}
+
+impl VerbSpec {
+    /// A copy, which shares the patterns. It takes memory for lists, and for texts of more than 16 bytes.
+    pub fn copy(&self, alloc: Global) -> Result<Self, NoMemory>
+        ensures same { IfOk result (λ copy. AreSame self.now copy) }
+        ensures short { IsShort self.now → IsOk result }
+    {
+        match self {
+            VerbSpec::Stream(spec) => Ok(VerbSpec::Stream(spec.copy(alloc)?)),
+            VerbSpec::Seq(seq) => Ok(VerbSpec::Seq(seq.copy(alloc)?)),
+        }
+    }
+}

@@ -1,6 +1,0 @@
-use Rattle.std.proofs.Common.{◌≡◌, take}
-use Rattle.mlr_plan.proofs.plan.copy_names.Given as goal
-
--- those so far
-abbrev pub invariant-loop-name : goal.invariant-loop-name
-invariant-loop-name l = l.copies.items ≡ take l.name-index l.names
