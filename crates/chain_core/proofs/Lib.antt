@@ -1,7 +1,9 @@
 pub mod Copies
 pub mod Crosses
+pub mod Each
 pub mod Firsts
 pub mod Meanings
 pub mod New
+pub mod Plain
 pub mod Runs
 pub mod Verbs

@@ -2,3 +2,5 @@ pub mod Plans
 pub mod Verbs
 pub mod Chains
 pub mod Parts
+pub mod Outputs
+pub mod PlanRun

@@ -6,8 +6,9 @@ ghost use Rattle.mlr_world.specs.Counts.{Counted, Rose};
 ghost use Rattle.outlet.specs.Represents.{CountedIf};
 ghost use Rattle.serial_core.specs.Answer.{IsOfNoInput, has_failed, lacks_memory};
 ghost use Rattle.serial_core.specs.Command.{Command};
-ghost use Rattle.serial_core.specs.Run.{HoldsFew, Run};
+ghost use Rattle.serial_core.specs.Run.{HoldsFew};
 ghost use Rattle.serial_core.specs.Represents.{InputCause};
+ghost use Rattle.chain_core.specs.PlanRun.{PlanRun};
 ghost use Rattle.chain_core.specs.Plans.{IsCommandOf, IsSound};
 
 use crate::plan::Plan;
@@ -26,11 +27,11 @@ pub fn run_serial<I: Inputs, O: Outputs>(
     outputs: &mut O,
 ) -> Ended
     requires { IsSound plan.now }
-    // What was taken, what the outcome says of it, and what standard output is left with; and the same by all that the
+    // What was taken, what the outcome says of it, and what each target is left with; and the same by all that the
     // inputs hold.
-    ensures run { (command : Command) → IsCommandOf plan.now command
-        → Run result command (I.contents inputs.old) (I.taken inputs.old) (I.taken inputs.new)
-        (I.open_entry inputs.new) (O.held outputs.old) (O.held outputs.new) }
+    ensures run { (command : Command) → (is : IsCommandOf plan.now command)
+        → PlanRun result command is.rest (I.contents inputs.old) (I.taken inputs.old)
+        (I.taken inputs.new) (I.open_entry inputs.new) (O.held outputs.old) (O.held outputs.new) }
     ensures contents { I.contents inputs.new ≡ I.contents inputs.old }
     // Read comes only where a call on that input failed, and Written exactly where one on standard output did.
     ensures cause { InputCause result (I.faults inputs.old) (I.faults inputs.new) }

@@ -4,12 +4,12 @@ use Rattle.std.specs.Prelude.{IfSome}
 use Rattle.std.specs.Option.{option_map}
 use Rattle.std.proofs.lemmas.Bool.{false≢true}
 use Rattle.read_files.specs.Takes.{ArePrefixesTaken}
+use Rattle.mlr_event.specs.declared.names.Target.{Target}
 use Rattle.mlr_event.specs.declared.names.Target.TheVariants.{Stdout, Stderr}
 use Rattle.mlr_world.specs.Inputs.{Contents}
 use Rattle.mlr_world.specs.Outputs.{Held, ChangesAt}
 use Rattle.mlr_world.specs.Taken.{Take, OpenEntry}
 use Rattle.mlr_world.specs.declared.outputs.Done.{Done}
-use Rattle.mlr_world.proofs.Changes.{ChangesAt-none}
 use Rattle.serial_core.specs.declared.answer.Ended.{Ended}
 use Rattle.serial_core.specs.declared.answer.Ended.TheVariants as answer
 use Rattle.serial_core.specs.declared.answer.Refusal.{Refusal}
@@ -17,7 +17,7 @@ use Rattle.serial_core.specs.declared.answer.Why.TheVariants as why
 use Rattle.serial_core.specs.Answer.{IsOfNoInput, is_refused}
 use Rattle.serial_core.specs.Command as serial
 use Rattle.serial_core.proofs.Running.{following-none}
-use Rattle.serial_core.specs.Run.{HoldsFew, Run as SerialRun}
+use Rattle.serial_core.specs.Run.{HoldsFew}
 use Rattle.serial_core.specs.Whole.{Gets, whole_of}
 use Rattle.serial_core.specs.Represents as outcomes
 use Rattle.cli_words.specs.declared.flags.Formats.{Formats}
@@ -27,7 +27,9 @@ use Rattle.cli_words.proofs.Readings.{one-place, one-reading}
 use Rattle.cli_run.specs.Answer.{RefusesWhere}
 use Rattle.cli_run.specs.Meaning.{IsCommandLine, command_of}
 use Rattle.cli_run.specs.Message.{Appends}
-use Rattle.cli_run.specs.Run.{OfWhole, Ran, RanWhole, Stops, WhereTold}
+use Rattle.cli_run.specs.Run.{OfWhole, Ran, RanWhole, Stops}
+use Rattle.chain_core.specs.Outputs.{WhereTold}
+use Rattle.chain_core.specs.PlanRun.{PlanRun}
 
 -- Refused comes with the one word at which words are refused
 refusal-is : (number : ℕ) (refusal : Refusal) → answer.Refused (record { word = number; why = why.NotBuilt }) ≡ answer.Refused refusal → number ≡ refusal.word
@@ -62,6 +64,10 @@ told-nothing None taken = tt
 told-nothing (Some told) None = tt
 told-nothing (Some told) (Some takes) = tt
 
+told-same : (held : Option Held) → WhereTold (λ before now. (one : Target) → now one ≡ before one) held held
+told-same None = tt
+told-same (Some held) = λ one. refl
+
 pub ran-refused : (words : List (List ℕ)) (number : ℕ) → IsRefusedAt words number → (contents : Option Contents) (taken : Option (List Take)) (name : Option OpenEntry) (held : Option Held)
     → Ran words [] [] (answer.Refused (record { word = number; why = why.NotBuilt })) contents taken taken held held
 ran-refused words number at contents taken name held =
@@ -73,7 +79,7 @@ ran-refused words number at contents taken name held =
       given = [];
       takes = record { order = tt; few = omega arith; entries = none.entries; prefixes = none.prefixes; says = refl; early = told-nothing contents taken };
       whole = told-nothing contents taken;
-      leaves = ChangesAt-none Stdout (outcomes.Leaves (answer.Refused (record { word = number; why = why.NotBuilt })) []) (λ before. refl) held;
+      each = told-same held;
     }
 
 -- what holds where takes are known, before and now
@@ -85,16 +91,23 @@ told-before (Some told) (Some before) taken' given P is holds = subst (λ t. IfS
 
 -- a run of a command line
 pub ran-line : (words names : List (List ℕ)) (command : serial.Command) → IsCommandLine words names command
-    → (ended : Ended) (contents : Option Contents) (taken taken' : Option (List Take)) (name' : Option OpenEntry) (held held' : Option Held) → SerialRun ended command contents taken taken' name' held held'
+    → (ended : Ended) (contents : Option Contents) (taken taken' : Option (List Take)) (name' : Option OpenEntry) (held held' : Option Held) → PlanRun ended command [] contents taken taken' name' held held'
     → Ran words names (command.write.format ∷ []) ended contents taken taken' held held'
 ran-line words names command is ended contents taken taken' name' held held' r = record {
   meant = Some command;
   means = is;
   formats_are = refl;
-  given = r.given;
-  takes = record { order = r.order; few = r.few; entries = r.following.entries; prefixes = told-before contents taken taken' r.given (λ told. ArePrefixesTaken told r.given) r.following.entries r.following.prefixes; says = r.says; early = r.early };
-  leaves = r.leaves;
-  whole = r.whole;
+  given = r.run.given;
+  takes = record {
+    order = r.run.order;
+    few = r.run.few;
+    entries = r.run.following.entries;
+    prefixes = told-before contents taken taken' r.run.given (λ told. ArePrefixesTaken told r.run.given) r.run.following.entries r.run.following.prefixes;
+    says = r.run.says;
+    early = r.run.early;
+  };
+  each = r.each;
+  whole = r.run.whole;
 }
 
 -- the one command that a line means

@@ -1,5 +1,5 @@
 -- The verbs of a command line can be run: only the first may be `seqgen`, and its numbers are sound.
-use Rattle.std.proofs.Common.{◌≡◌, ℕ, ◌+◌, ◌^◌, ℤ, pos, Bool, true, false, List, [], ◌∷◌, ◌++◌, refl, sym, subst, ap, ◌∙◌}
+use Rattle.std.proofs.Common.{◌≡◌, ℕ, ◌+◌, ◌^◌, ℤ, pos, Bool, true, false, List, [], ◌∷◌, ◌++◌, Option, refl, sym, subst, ap, ◌∙◌}
 use Rattle.std.specs.Prelude.{◌≢◌, ◌&&◌, not, nat_le, length, if◌then◌else◌}
 use Rattle.std.proofs.lemmas.Bool.{false≢true, leb-true}
 use Rattle.mlr_event.specs.declared.names.InputName.{InputName}
@@ -22,6 +22,13 @@ use Rattle.cli_words.specs.Verbs.{is_zero, may_end}
 use Rattle.cli_words.proofs.Sources.{NoneSeq, NotSeq, first-may-end, later-verbs}
 use Rattle.cli_run.specs.Meaning.{command_of, field_of, inputs_of, spec_of, specs_of}
 use Rattle.cli_run.specs.Planning.{IsPlanOf}
+use Rattle.chain_core.specs.PlanRun.{PlanRun}
+use Rattle.chain_core.proofs.Each.{verbs-run}
+use Rattle.chain_core.proofs.Runs.{unread}
+use Rattle.serial_core.specs.declared.answer.Ended.TheVariants.{NoMemory}
+use Rattle.mlr_world.specs.Inputs.{Contents}
+use Rattle.mlr_world.specs.Outputs.{Held}
+use Rattle.mlr_world.specs.Taken.{Take, OpenEntry}
 use Rattle.mlr_event.specs.Defaults.{default_read}
 
 both : (a b : Bool) → (a && b) ≡ true → (a ≡ true) × (b ≡ true)
@@ -84,7 +91,7 @@ origin-same read read' inputs inputs' specs specs' r i s =
     ap (λ x. origin_or (files x inputs) specs) (sym r) ∙ ap (λ x. origin_or (files read' x) specs) (sym i) ∙ ap (origin_or (files read' inputs')) (sym s)
 
 -- the plan of a command line has the command that the line means
-pub command-of-plan : (formats : Formats) (verbs : List Asked) (names words : List (List ℕ)) (plan : Plan) → IsPlanOf formats verbs names words plan → IsCommandOf plan (command_of formats verbs names words)
+abbrev pub command-of-plan : (formats : Formats) (verbs : List Asked) (names words : List (List ℕ)) (plan : Plan) → IsPlanOf formats verbs names words plan → IsCommandOf plan (command_of formats verbs names words)
 command-of-plan formats verbs names words plan is = record {
   origin =
       origin-same (default_read formats.input) plan.read (inputs_of names) (inputs_in plan) (specs_of words verbs) plan.verbs is.read
@@ -93,3 +100,10 @@ command-of-plan formats verbs names words plan is = record {
   rest = [];
   write = is.styles;
 }
+
+-- want of memory before the first read
+pub unread-run : (words : List (List ℕ)) (formats : Formats) (verbs : List Asked) (names : List (List ℕ)) (contents : Option Contents) (taken : Option (List Take)) (entry : Option OpenEntry) (held : Option Held)
+    → PlanRun NoMemory (command_of formats verbs names words) [] contents taken taken entry held held
+unread-run words formats verbs names contents taken entry held =
+    let command = command_of formats verbs names words in
+    verbs-run (specs_of words verbs) command refl [] NoMemory contents taken taken entry held held (unread command contents taken entry held)

@@ -15,9 +15,10 @@ use Rattle.serial_core.specs.Answer.{has_failed, lacks_memory}
 use Rattle.serial_core.specs.Command as serial
 use Rattle.serial_core.specs.Represents as outcomes
 use Rattle.cli_run.specs.Answer.{RefusesWhere}
-use Rattle.cli_run.specs.Meaning.{Means, formats_for, text_for}
+use Rattle.cli_run.specs.Meaning.{Means, formats_for}
 use Rattle.cli_run.specs.Message.{Appends, message_of}
-use Rattle.cli_run.specs.Run.{Between, Says, Leaves, LeavesMessage, WhereTold, OutputCause}
+use Rattle.cli_run.specs.Run.{Between, Says, Leaves, LeavesFor, LeavesMessage, OutputCause}
+use Rattle.chain_core.specs.Outputs.{WhereTold}
 
 -- counts over a call, and over a later one
 pub never_falls : {N : Type 0} (failed : Bool) (before now : N → ℕ) (name : N) → Counted failed before now name → (other : N) → before other ≤ now other
@@ -26,12 +27,6 @@ never_falls false before now name counted other = omega (arith, counted other)
 
 pub Rose-later : (a b c : ℕ) → Rose a b → b ≤ c → Rose a c
 Rose-later a b c rose le = omega arith
-
-apart : Stdout ≡ Stderr → ⊥
-apart e = cc
-
-apart' : Stderr ≡ Stdout → ⊥
-apart' e = cc
 
 -- what the message leaves in standard error
 message_left : (message : List ℕ) (result : Done) (before now : Option (List ℕ)) (f1 f2 : Target → ℕ) (s1 s2 : ℕ) → Counted (call_failed result) f1 f2 Stderr → Tallied (lacked_memory result) s1 s2
@@ -42,18 +37,18 @@ message_left message done.NoMemory before now f1 f2 s1 s2 counted tallied append
 
 pub leaves_all : (words names : List (List ℕ)) (meant : Option serial.Command) (ended : Ended) (given : List Take) (result : Done) (h0 h1 h2 : Option Held) (f1 f2 : Target → ℕ) (s1 s2 : ℕ)
     → Counted (call_failed result) f1 f2 Stderr → Tallied (lacked_memory result) s1 s2
-    → ChangesAt Stdout (outcomes.Leaves ended (text_for meant given)) h0 h1 → ChangesAt Stderr (Appends (message_of words names (formats_for meant) ended) result) h1 h2
+    → WhereTold (λ before now. (one : Target) → LeavesFor meant ended given one (before one) (now one)) h0 h1 → ChangesAt Stderr (Appends (message_of words names (formats_for meant) ended) result) h1 h2
     → WhereTold (Leaves words names meant ended given (Rose (f1 Stderr) (f2 Stderr) ⊎ Rose s1 s2)) h0 h2
-leaves_all words names meant ended given result None None None f1 f2 s1 s2 counted tallied out err = tt
-leaves_all words names meant ended given result None None (Some c) f1 f2 s1 s2 counted tallied out err = err
-leaves_all words names meant ended given result None (Some b) h2 f1 f2 s1 s2 counted tallied out err = absurd out
-leaves_all words names meant ended given result (Some a) None h2 f1 f2 s1 s2 counted tallied out err = absurd out
-leaves_all words names meant ended given result (Some a) (Some b) None f1 f2 s1 s2 counted tallied out err = err
-leaves_all words names meant ended given result (Some a) (Some b) (Some c) f1 f2 s1 s2 counted tallied out err = record {
-  out = subst (outcomes.Leaves ended (text_for meant given) (a Stdout)) (sym (err.elsewhere Stdout apart)) out.here;
-  err = subst (λ before. LeavesMessage (message_of words names (formats_for meant) ended) (Rose (f1 Stderr) (f2 Stderr) ⊎ Rose s1 s2) before (c Stderr)) (out.elsewhere Stderr apart')
-      (message_left (message_of words names (formats_for meant) ended) result (b Stderr) (c Stderr) f1 f2 s1 s2 counted tallied err.here);
-  others = λ target not_out not_err. err.elsewhere target not_err ∙ out.elsewhere target not_out;
+leaves_all words names meant ended given result None None None f1 f2 s1 s2 counted tallied each err = tt
+leaves_all words names meant ended given result None None (Some c) f1 f2 s1 s2 counted tallied each err = err
+leaves_all words names meant ended given result None (Some b) h2 f1 f2 s1 s2 counted tallied each err = absurd each
+leaves_all words names meant ended given result (Some a) None h2 f1 f2 s1 s2 counted tallied each err = absurd each
+leaves_all words names meant ended given result (Some a) (Some b) None f1 f2 s1 s2 counted tallied each err = err
+leaves_all words names meant ended given result (Some a) (Some b) (Some c) f1 f2 s1 s2 counted tallied each err = record {
+  each = λ one apart. subst (LeavesFor meant ended given one (a one)) (sym (err.elsewhere one apart)) (each one);
+  own = b Stderr;
+  err = each Stderr;
+  message = message_left (message_of words names (formats_for meant) ended) result (b Stderr) (c Stderr) f1 f2 s1 s2 counted tallied err.here;
 }
 
 -- why the outcome is what it is, by the counts of the outputs

@@ -3,7 +3,6 @@ use Rattle.std.specs.Prelude.{◌≡◌, ℕ, false, ◌-◌, ◌==◌, if◌the
 use Rattle.mlr_event.specs.declared.names.InputName.{InputName}
 use Rattle.mlr_event.specs.declared.names.InputName.TheVariants.{Stdin, File}
 use Rattle.mlr_event.specs.declared.options.Format.{Format}
-use Rattle.mlr_world.specs.Taken.{Take}
 use Rattle.cli_words.specs.declared.flags.Formats.{Formats}
 use Rattle.cli_words.specs.declared.line.Line.{Line}
 use Rattle.cli_words.specs.declared.line.Line.TheVariants.{Accepted, Refused}
@@ -67,14 +66,10 @@ abbrev pub Means : List (List ℕ) → List (List ℕ) → Option serial.Command
 Means words names (Some command) = IsCommandLine words names command
 Means words names None = (number : ℕ) × IsRefusedAt words number × (names ≡ [])
 
--- the inputs that are read, and the text of standard output: none where the words are refused
+-- the inputs that are read: none where the words are refused
 abbrev pub inputs_for : Option serial.Command → List InputName
 inputs_for None = []
 inputs_for (Some command) = serial.names_of command.origin
-
-abbrev pub text_for : Option serial.Command → List Take → List ℕ
-text_for None given = []
-text_for (Some command) given = serial.text command given
 
 -- the formats of the outputs, by the rows of the styles: none where the words are refused
 abbrev pub formats_for : Option serial.Command → List Format

@@ -6,7 +6,7 @@ use Rattle.mlr_event.specs.declared.names.Target.{Target}
 use Rattle.mlr_event.specs.declared.names.Target.TheVariants.{Stdout, Stderr}
 use Rattle.mlr_world.specs.Counts.{Counted, Rose}
 use Rattle.mlr_world.specs.Inputs.{Contents}
-use Rattle.mlr_world.specs.Outputs.{ChangesAt, Held, with_bytes}
+use Rattle.mlr_world.specs.Outputs.{Held, with_bytes}
 use Rattle.mlr_world.specs.Taken.{Take}
 use Rattle.outlet.specs.Represents.{AppendsPrefix, CountedIf}
 use Rattle.read_files.specs.Takes.{ArePrefixesTaken, InOrder, total}
@@ -18,7 +18,9 @@ use Rattle.serial_core.specs.Run.{StopsEarly}
 use Rattle.serial_core.specs.Whole as all
 use Rattle.serial_core.specs.Whole.{Gets, IsVerdict, whole_of}
 use Rattle.serial_core.specs.Represents as outcomes
-use Rattle.cli_run.specs.Meaning.{Means, formats_for, inputs_for, text_for}
+use Rattle.chain_core.specs.Outputs as outputs
+use Rattle.chain_core.specs.Outputs.{WhereTold, clear}
+use Rattle.cli_run.specs.Meaning.{Means, formats_for, inputs_for}
 use Rattle.cli_run.specs.Message.{message_of}
 
 -- what an outcome says of what was taken of the inputs: nothing was, where the words are refused
@@ -50,18 +52,17 @@ IsCut ended faults faults' shortages shortages' between = Rose (between.faults_b
 abbrev pub LeavesMessage : List ℕ → Type 0 → Option (List ℕ) → Option (List ℕ) → Type 0
 LeavesMessage message Unwritten before now = (now ≡ with_bytes message before) ⊎ (Unwritten × AppendsPrefix message before now)
 
--- What a run leaves in each target.
-pub record Leaves (words names : List (List ℕ)) (meant : Option serial.Command) (ended : Ended) (given : List Take) (Unwritten : Type 0) (before now : Held) : Type 0 where
-  pub out : outcomes.Leaves ended (text_for meant given) (before Stdout) (now Stdout)
-  pub err : LeavesMessage (message_of words names (formats_for meant) ended) Unwritten (before Stderr) (now Stderr)
-  pub others : (target : Target) → (target ≡ Stdout → ⊥) → (target ≡ Stderr → ⊥) → now target ≡ before target
+-- what a run leaves in a target before its message: its text, and nothing where the words are refused
+abbrev pub LeavesFor : Option serial.Command → Ended → List Take → Target → Option (List ℕ) → Option (List ℕ) → Type 0
+LeavesFor None ended given one before now = now ≡ before
+LeavesFor (Some command) ended given one before now = outputs.LeavesFor ended command.write [] (clear (serial.result command given)) one before now
 
--- a relation of what is held before and after, where it is known
-abbrev pub WhereTold : (Held → Held → Type 0) → Option Held → Option Held → Type 0
-WhereTold step None None = Unit {0}
-WhereTold step None (Some now) = ⊥
-WhereTold step (Some before) None = ⊥
-WhereTold step (Some before) (Some now) = step before now
+-- What a run leaves in each target; standard error has its own text, and then the message.
+pub record Leaves (words names : List (List ℕ)) (meant : Option serial.Command) (ended : Ended) (given : List Take) (Unwritten : Type 0) (before now : Held) : Type 0 where
+  pub each : (one : Target) → (one ≡ Stderr → ⊥) → LeavesFor meant ended given one (before one) (now one)
+  pub own : Option (List ℕ)
+  pub err : LeavesFor meant ended given Stderr (before Stderr) own
+  pub message : LeavesMessage (message_of words names (formats_for meant) ended) Unwritten own (now Stderr)
 
 -- What was taken, and what the outcome says of it: the inputs were opened and read in their order, no more
 -- than 2^60 bytes together, and what was taken is what the inputs report, where they report it.
@@ -102,7 +103,7 @@ pub record Ran (words names : List (List ℕ)) (formats : List Format) (ended : 
   pub formats_are : formats ≡ formats_for meant
   pub given : List Take
   pub takes : Takes meant ended given contents taken taken'
-  pub leaves : ChangesAt Stdout (outcomes.Leaves ended (text_for meant given)) held held'
+  pub each : WhereTold (λ before now. (one : Target) → LeavesFor meant ended given one (before one) (now one)) held held'
   pub whole : IfSome contents (λ told. IfSome taken (λ _. RanWhole ended meant told held held'))
 
 -- what each outcome says of the counts of the outputs

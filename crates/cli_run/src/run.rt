@@ -1,5 +1,5 @@
 //! The top call: a command line run on inputs and outputs.
-ghost use Rattle.std.specs.Prelude.{◌≡◌, ◌≤◌, ℕ, List, true};
+ghost use Rattle.std.specs.Prelude.{◌≡◌, ◌≤◌, ℕ, List, [], true};
 ghost use Rattle.mlr_event.specs.declared.names.InputName.{InputName};
 ghost use Rattle.mlr_event.specs.declared.names.Target.{Target};
 ghost use Rattle.mlr_event.specs.declared.names.Target.TheVariants.{Stdout};
@@ -7,8 +7,9 @@ ghost use Rattle.mlr_world.specs.Counts.{Counted, Rose};
 ghost use Rattle.outlet.specs.Represents.{CountedIf};
 ghost use Rattle.serial_core.specs.Answer.{IsOfNoInput, has_failed, is_refused, lacks_memory};
 ghost use Rattle.serial_core.specs.Command as serial;
-ghost use Rattle.serial_core.specs.Run.{HoldsFew, Run as SerialRun};
+ghost use Rattle.serial_core.specs.Run.{HoldsFew};
 ghost use Rattle.serial_core.specs.Represents.{InputCause};
+ghost use Rattle.chain_core.specs.PlanRun.{PlanRun};
 ghost use Rattle.cli_words.specs.declared.verbs.Asked.{Asked};
 ghost use Rattle.cli_words.specs.Grammar.{IsLine, Reads, names_of};
 ghost use Rattle.cli_run.specs.Answer.{RefusesWhere};
@@ -188,8 +189,8 @@ fn run_accepted<I: Inputs, O: Outputs>(
         × IsLine words.now command.formats verbs (names_of command words.now) }
     ensures run { (verbs : List Asked)
         → IsLine words.now command.formats verbs (names_of command words.now)
-        → SerialRun result (command_of command.formats verbs (names_of command words.now)
-        words.now) (I.contents inputs.old) (I.taken inputs.old) (I.taken inputs.new)
+        → PlanRun result (command_of command.formats verbs (names_of command words.now)
+        words.now) [] (I.contents inputs.old) (I.taken inputs.old) (I.taken inputs.new)
         (I.open_entry inputs.new) (O.held outputs.old) (O.held outputs.new) }
     ensures contents { I.contents inputs.new ≡ I.contents inputs.old }
     ensures input_cause { InputCause result (I.faults inputs.old) (I.faults inputs.new) }

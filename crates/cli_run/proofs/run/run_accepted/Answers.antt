@@ -1,7 +1,6 @@
 use Rattle.cli_words.specs.Grammar.{names_of}
-use Rattle.chain_core.proofs.Runs.{unread}
 use Rattle.cli_run.specs.Meaning.{command_of}
-use Rattle.cli_run.proofs.Sound.{command-of-plan}
+use Rattle.cli_run.proofs.Sound.{command-of-plan, unread-run}
 use Rattle.cli_run.proofs.run.run_accepted.Goals as goal
 
 pub returns-in-Ok-clause-run : goal.returns-in-Ok-clause-run
@@ -21,4 +20,4 @@ returns-in-Ok-clause-completes g c = λ verbs line.
 pub returns-in-Err-clause-run : goal.returns-in-Err-clause-run
 returns-in-Err-clause-run g c = λ verbs line.
     let words = c.args.words.now in
-    unread (command_of c.args.command.formats verbs (names_of c.args.command words) words) (g.I.Inputs.contents c.args.inputs.now) (g.I.Inputs.taken c.args.inputs.now) (g.I.Inputs.open_entry c.args.inputs.now) (g.O.Outputs.held c.args.outputs.now)
+    unread-run words c.args.command.formats verbs (names_of c.args.command words) (g.I.Inputs.contents c.args.inputs.now) (g.I.Inputs.taken c.args.inputs.now) (g.I.Inputs.open_entry c.args.inputs.now) (g.O.Outputs.held c.args.outputs.now)

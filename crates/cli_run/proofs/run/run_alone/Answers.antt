@@ -31,7 +31,7 @@ returns-clause-run g c =
       given = ran.given;
       takes = ran.takes;
       between = counts_between ended c.write_message.result f0 f1 f2 s0 s1 s2 c.run_line-ended.ensures.output_counts c.run_line-ended.ensures.shortages c.write_message.ensures.counts c.write_message.ensures.memory c.write_message.ensures.none;
-      leaves = leaves_all words names ran.meant ended ran.given c.write_message.result h0 h1 h2 f1 f2 s1 s2 c.write_message.ensures.counts c.write_message.ensures.memory ran.leaves message;
+      leaves = leaves_all words names ran.meant ended ran.given c.write_message.result h0 h1 h2 f1 f2 s1 s2 c.write_message.ensures.counts c.write_message.ensures.memory ran.each message;
       whole = whole-following ended ran.meant _ c.write_message.result h0 h1 h2 (g.I.Inputs.contents c.args.inputs) (g.I.Inputs.taken c.args.inputs) message ran.whole;
     }
 

@@ -38,7 +38,7 @@ returns-in-Accepted-clause-refused g c =
     let names = names_of c.in-Accepted.command words in
     let line = subst (Reads words) c.in-Accepted.is c.requires in
     let ran = c.run_accepted.ensures.run line.0 line.1 in
-    not-refused words formats line.0 names line.1 c.run_accepted.result (command_of formats line.0 names words) ran.given ran.says
+    not-refused words formats line.0 names line.1 c.run_accepted.result (command_of formats line.0 names words) ran.run.given ran.run.says
 
 pub returns-in-Accepted-clause-run : goal.returns-in-Accepted-clause-run
 returns-in-Accepted-clause-run g c =
@@ -73,4 +73,4 @@ returns-in-Accepted-clause-untouched g c = λ refused.
     let names = names_of c.in-Accepted.command words in
     let line = subst (Reads words) c.in-Accepted.is c.requires in
     let ran = c.run_accepted.ensures.run line.0 line.1 in
-    absurd (never-refused c.run_accepted.result (command_of formats line.0 names words) ran.given ran.says refused)
+    absurd (never-refused c.run_accepted.result (command_of formats line.0 names words) ran.run.given ran.run.says refused)
