@@ -12,8 +12,9 @@ bin/mlr: $(SOURCES)
 test:  ## prove everything from nothing, and run all tests (rt ci)
 	rt ci
 
-check: bin/mlr  ## run the built program on real files, pipes and devices
+check: bin/mlr  ## run the built program on real files, pipes and devices, and the examples of the documents
 	tests/program bin/mlr
+	tests/documents bin/mlr
 
 install: bin/mlr  ## copy the program to PREFIX/bin
 	install -D -m 755 bin/mlr $(DESTDIR)$(PREFIX)/bin/mlr
