@@ -16,8 +16,9 @@ check: bin/mlr  ## run the built program on real files, pipes and devices, and t
 	tests/program bin/mlr
 	tests/documents bin/mlr
 
-install: bin/mlr  ## copy the program to PREFIX/bin
+install: bin/mlr  ## copy the program to PREFIX/bin, and its manual page to PREFIX/share/man
 	install -D -m 755 bin/mlr $(DESTDIR)$(PREFIX)/bin/mlr
+	install -D -m 644 man/mlr.1 $(DESTDIR)$(PREFIX)/share/man/man1/mlr.1
 
 help:  ## list the targets
 	@echo 'make: prove and build bin/mlr, if a source has changed'
