@@ -24,7 +24,7 @@ use Rattle.chain_core.specs.PlanRun.{PlanRun}
 use Rattle.chain_core.specs.Plans.{verbs_of}
 use Rattle.chain_core.proofs.Plain.{are_plain, result-plain}
 
-no-pieces : (one : Target) (events : List Event) → are_plain events ≡ true → pieces_for one events ≡ []
+pub no-pieces : (one : Target) (events : List Event) → are_plain events ≡ true → pieces_for one events ≡ []
 no-pieces one [] plain = refl
 no-pieces one (event.Rec pairs ctx ∷ events) plain = no-pieces one events plain
 no-pieces one (event.Text text ∷ events) plain = no-pieces one events plain

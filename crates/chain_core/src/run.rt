@@ -39,7 +39,7 @@ pub fn run_serial<I: Inputs, O: Outputs>(
         Stdout }
     ensures shortages { CountedIf (lacks_memory result) (O.shortages outputs.old)
         (O.shortages outputs.new) }
-    // Where no input fails, and all hold fewer than 2^60 bytes, the outcome is of no input.
+    // Where no input fails, and all hold fewer than 2^60 bytes, the outcome is neither Read nor TooLong.
     ensures completes { (command : Command) → IsCommandOf plan.now command
         → HoldsFew command (I.contents inputs.old) (I.taken inputs.old)
         → ((name : InputName) → ¬ Rose (I.faults inputs.old name) (I.faults inputs.new name))

@@ -62,7 +62,7 @@ pub fn run_mlr<
         → O.faults outputs.old target ≤ O.faults outputs.new target }
     ensures output_cause { OutputCause result.0 (O.faults outputs.old) (O.faults outputs.new) }
 
-    // Where no input fails, and all hold fewer than 2^60 bytes together, the outcome is of no input.
+    // Where no input fails, and all hold fewer than 2^60 bytes together, the outcome is neither Read nor TooLong.
     ensures completes { (names : List (List ℕ)) (command : serial.Command)
         → IsCommandLine words.now names command
         → HoldsFew command (I.contents inputs) (I.taken inputs)
@@ -100,7 +100,7 @@ pub fn run_alone<I: Inputs + Drop, O: Outputs>(
         → O.faults outputs.old target ≤ O.faults outputs.new target }
     ensures output_cause { OutputCause result.0 (O.faults outputs.old) (O.faults outputs.new) }
 
-    // Where no input fails, and all hold fewer than 2^60 bytes together, the outcome is of no input.
+    // Where no input fails, and all hold fewer than 2^60 bytes together, the outcome is neither Read nor TooLong.
     ensures completes { (names : List (List ℕ)) (command : serial.Command)
         → IsCommandLine words.now names command
         → HoldsFew command (I.contents inputs) (I.taken inputs)
