@@ -1,86 +1,100 @@
--- What a run says of words, by what they were read as, and what it leaves with its message.
-use Rattle.std.proofs.Common.{◌≡◌, ℕ, true, List, [], ◌∷◌, ◌++◌, Option, Some, None, refl, ap, sym, subst, ◌∙◌, arith}
+-- What a run says of what words come to, and what it leaves with its message.
+use Rattle.std.proofs.Common.{◌≡◌, ℕ, true, false, List, [], ◌∷◌, ◌++◌, drop, Option, Some, None, refl, ap, sym, subst, ◌∙◌, arith}
 use Rattle.std.specs.Prelude.{IfSome}
 use Rattle.std.specs.Option.{option_map}
-use Rattle.std.proofs.lemmas.Bool.{false≢true}
 use Rattle.read_files.specs.Takes.{ArePrefixesTaken}
 use Rattle.mlr_event.specs.declared.names.Target.{Target}
-use Rattle.mlr_event.specs.declared.names.Target.TheVariants.{Stdout, Stderr}
+use Rattle.mlr_event.specs.declared.names.Target.TheVariants.{Stdout, Stderr, File}
 use Rattle.mlr_world.specs.Inputs.{Contents}
 use Rattle.mlr_world.specs.Outputs.{Held, ChangesAt}
 use Rattle.mlr_world.specs.Taken.{Take, OpenEntry}
 use Rattle.mlr_world.specs.declared.outputs.Done.{Done}
 use Rattle.serial_core.specs.declared.answer.Ended.{Ended}
 use Rattle.serial_core.specs.declared.answer.Ended.TheVariants as answer
-use Rattle.serial_core.specs.declared.answer.Refusal.{Refusal}
-use Rattle.serial_core.specs.declared.answer.Why.TheVariants as why
 use Rattle.serial_core.specs.Answer.{IsOfNoInput, is_refused}
 use Rattle.serial_core.specs.Command as serial
 use Rattle.serial_core.proofs.Running.{following-none}
 use Rattle.serial_core.specs.Run.{HoldsFew}
 use Rattle.serial_core.specs.Whole.{Gets, whole_of}
 use Rattle.serial_core.specs.Represents as outcomes
-use Rattle.cli_words.specs.declared.flags.Formats.{Formats}
-use Rattle.cli_words.specs.declared.verbs.Asked.{Asked}
-use Rattle.cli_words.specs.Grammar.{IsLine, IsRefusedAt}
-use Rattle.cli_words.proofs.Readings.{one-place, one-reading}
-use Rattle.cli_run.specs.Answer.{RefusesWhere}
-use Rattle.cli_run.specs.Meaning.{IsCommandLine, command_of}
-use Rattle.cli_run.specs.Message.{Appends}
-use Rattle.cli_run.specs.Run.{OfWhole, Ran, RanWhole, Stops}
-use Rattle.chain_core.specs.Outputs.{WhereTold}
+use Rattle.chain_core.specs.Outputs.{LeavesEach, WhereTold, clear}
 use Rattle.chain_core.specs.PlanRun.{PlanRun}
-
--- Refused comes with the one word at which words are refused
-refusal-is : (number : ℕ) (refusal : Refusal) → answer.Refused (record { word = number; why = why.NotBuilt }) ≡ answer.Refused refusal → number ≡ refusal.word
-refusal-is number refusal is = ap (λ r. r.word) (let e : record { word = number; why = why.NotBuilt } ≡ refusal = cc in e)
-
-pub refused-there : (words : List (List ℕ)) (number : ℕ) → IsRefusedAt words number → RefusesWhere words (answer.Refused (record { word = number; why = why.NotBuilt }))
-refused-there words number at = record {
-  only = λ refusal is. subst (IsRefusedAt words) (refusal-is number refusal is) at;
-  always = λ other there. ap (λ n. answer.Refused (record { word = n; why = why.NotBuilt })) (one-place words number other at there);
-}
+use Rattle.chain_core.specs.Plans.{IsCommandOf}
+use Rattle.chain_core.specs.declared.plan.Plan.{Plan}
+use Rattle.cli_plan.specs.declared.planned.Planned.{Planned}
+use Rattle.cli_plan.specs.declared.planned.Planned.TheVariants as planned
+use Rattle.cli_run.specs.Meaning.{Answers, Runs}
+use Rattle.cli_run.specs.Message.{Appends}
+use Rattle.cli_run.specs.Run.{LeavesFor, LeavesText, OfWhole, Ran, RanWhole, Stops, Takes}
 
 -- where a command was run the outcome isn't Refused
-pub never-refused : (ended : Ended) (command : serial.Command) (given : List Take) → outcomes.Says ended command given → is_refused ended ≡ true → ⊥
-never-refused answer.Done command given says is = false≢true is
-never-refused (answer.Refused refusal) command given says is = says
-never-refused (answer.Data fault) command given says is = false≢true is
-never-refused (answer.Read name) command given says is = false≢true is
-never-refused (answer.Written target) command given says is = false≢true is
-never-refused answer.TooLong command given says is = false≢true is
-never-refused answer.NoMemory command given says is = false≢true is
+pub never-refused : (ended : Ended) (command : serial.Command) (given : List Take) → outcomes.Says ended command given → is_refused ended ≡ false
+never-refused answer.Done command given says = refl
+never-refused (answer.Refused refusal) command given says = absurd says
+never-refused (answer.Data fault) command given says = refl
+never-refused (answer.Read name) command given says = refl
+never-refused (answer.Written target) command given says = refl
+never-refused answer.TooLong command given says = refl
+never-refused answer.NoMemory command given says = refl
 
-pub not-refused : (words : List (List ℕ)) (formats : Formats) (verbs : List Asked) (names : List (List ℕ)) → IsLine words formats verbs names
-    → (ended : Ended) (command : serial.Command) (given : List Take) → outcomes.Says ended command given → RefusesWhere words ended
-not-refused words formats verbs names line ended command given says = record {
-  only = λ refusal is. absurd (subst (λ e. outcomes.Says e command given) is says);
-  always = λ number at. absurd (at.none formats verbs names line);
-}
-
--- a run of words that are refused: nothing was taken or written
+-- where nothing is run nothing was taken
 told-nothing : (contents : Option Contents) (taken : Option (List Take)) → IfSome contents (λ told. IfSome taken (λ _. Stops None told []))
 told-nothing None taken = tt
 told-nothing (Some told) None = tt
 told-nothing (Some told) (Some takes) = tt
 
-told-same : (held : Option Held) → WhereTold (λ before now. (one : Target) → now one ≡ before one) held held
-told-same None = tt
-told-same (Some held) = λ one. refl
+apart : Stdout ≡ Stderr → ⊥
+apart e = cc
 
-pub ran-refused : (words : List (List ℕ)) (number : ℕ) → IsRefusedAt words number → (contents : Option Contents) (taken : Option (List Take)) (name : Option OpenEntry) (held : Option Held)
-    → Ran words [] [] (answer.Refused (record { word = number; why = why.NotBuilt })) contents taken taken held held
-ran-refused words number at contents taken name held =
+abbrev takes-none : (ended : Ended) (contents : Option Contents) (taken : Option (List Take)) (name : Option OpenEntry) → Takes None ended [] contents taken taken
+takes-none ended contents taken name =
     let none = following-none contents taken name in
-    record {
-      meant = None;
-      means = (number, at, refl);
-      formats_are = refl;
-      given = [];
-      takes = record { order = tt; few = omega arith; entries = none.entries; prefixes = none.prefixes; says = refl; early = told-nothing contents taken };
-      whole = told-nothing contents taken;
-      each = told-same held;
-    }
+    record { order = tt; few = omega arith; entries = none.entries; prefixes = none.prefixes; says = refl; early = told-nothing contents taken }
+
+-- words that come to nothing that is run or said
+pub ran-none : (come : Planned) (ended : Ended) (Quiet : Type 0) → Answers come ended → Runs come None → ((one : Target) (before : Option (List ℕ)) → LeavesFor come None ended [] one before before)
+    → (contents : Option Contents) (taken : Option (List Take)) (name : Option OpenEntry) (held : Option Held) → Ran come ended Quiet contents taken taken held held
+ran-none come ended Quiet answers runs leaves contents taken name held = record {
+  answers = answers;
+  meant = None;
+  runs = runs;
+  given = [];
+  takes = takes-none ended contents taken name;
+  each = each held;
+  whole = told-nothing contents taken;
+  completes = tt;
+}
+  where
+    each : (held : Option Held) → WhereTold (λ before now. (one : Target) → LeavesFor come None ended [] one (before one) (now one)) held held
+    each None = tt
+    each (Some told) = λ one. leaves one (told one)
+
+-- what a text leaves in each target
+said-each : (text : List ℕ) (ended : Ended) (before now : Option Held) → ChangesAt Stdout (LeavesText text ended Stdout) before now
+    → WhereTold (λ before now. (one : Target) → LeavesText text ended one (before one) (now one)) before now
+said-each text ended None None changes = tt
+said-each text ended None (Some now) changes = changes
+said-each text ended (Some before) None changes = changes
+said-each text ended (Some before) (Some now) changes = λ one. at one
+  where
+    at : (one : Target) → LeavesText text ended one (before one) (now one)
+    at Stdout = changes.here
+    at Stderr = changes.elsewhere Stderr (λ e. apart (sym e))
+    at (File name) = changes.elsewhere (File name) (λ e. let none : ⊥ = cc in none)
+
+pub ran-said : (text : List ℕ) (ended : Ended) (Quiet : Type 0) → Answers (planned.Say text) ended
+    → (contents : Option Contents) (taken : Option (List Take)) (name : Option OpenEntry) (held held' : Option Held) → ChangesAt Stdout (LeavesText text ended Stdout) held held'
+    → Ran (planned.Say text) ended Quiet contents taken taken held held'
+ran-said text ended Quiet answers contents taken name held held' changes = record {
+  answers = answers;
+  meant = None;
+  runs = tt;
+  given = [];
+  takes = takes-none ended contents taken name;
+  each = said-each text ended held held' changes;
+  whole = told-nothing contents taken;
+  completes = tt;
+}
 
 -- what holds where takes are known, before and now
 told-before : (contents : Option Contents) (taken taken' : Option (List Take)) (given : List Take) (P : Contents → Type 0) → taken' ≡ option_map (λ before. before ++ given) taken
@@ -89,14 +103,14 @@ told-before None taken taken' given P is holds = tt
 told-before (Some told) None taken' given P is holds = tt
 told-before (Some told) (Some before) taken' given P is holds = subst (λ t. IfSome t (λ _. P told)) is holds
 
--- a run of a command line
-pub ran-line : (words names : List (List ℕ)) (command : serial.Command) → IsCommandLine words names command
-    → (ended : Ended) (contents : Option Contents) (taken taken' : Option (List Take)) (name' : Option OpenEntry) (held held' : Option Held) → PlanRun ended command [] contents taken taken' name' held held'
-    → Ran words names (command.write.format ∷ []) ended contents taken taken' held held'
-ran-line words names command is ended contents taken taken' name' held held' r = record {
+-- a run of a plan
+pub ran-plan : (plan : Plan) (command : serial.Command) (is : IsCommandOf plan command) (ended : Ended) (Quiet : Type 0) (contents : Option Contents) (taken taken' : Option (List Take)) (name' : Option OpenEntry) (held held' : Option Held)
+    → PlanRun ended command is.rest contents taken taken' name' held held' → (HoldsFew command contents taken → Quiet → IsOfNoInput ended)
+    → Ran (planned.Ok plan) ended Quiet contents taken taken' held held'
+ran-plan plan command is ended Quiet contents taken taken' name' held held' r completes = record {
+  answers = never-refused ended command r.run.given r.run.says;
   meant = Some command;
-  means = is;
-  formats_are = refl;
+  runs = is;
   given = r.run.given;
   takes = record {
     order = r.run.order;
@@ -106,23 +120,10 @@ ran-line words names command is ended contents taken taken' name' held held' r =
     says = r.run.says;
     early = r.run.early;
   };
-  each = r.each;
+  each = subst (λ others. LeavesEach ended command.write others (clear (serial.result command r.run.given)) held held') (sym (ap (drop 1) is.write)) r.each;
   whole = r.run.whole;
+  completes = completes;
 }
-
--- the one command that a line means
-pub command-is : (words : List (List ℕ)) (formats : Formats) (verbs : List Asked) (names names' : List (List ℕ)) (command : serial.Command) → IsLine words formats verbs names → IsCommandLine words names' command
-    → command_of formats verbs names words ≡ command
-command-is words formats verbs names names' command line is =
-    let same = one-reading words formats is.formats verbs is.verbs names names' line is.line in
-    ap (λ f. command_of f verbs names words) same.0 ∙ ap (λ vs. command_of is.formats vs names words) same.1 ∙ ap (λ ns. command_of is.formats is.verbs ns words) same.2 ∙ sym is.command_is
-
--- where these hold, the outcome is of no input
-abbrev pub CompletesAs : Type 0 → Ended → Option Contents → Option (List Take) → serial.Command → Type 0
-CompletesAs Quiet ended contents taken command = HoldsFew command contents taken → Quiet → IsOfNoInput ended
-
-apart : Stdout ≡ Stderr → ⊥
-apart e = cc
 
 -- a message leaves what standard output got
 told-following : (step : Option (List ℕ) → Option (List ℕ) → Type 0) (message : List ℕ) (result : Done) (h0 h1 h2 : Option Held)

@@ -1,4 +1,3 @@
-pub mod Sound
 pub mod Answering
 pub mod Top
 pub mod Messages

@@ -1,5 +1,5 @@
 -- The message of each outcome, one line on standard error.
-use Rattle.std.specs.Prelude.{◌≡◌, ℕ, Bool, true, false, List, [], ◌∷◌, codes, slice_index_or, Option}
+use Rattle.std.specs.Prelude.{◌≡◌, ℕ, ◌-◌, ◌==◌, if◌then◌else◌, Bool, true, false, List, [], ◌∷◌, codes, slice_get, slice_index_or, Option, Some, None}
 use Rattle.std.specs.List.{flat_map}
 use Rattle.std.specs.Fmt.{decimal}
 use Rattle.mlr_event.specs.declared.fault.Fault.{Fault}
@@ -23,6 +23,7 @@ use Rattle.serial_core.specs.declared.answer.Ended.TheVariants as answer
 use Rattle.serial_core.specs.declared.answer.Refusal.{Refusal}
 use Rattle.serial_core.specs.declared.answer.Why.{Why}
 use Rattle.serial_core.specs.declared.answer.Why.TheVariants as why
+use Rattle.writers.specs.declared.options.WriteOpts.{WriteOpts}
 use Rattle.cli_run.specs.Meaning.{word_at}
 
 abbrev pub input_text : InputName → List ℕ
@@ -34,14 +35,13 @@ target_text target.Stdout = codes "(stdout)"
 target_text target.Stderr = codes "(stderr)"
 target_text (target.File name) = name
 
--- the name of the input with this number: standard input's where no file is named
-abbrev pub named : List (List ℕ) → ℕ → List ℕ
-named [] number = codes "(stdin)"
-named (name ∷ names) number = word_at (name ∷ names) number
+-- the name of the input with this number from 1; none of number 0 or past the last
+abbrev pub named : List InputName → ℕ → List ℕ
+named inputs number = if number == 0 then [] else elim (slice_get inputs (number - 1)) [ Some name ↦ input_text name | None ↦ [] ]
 
-abbrev pub file_text : List (List ℕ) → FileRef → List ℕ
-file_text names (Main number) = named names number
-file_text names (Left verb) = []
+abbrev pub file_text : List InputName → FileRef → List ℕ
+file_text inputs (Main number) = named inputs number
+file_text inputs (Left verb) = []
 
 -- a fault in an input
 abbrev pub line_pieces : List ℕ → ℕ → List ℕ → List (List ℕ)
@@ -77,28 +77,28 @@ format_text Xtab = codes "xtab"
 format_text Pprint = codes "pprint"
 format_text Markdown = codes "markdown"
 
-abbrev pub style_text : List Format → StyleId → List ℕ
+abbrev pub style_text : List WriteOpts → StyleId → List ℕ
 style_text [] style = []
-style_text (format ∷ formats) style = format_text (slice_index_or (format ∷ formats) style.0 format)
+style_text (first ∷ styles) style = format_text (slice_index_or (first ∷ styles) style.0 first).format
 
 abbrev pub output_pieces : List ℕ → List ℕ → List ℕ → List ℕ → List ℕ → List (List ℕ)
 output_pieces name first_mode first second_mode second =
     codes "mlr: output " ∷ name ∷ codes ": first " ∷ first_mode ∷ first ∷ codes ", then " ∷ second_mode ∷ second ∷ codes "\n" ∷ []
 
-abbrev pub fault_pieces : List (List ℕ) → List Format → Fault → List (List ℕ)
-fault_pieces names formats (fault.Length file line want have) = length_pieces (file_text names file) line want have
-fault_pieces names formats (fault.Quote file line) = line_pieces (file_text names file) line (codes ": unclosed quote\n")
-fault_pieces names formats (fault.Table file line) = line_pieces (file_text names file) line (codes ": bad table line\n")
-fault_pieces names formats (fault.JsonSyntax file byte) = byte_pieces (file_text names file) byte (codes ": bad JSON\n")
-fault_pieces names formats (fault.JsonDeep file byte) = byte_pieces (file_text names file) byte (codes ": nested deeper than 100\n")
-fault_pieces names formats (fault.JsonKind file byte) = byte_pieces (file_text names file) byte (codes ": not a map\n")
-fault_pieces names formats (fault.Turns verb nr limit) = turns_pieces verb nr limit
-fault_pieces names formats (fault.Depth verb nr) = verb_pieces verb nr (codes ": call limit 500 reached") [] (codes "\n")
-fault_pieces names formats (fault.Assert verb nr name) = verb_pieces verb nr (codes ": assertion ") name (codes " failed\n")
-fault_pieces names formats (fault.WrongType verb nr name) = verb_pieces verb nr (codes ": wrong type for ") name (codes "\n")
-fault_pieces names formats (fault.Index verb nr) = verb_pieces verb nr (codes ": bad index") [] (codes "\n")
-fault_pieces names formats (fault.OutputTwice name first_mode first second_mode second) =
-    output_pieces name (mode_text first_mode) (style_text formats first) (mode_text second_mode) (style_text formats second)
+abbrev pub fault_pieces : List InputName → List WriteOpts → Fault → List (List ℕ)
+fault_pieces inputs styles (fault.Length file line want have) = length_pieces (file_text inputs file) line want have
+fault_pieces inputs styles (fault.Quote file line) = line_pieces (file_text inputs file) line (codes ": unclosed quote\n")
+fault_pieces inputs styles (fault.Table file line) = line_pieces (file_text inputs file) line (codes ": bad table line\n")
+fault_pieces inputs styles (fault.JsonSyntax file byte) = byte_pieces (file_text inputs file) byte (codes ": bad JSON\n")
+fault_pieces inputs styles (fault.JsonDeep file byte) = byte_pieces (file_text inputs file) byte (codes ": nested deeper than 100\n")
+fault_pieces inputs styles (fault.JsonKind file byte) = byte_pieces (file_text inputs file) byte (codes ": not a map\n")
+fault_pieces inputs styles (fault.Turns verb nr limit) = turns_pieces verb nr limit
+fault_pieces inputs styles (fault.Depth verb nr) = verb_pieces verb nr (codes ": call limit 500 reached") [] (codes "\n")
+fault_pieces inputs styles (fault.Assert verb nr name) = verb_pieces verb nr (codes ": assertion ") name (codes " failed\n")
+fault_pieces inputs styles (fault.WrongType verb nr name) = verb_pieces verb nr (codes ": wrong type for ") name (codes "\n")
+fault_pieces inputs styles (fault.Index verb nr) = verb_pieces verb nr (codes ": bad index") [] (codes "\n")
+fault_pieces inputs styles (fault.OutputTwice name first_mode first second_mode second) =
+    output_pieces name (mode_text first_mode) (style_text styles first) (mode_text second_mode) (style_text styles second)
 
 -- what is wrong with a word, and whether its message shows the word
 abbrev pub what_text : Why → List ℕ
@@ -134,18 +134,18 @@ word_pieces true number what word = codes "mlr: word " ∷ decimal number ∷ co
 abbrev pub refusal_pieces : List (List ℕ) → Refusal → List (List ℕ)
 refusal_pieces words refusal = word_pieces (shows_word refusal.why) refusal.word (what_text refusal.why) (word_at words refusal.word)
 
--- the pieces of a message, by the words and the file names of a command line and the formats of its outputs
-abbrev pub pieces_of : List (List ℕ) → List (List ℕ) → List Format → Ended → List (List ℕ)
-pieces_of words names formats answer.Done = []
-pieces_of words names formats (answer.Refused refusal) = refusal_pieces words refusal
-pieces_of words names formats (answer.Data fault) = fault_pieces names formats fault
-pieces_of words names formats (answer.Read name) = codes "mlr: cannot read " ∷ input_text name ∷ codes "\n" ∷ []
-pieces_of words names formats (answer.Written target) = codes "mlr: cannot write " ∷ target_text target ∷ codes "\n" ∷ []
-pieces_of words names formats answer.TooLong = codes "mlr: input too long" ∷ [] ∷ codes "\n" ∷ []
-pieces_of words names formats answer.NoMemory = codes "mlr: out of memory" ∷ [] ∷ codes "\n" ∷ []
+-- the pieces of a message, by the words of a command line, its inputs and its styles
+abbrev pub pieces_of : List (List ℕ) → List InputName → List WriteOpts → Ended → List (List ℕ)
+pieces_of words inputs styles answer.Done = []
+pieces_of words inputs styles (answer.Refused refusal) = refusal_pieces words refusal
+pieces_of words inputs styles (answer.Data fault) = fault_pieces inputs styles fault
+pieces_of words inputs styles (answer.Read name) = codes "mlr: cannot read " ∷ input_text name ∷ codes "\n" ∷ []
+pieces_of words inputs styles (answer.Written target) = codes "mlr: cannot write " ∷ target_text target ∷ codes "\n" ∷ []
+pieces_of words inputs styles answer.TooLong = codes "mlr: input too long" ∷ [] ∷ codes "\n" ∷ []
+pieces_of words inputs styles answer.NoMemory = codes "mlr: out of memory" ∷ [] ∷ codes "\n" ∷ []
 
-abbrev pub message_of : List (List ℕ) → List (List ℕ) → List Format → Ended → List ℕ
-message_of words names formats ended = flat_map (λ piece. piece) (pieces_of words names formats ended)
+abbrev pub message_of : List (List ℕ) → List InputName → List WriteOpts → Ended → List ℕ
+message_of words inputs styles ended = flat_map (λ piece. piece) (pieces_of words inputs styles ended)
 
 -- a target after a text was written to it in pieces: all of it, or a prefix where a call couldn't write
 abbrev pub Appends : List ℕ → Done → Option (List ℕ) → Option (List ℕ) → Type 0

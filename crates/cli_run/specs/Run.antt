@@ -1,9 +1,9 @@
 -- What a run of a command line does to the inputs and the outputs, by its outcome.
-use Rattle.std.specs.Prelude.{◌≡◌, ◌⊎◌, ℕ, ◌≤◌, ◌^◌, List, [], ◌++◌, Option, Some, None, IfSome}
+use Rattle.std.specs.Prelude.{◌≡◌, ◌⊎◌, ℕ, ◌≤◌, ◌^◌, List, [], ◌++◌, drop, Option, Some, None, IfSome}
 use Rattle.std.specs.Option.{option_map}
 use Rattle.mlr_event.specs.declared.options.Format.{Format}
 use Rattle.mlr_event.specs.declared.names.Target.{Target}
-use Rattle.mlr_event.specs.declared.names.Target.TheVariants.{Stdout, Stderr}
+use Rattle.mlr_event.specs.declared.names.Target.TheVariants.{Stdout, Stderr, File}
 use Rattle.mlr_world.specs.Counts.{Counted, Rose}
 use Rattle.mlr_world.specs.Inputs.{Contents}
 use Rattle.mlr_world.specs.Outputs.{Held, with_bytes}
@@ -12,18 +12,21 @@ use Rattle.outlet.specs.Represents.{AppendsPrefix, CountedIf}
 use Rattle.read_files.specs.Takes.{ArePrefixesTaken, InOrder, total}
 use Rattle.serial_core.specs.declared.answer.Ended.{Ended}
 use Rattle.serial_core.specs.declared.answer.Ended.TheVariants as answer
-use Rattle.serial_core.specs.Answer.{has_failed, lacks_memory}
+use Rattle.serial_core.specs.Answer.{IsOfNoInput, has_failed, lacks_memory}
 use Rattle.serial_core.specs.Command as serial
-use Rattle.serial_core.specs.Run.{StopsEarly}
+use Rattle.serial_core.specs.Run.{HoldsFew, StopsEarly}
 use Rattle.serial_core.specs.Whole as all
 use Rattle.serial_core.specs.Whole.{Gets, IsVerdict, whole_of}
 use Rattle.serial_core.specs.Represents as outcomes
 use Rattle.chain_core.specs.Outputs as outputs
 use Rattle.chain_core.specs.Outputs.{WhereTold, clear}
-use Rattle.cli_run.specs.Meaning.{Means, formats_for, inputs_for}
+use Rattle.cli_plan.specs.declared.planned.Planned.{Planned}
+use Rattle.cli_plan.specs.declared.planned.Planned.TheVariants as planned
+use Rattle.cli_plan.specs.Planning.{Plans}
+use Rattle.cli_run.specs.Meaning.{Answers, Runs, inputs_for, inputs_named, styles_named}
 use Rattle.cli_run.specs.Message.{message_of}
 
--- what an outcome says of what was taken of the inputs: nothing was, where the words are refused
+-- what an outcome says of what was taken of the inputs: nothing was, where nothing is run
 abbrev pub Says : Ended → Option serial.Command → List Take → Type 0
 Says ended None given = given ≡ []
 Says ended (Some command) given = outcomes.Says ended command given
@@ -52,17 +55,31 @@ IsCut ended faults faults' shortages shortages' between = Rose (between.faults_b
 abbrev pub LeavesMessage : List ℕ → Type 0 → Option (List ℕ) → Option (List ℕ) → Type 0
 LeavesMessage message Unwritten before now = (now ≡ with_bytes message before) ⊎ (Unwritten × AppendsPrefix message before now)
 
--- what a run leaves in a target before its message: its text, and nothing where the words are refused
-abbrev pub LeavesFor : Option serial.Command → Ended → List Take → Target → Option (List ℕ) → Option (List ℕ) → Type 0
-LeavesFor None ended given one before now = now ≡ before
-LeavesFor (Some command) ended given one before now = outputs.LeavesFor ended command.write [] (clear (serial.result command given)) one before now
+-- what a text that the program says leaves in a target: standard output has it, or a prefix of it where a call couldn't
+-- write
+abbrev pub LeavesText : List ℕ → Ended → Target → Option (List ℕ) → Option (List ℕ) → Type 0
+LeavesText text ended Stderr before now = now ≡ before
+LeavesText text ended (File name) before now = now ≡ before
+LeavesText text answer.Done Stdout before now = now ≡ with_bytes text before
+LeavesText text ended Stdout before now = AppendsPrefix text before now
+
+-- what is left in a target where nothing is run: the text that words ask for, or what was there
+abbrev pub LeavesSaid : Planned → Ended → Target → Option (List ℕ) → Option (List ℕ) → Type 0
+LeavesSaid (planned.Say text) ended one before now = LeavesText text ended one before now
+LeavesSaid planned ended one before now = now ≡ before
+
+-- what a run leaves in a target before its message
+abbrev pub LeavesFor : Planned → Option serial.Command → Ended → List Take → Target → Option (List ℕ) → Option (List ℕ) → Type 0
+LeavesFor planned None ended given one before now = LeavesSaid planned ended one before now
+LeavesFor planned (Some command) ended given one before now =
+    outputs.LeavesFor ended command.write (drop 1 (styles_named planned)) (clear (serial.result command given)) one before now
 
 -- What a run leaves in each target; standard error has its own text, and then the message.
-pub record Leaves (words names : List (List ℕ)) (meant : Option serial.Command) (ended : Ended) (given : List Take) (Unwritten : Type 0) (before now : Held) : Type 0 where
-  pub each : (one : Target) → (one ≡ Stderr → ⊥) → LeavesFor meant ended given one (before one) (now one)
+pub record Leaves (words : List (List ℕ)) (planned : Planned) (meant : Option serial.Command) (ended : Ended) (given : List Take) (Unwritten : Type 0) (before now : Held) : Type 0 where
+  pub each : (one : Target) → (one ≡ Stderr → ⊥) → LeavesFor planned meant ended given one (before one) (now one)
   pub own : Option (List ℕ)
-  pub err : LeavesFor meant ended given Stderr (before Stderr) own
-  pub message : LeavesMessage (message_of words names (formats_for meant) ended) Unwritten own (now Stderr)
+  pub err : LeavesFor planned meant ended given Stderr (before Stderr) own
+  pub message : LeavesMessage (message_of words (inputs_named planned) (styles_named planned) ended) Unwritten own (now Stderr)
 
 -- What was taken, and what the outcome says of it: the inputs were opened and read in their order, no more
 -- than 2^60 bytes together, and what was taken is what the inputs report, where they report it.
@@ -81,30 +98,40 @@ OfWhole ended None told held held' = Unit {0}
 OfWhole ended (Some command) told held held' =
     IsVerdict ended command (whole_of told (serial.names_of command.origin)) × WhereTold (λ before now. Gets ended (serial.text command (whole_of told (serial.names_of command.origin))) (before Stdout) (now Stdout)) held held'
 
--- A run: what the words mean, what was taken, and what it leaves; and the same by all that the inputs hold.
-pub record Run (words : List (List ℕ)) (ended : Ended) (contents : Option Contents) (taken taken' : Option (List Take)) (held held' : Option Held) (faults faults' : Target → ℕ) (shortages shortages' : ℕ) : Type 0 where
-  pub names : List (List ℕ)
+-- where no input fails, and all hold fewer than 2^60 bytes together, the outcome is neither Read nor TooLong
+abbrev pub Completes : Option serial.Command → Type 0 → Ended → Option Contents → Option (List Take) → Type 0
+Completes None Quiet ended contents taken = Unit {0}
+Completes (Some command) Quiet ended contents taken = HoldsFew command contents taken → Quiet → IsOfNoInput ended
+
+-- A run: what the words come to and what is run for them, what was taken, and what the run leaves; and the same by all
+-- that the inputs hold. `Quiet` says that no call on an input failed.
+pub record Run (words : List (List ℕ)) (ended : Ended) (Quiet : Type 0) (contents : Option Contents) (taken taken' : Option (List Take)) (held held' : Option Held) (faults faults' : Target → ℕ) (shortages shortages' : ℕ) : Type 0 where
+  pub planned : Planned
+  pub plans : Plans words planned
+  pub answers : Answers planned ended
   pub meant : Option serial.Command
-  pub means : Means words names meant
+  pub runs : Runs planned meant
   pub given : List Take
   pub takes : Takes meant ended given contents taken taken'
   pub between : Between ended faults faults' shortages shortages'
-  pub leaves : WhereTold (Leaves words names meant ended given (IsCut ended faults faults' shortages shortages' between)) held held'
+  pub leaves : WhereTold (Leaves words planned meant ended given (IsCut ended faults faults' shortages shortages' between)) held held'
   pub whole : IfSome contents (λ told. IfSome taken (λ _. OfWhole ended meant told held held'))
+  pub completes : Completes meant Quiet ended contents taken
 
 abbrev pub RanWhole : Ended → Option serial.Command → Contents → Option Held → Option Held → Type 0
 RanWhole ended None told held held' = Unit {0}
 RanWhole ended (Some command) told held held' = all.OfWhole ended command told held held'
 
 -- The same before its message.
-pub record Ran (words names : List (List ℕ)) (formats : List Format) (ended : Ended) (contents : Option Contents) (taken taken' : Option (List Take)) (held held' : Option Held) : Type 0 where
+pub record Ran (planned : Planned) (ended : Ended) (Quiet : Type 0) (contents : Option Contents) (taken taken' : Option (List Take)) (held held' : Option Held) : Type 0 where
+  pub answers : Answers planned ended
   pub meant : Option serial.Command
-  pub means : Means words names meant
-  pub formats_are : formats ≡ formats_for meant
+  pub runs : Runs planned meant
   pub given : List Take
   pub takes : Takes meant ended given contents taken taken'
-  pub each : WhereTold (λ before now. (one : Target) → LeavesFor meant ended given one (before one) (now one)) held held'
+  pub each : WhereTold (λ before now. (one : Target) → LeavesFor planned meant ended given one (before one) (now one)) held held'
   pub whole : IfSome contents (λ told. IfSome taken (λ _. RanWhole ended meant told held held'))
+  pub completes : Completes meant Quiet ended contents taken
 
 -- what each outcome says of the counts of the outputs
 abbrev pub OutputCause : Ended → (Target → ℕ) → (Target → ℕ) → Type 0

@@ -1,11 +1,10 @@
 //! The top call of `mlr`: it takes the words of the command line and the inputs and outputs, runs the command, and
-//! says how the run ended. What it makes of the words is the grammar of cli_words.
+//! says how the run ended. What the words mean is the plan of cli_plan.
 #![tactic(auto)]
 
 mod message;
-mod options;
-mod planning;
 mod run;
+mod say;
 #[cfg(test)]
 mod test_rows;
 #[cfg(test)]

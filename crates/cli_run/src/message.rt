@@ -10,9 +10,10 @@ ghost use Rattle.cli_run.specs.Meaning.{word_at};
 
 use chain_core::{Ended, Refusal, Why};
 use itoa::Buffer;
-use mlr_event::{Fault, FileRef, Format, InputName, Mode, StyleId, Target};
+use mlr_event::{Fault, FileRef, Format, InputName, Mode, NameList, StyleId, Target};
 use mlr_value::Bytes;
 use mlr_world::{Done, Outputs};
+use writers::WriteOpts;
 
 /// Room for the numbers of one message.
 #[derive(Drop)]
@@ -23,18 +24,18 @@ pub(crate) struct Digits {
 }
 
 /// Writes the message of an outcome to standard error, piece by piece from where its texts are. Numbers are
-/// formatted in the buffers, so that a message doesn't allocate. A message names a word, a file by its place among
-/// the file names, or a format by its place among the formats of the outputs.
+/// formatted in the buffers, so that a message doesn't allocate. A message names a word, an input by its place among
+/// the inputs, or a format by the place of its style.
 pub(crate) fn write_message<O: Outputs>(
     words: &[Bytes],
-    names: &[Bytes],
-    formats: &[Format],
+    inputs: &NameList,
+    styles: &[WriteOpts],
     ended: &Ended,
     digits: &mut Digits,
     outputs: &mut O,
 ) -> Done
     ensures none { ended.now ≡ Ended.Done → result ≡ Done.Ok }
-    ensures bytes { ChangesAt Stderr (Appends (message_of words.now names.now formats.now ended.now)
+    ensures bytes { ChangesAt Stderr (Appends (message_of words.now inputs.now styles.now ended.now)
         result) (O.held outputs.old) (O.held outputs.new) }
     ensures counts { Counted (call_failed result) (O.faults outputs.old) (O.faults outputs.new)
         Stderr }
@@ -44,25 +45,25 @@ pub(crate) fn write_message<O: Outputs>(
     if let Ended::Done = ended {
         return Done::Ok;
     }
-    let pieces = message_pieces(words, names, formats, ended, digits);
+    let pieces = message_pieces(words, inputs, styles, ended, digits);
     write_pieces(outputs, &pieces)
 }
 
 /// The pieces of the message of an outcome. Those that it doesn't need are empty.
 fn message_pieces<'a>(
     words: &'a [Bytes],
-    names: &'a [Bytes],
-    formats: &'a [Format],
+    inputs: &'a NameList,
+    styles: &'a [WriteOpts],
     ended: &'a Ended,
     digits: &'a mut Digits,
 ) -> [&'a [u8]; 9]
     ensures { flat_map (λ piece. piece.now) result
-        ≡ message_of words.now names.now formats.now ended.now }
+        ≡ message_of words.now inputs.now styles.now ended.now }
 {
     match ended {
         Ended::Done => [b""; 9],
         Ended::Refused(refusal) => return refusal_pieces(words, refusal, digits),
-        Ended::Data(fault) => return fault_pieces(names, formats, fault, digits),
+        Ended::Data(fault) => return fault_pieces(inputs, styles, fault, digits),
         Ended::Read(name) => one_line(b"mlr: cannot read ", input_text(name)),
         Ended::Written(target) => one_line(b"mlr: cannot write ", target_text(target)),
         Ended::TooLong => one_line(b"mlr: input too long", b""),
@@ -138,13 +139,13 @@ fn shows_word(why: &Why) -> bool
 
 /// The pieces of the message of a fault.
 fn fault_pieces<'a>(
-    names: &'a [Bytes],
-    formats: &'a [Format],
+    inputs: &'a NameList,
+    styles: &'a [WriteOpts],
     fault: &'a Fault,
     digits: &'a mut Digits,
 ) -> [&'a [u8]; 9]
     ensures { flat_map (λ piece. piece.now) result
-        ≡ flat_map (λ piece. piece) (fault_pieces names.now formats.now fault.now) }
+        ≡ flat_map (λ piece. piece) (fault_pieces inputs.now styles.now fault.now) }
 {
     match fault {
         Fault::Length {
@@ -152,10 +153,10 @@ fn fault_pieces<'a>(
             line,
             want,
             have,
-        } => { length_pieces(file_text(names, *file), *line, *want, *have, digits) }
+        } => { length_pieces(file_text(inputs, *file), *line, *want, *have, digits) }
         Fault::Quote { file, line } => {
             line_pieces(
-                file_text(names, *file),
+                file_text(inputs, *file),
                 *line,
                 b": unclosed quote\n",
                 digits,
@@ -163,25 +164,25 @@ fn fault_pieces<'a>(
         }
         Fault::Table { file, line } => {
             line_pieces(
-                file_text(names, *file),
+                file_text(inputs, *file),
                 *line,
                 b": bad table line\n",
                 digits,
             )
         }
         Fault::JsonSyntax { file, byte } => {
-            byte_pieces(file_text(names, *file), *byte, b": bad JSON\n", digits)
+            byte_pieces(file_text(inputs, *file), *byte, b": bad JSON\n", digits)
         }
         Fault::JsonDeep { file, byte } => {
             byte_pieces(
-                file_text(names, *file),
+                file_text(inputs, *file),
                 *byte,
                 b": nested deeper than 100\n",
                 digits,
             )
         }
         Fault::JsonKind { file, byte } => {
-            byte_pieces(file_text(names, *file), *byte, b": not a map\n", digits)
+            byte_pieces(file_text(inputs, *file), *byte, b": not a map\n", digits)
         }
         Fault::Turns { verb, nr, limit } => turns_pieces(*verb, *nr, *limit, digits),
         Fault::Depth { verb, nr } => {
@@ -217,9 +218,9 @@ fn fault_pieces<'a>(
         } => return output_pieces(
             name.as_slice(),
             mode_text(first_mode),
-            style_text(formats, *first),
+            style_text(styles, *first),
             mode_text(second_mode),
-            style_text(formats, *second),
+            style_text(styles, *second),
         ),
     }
 }
@@ -402,12 +403,12 @@ fn mode_text(mode: &Mode) -> &[u8]
     }
 }
 
-/// The name of the format of this row; the name of the first row's where there is none of this number.
-fn style_text(formats: &[Format], style: StyleId) -> &[u8]
-    ensures { result.now ≡ style_text formats.now style }
+/// The name of the format of this style; the name of the first style's where there is none of this number.
+fn style_text(styles: &[WriteOpts], style: StyleId) -> &[u8]
+    ensures { result.now ≡ style_text styles.now style }
 {
-    match formats.get(style.0 as usize).or(formats.first()) {
-        Some(format) => format_text(format),
+    match styles.get(style.0 as usize).or(styles.first()) {
+        Some(opts) => format_text(&opts.format),
         None => b"",
     }
 }
@@ -443,23 +444,25 @@ fn word_at(words: &[Bytes], number: u64) -> &[u8]
 }
 
 /// The name of an input of a command line; no bytes if it has none.
-fn file_text(names: &[Bytes], file: FileRef) -> &[u8]
-    ensures { result.now ≡ file_text names.now file }
+fn file_text(inputs: &NameList, file: FileRef) -> &[u8]
+    ensures { result.now ≡ file_text inputs.now file }
 {
     match file {
-        FileRef::Main(number) => named(names, number),
+        FileRef::Main(number) => named(inputs, number),
         FileRef::Left(_) => b"",
     }
 }
 
-/// The name of the input with this number: standard input's where no file is named.
-fn named(names: &[Bytes], number: u64) -> &[u8]
-    ensures { result.now ≡ named names.now number }
+/// The name of the input with this number from 1, or no bytes if there is none.
+fn named(inputs: &NameList, number: u64) -> &[u8]
+    ensures { result.now ≡ named inputs.now number }
 {
-    if names.is_empty() {
-        b"(stdin)"
-    } else {
-        word_at(names, number)
+    if number == 0 {
+        return b"";
+    }
+    match inputs.at((number - 1) as usize) {
+        Some(name) => input_text(name),
+        None => b"",
     }
 }
 

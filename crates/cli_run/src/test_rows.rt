@@ -122,8 +122,8 @@ pub(crate) const OTHERS: [Row; 14] = [
         "",
         0,
     ),
-    ("--ojson", "a=1\n", "", "mlr: word 2: not built: \n", 1),
-    ("--icsv --itsv", "a\n", "", "mlr: word 3: not built: \n", 1),
+    ("--ojson", "a=1\n", "", "mlr: word 2: no verb\n", 1),
+    ("--icsv --itsv", "a\n", "", "mlr: word 3: no verb\n", 1),
     (
         "--icsv sort cat",
         "a\n",
@@ -131,7 +131,13 @@ pub(crate) const OTHERS: [Row; 14] = [
         "mlr: word 2: not built: sort\n",
         1,
     ),
-    ("--md cat", "a\n", "", "mlr: word 1: not built: --md\n", 1),
+    (
+        "--md cat",
+        "a\n",
+        "",
+        "mlr: word 1: unknown flag: --md\n",
+        1,
+    ),
 ];
 
 /// The formats that are written, and later flags over earlier ones.
@@ -248,49 +254,41 @@ pub(crate) const NUMBERS: [Row; 6] = [
     ("seqgen --stop 5 --stop 1", "", "i=1\n", "", 0),
 ];
 
-/// Command lines that aren't accepted.
-pub(crate) const REFUSED: [Row; 14] = [
-    ("then", "", "", "mlr: word 1: not built: then\n", 1),
-    ("cat then", "", "", "mlr: word 3: not built: \n", 1),
-    ("cat then then", "", "", "mlr: word 3: not built: then\n", 1),
-    ("cat -n", "", "", "mlr: word 2: not built: -n\n", 1),
-    ("head -n", "", "", "mlr: word 3: not built: \n", 1),
-    ("head -n x", "", "", "mlr: word 3: not built: x\n", 1),
-    ("head -n -1", "", "", "mlr: word 3: not built: -1\n", 1),
-    ("head -n 0x1", "", "", "mlr: word 3: not built: 0x1\n", 1),
+/// Command lines that aren't accepted, and texts that the program says of itself.
+pub(crate) const REFUSED: [Row; 15] = [
+    ("then", "", "", "mlr: word 1: unknown verb: then\n", 1),
+    ("cat then", "", "", "mlr: word 3: no verb\n", 1),
+    ("cat -q", "", "", "mlr: word 2: unknown flag: -q\n", 1),
+    ("head -n", "", "", "mlr: word 2: missing argument: -n\n", 1),
+    ("cut -o", "", "", "mlr: word 1: missing argument: cut\n", 1),
+    ("head -n 0x1", "", "", "mlr: word 3: bad number: 0x1\n", 1),
     (
-        "head -n 9223372036854775808",
+        "--ifs lf cat",
         "",
         "",
-        "mlr: word 3: not built: 9223372036854775808\n",
+        "mlr: word 2: bad separator: lf\n",
         1,
     ),
     (
-        "cat then seqgen",
+        "grep ( then cta",
         "",
         "",
-        "mlr: word 3: not built: seqgen\n",
+        "mlr: word 2: bad pattern: (\n",
         1,
     ),
+    ("cat then seqgen", "", "", "mlr: word 3: clash: seqgen\n", 1),
     (
-        "seqgen --step 0 --step 1",
+        "--skip-comments --json cat",
         "",
         "",
-        "mlr: word 3: not built: 0\n",
-        1,
-    ),
-    (
-        "seqgen --stop 9223372036854775807",
-        "",
-        "",
-        "mlr: word 4: not built: \n",
+        "mlr: word 1: clash: --skip-comments\n",
         1,
     ),
     (
         "seqgen --stop 9223372036854775807 f",
         "",
         "",
-        "mlr: word 4: not built: f\n",
+        "mlr: word 2: bad number: --stop\n",
         1,
     ),
     (
@@ -298,6 +296,21 @@ pub(crate) const REFUSED: [Row; 14] = [
         "",
         "",
         "mlr: word 3: not built: sort\n",
+        1,
+    ),
+    ("--version", "", "mlr 6 whole-number profile\n", "", 0),
+    (
+        "-h cta",
+        "",
+        "usage: mlr {flags} {verb} {options} {then verb ..} {files}\n",
+        "",
+        0,
+    ),
+    (
+        "--icsv --from f --from g --opprint cut -r -f ^b cat",
+        "",
+        "",
+        "mlr: cannot read cat\n",
         1,
     ),
 ];

@@ -2,7 +2,21 @@
 use crate::test_rows::Row;
 
 /// A command line, its standard input and what it leaves.
-pub(crate) const WORKED: [Row; 26] = [
+pub(crate) const WORKED: [Row; 28] = [
+    (
+        "sec2gmt t",
+        "t=1500000000,u=hello\n",
+        "t=2017-07-14T02:40:00Z,u=hello\n",
+        "",
+        0,
+    ),
+    (
+        "--icsv --opprint cta",
+        "a\n",
+        "",
+        "mlr: word 3: unknown verb: cta\n",
+        1,
+    ),
     (
         "--ojson cat",
         "a=1,b=xyz\n",

@@ -1,0 +1,9 @@
+pub mod Numbers
+pub mod Separators
+pub mod Kinds
+pub mod Rows
+pub mod Flags
+pub mod Verbs
+pub mod Options
+pub mod Reading
+pub mod Grammar

@@ -1,0 +1,5 @@
+mod Clashing
+mod Compiling
+mod Passing
+mod Refusing
+mod Ruling

@@ -1,0 +1,53 @@
+-- Words of a verb that contradict each other.
+use Rattle.std.specs.Prelude.{ℕ, ◌%◌, ◌==◌, Bool, false, not, ◌&&◌, if◌then◌else◌, List, [], ◌∷◌, ◌++◌, length, Option, Some, None}
+use Rattle.std.specs.List.{list_any}
+use Rattle.std.specs.Str.{bytes_eq}
+use Rattle.cli_grammar.specs.Verbs.{row_of_verb}
+use Rattle.cli_grammar.specs.declared.given.Given.{Given}
+use Rattle.cli_grammar.specs.declared.given.VerbWords.{VerbWords}
+use Rattle.cli_grammar.specs.declared.verb_table.VerbName.{VerbName}
+use Rattle.cli_grammar.specs.declared.verb_table.VerbName.TheVariants as verb
+use Rattle.mlr_event.specs.Reading.{is_among}
+use Rattle.mlr_spec.specs.Pairs.{are_distinct}
+use Rattle.cli_verbs.specs.Choices.{own_word}
+use Rattle.cli_verbs.specs.Names.{all_names}
+
+-- whether two names are options of a group
+abbrev pub are_in : List ℕ → List ℕ → List (List ℕ) × Bool → Bool
+are_in name other group = is_among group.0 name && is_among group.0 other
+
+-- whether two names are different options of one group
+abbrev pub are_rivals : List (List (List ℕ) × Bool) → List ℕ → List ℕ → Bool
+are_rivals groups name other = not (bytes_eq name other) && list_any (are_in name other) groups
+
+-- the number of the first option that contradicts one before it
+abbrev pub clash_after : List (List (List ℕ) × Bool) → List Given → List Given → Option ℕ
+clash_after groups before [] = None
+clash_after groups before (given ∷ options) =
+    if list_any (λ other. are_rivals groups given.name other.name) before then Some given.number else clash_after groups (before ++ given ∷ []) options
+
+-- the number of the first option that contradicts an earlier one
+abbrev pub option_clash : VerbWords → Option ℕ
+option_clash given = clash_after (row_of_verb given.verb).groups [] given.options
+
+-- whether a name repeats
+abbrev pub has_repeated : VerbWords → Bool
+has_repeated given = not (are_distinct (all_names (own_word 0 given)))
+
+-- whether the last name has no name that replaces it
+abbrev pub is_odd_rename : VerbWords → Bool
+is_odd_rename given = length (all_names (own_word 0 given)) % 2 == 1
+
+-- whether the names of this verb contradict each other
+abbrev pub names_contradict : VerbName → VerbWords → Bool
+names_contradict verb.Label given = has_repeated given
+names_contradict verb.Rename given = is_odd_rename given
+names_contradict _ given = false
+
+-- the number of the names of this verb, where they contradict each other
+abbrev pub names_clash : VerbName → VerbWords → Option ℕ
+names_clash name given = if names_contradict name given then Some given.own else None
+
+-- the number of the first word that contradicts an earlier one
+abbrev pub clash_of : VerbWords → Option ℕ
+clash_of given = elim (option_clash given) [ Some number ↦ Some number | None ↦ names_clash given.verb given ]

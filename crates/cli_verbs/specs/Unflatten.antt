@@ -1,0 +1,12 @@
+-- The options of `unflatten`.
+use Rattle.std.specs.Prelude.{ℕ, List, codes}
+use Rattle.cli_grammar.specs.declared.given.VerbWords.{VerbWords}
+use Rattle.verbs_values.specs.declared.unflatten.Unflatten.{Unflatten}
+use Rattle.cli_verbs.specs.Choices.{separator_or}
+use Rattle.cli_verbs.specs.Names.{given_names}
+
+abbrev pub unflatten_of : List ℕ → VerbWords → Unflatten
+unflatten_of flatsep given = record {
+  names = given_names (codes "-f") given.options;
+  separator = separator_or flatsep given.options;
+}

@@ -1,0 +1,145 @@
+-- The verb that words give.
+use Rattle.std.specs.Prelude.{◌≡◌, ℕ, Bool, false, ◌==◌, if◌then◌else◌, List, [], ◌∷◌, length, codes}
+use Rattle.chain_core.specs.declared.verb_spec.VerbSpec.{VerbSpec}
+use Rattle.chain_core.specs.declared.verb_spec.VerbSpec.TheVariants.{Stream, Seq}
+use Rattle.cli_grammar.specs.Options.{has}
+use Rattle.cli_grammar.specs.declared.given.VerbWords.{VerbWords}
+use Rattle.cli_grammar.specs.declared.verb_table.VerbName.{VerbName}
+use Rattle.cli_grammar.specs.declared.verb_table.VerbName.TheVariants as verb
+use Rattle.serial_core.specs.declared.answer.Refusal.{Refusal}
+use Rattle.verbs_pattern.specs.declared.cut.Cut.{Cut}
+use Rattle.verbs_pattern.specs.declared.grep.Grep.{Grep}
+use Rattle.verbs_pattern.specs.declared.gsub.Gsub.{Gsub}
+use Rattle.verbs_pattern.specs.declared.having_fields.HavingFields.{HavingFields}
+use Rattle.verbs_pattern.specs.declared.rename.Rename.{Rename}
+use Rattle.verbs_pattern.specs.declared.sub.Sub.{Sub}
+use Rattle.verbs_seq.specs.Seq.{IsSoundSeq}
+use Rattle.verbs_stream.specs.declared.spec.Spec.TheVariants as stream
+use Rattle.cli_verbs.specs.PatternWords.{PatternWord, AreGoodPatterns, IsFirstRefused}
+use Rattle.cli_verbs.specs.Cat.{cat_of}
+use Rattle.cli_verbs.specs.Decimate.{decimate_of}
+use Rattle.cli_verbs.specs.FillDown.{fill_down_of}
+use Rattle.cli_verbs.specs.FillEmpty.{fill_empty_of}
+use Rattle.cli_verbs.specs.Flatten.{flatten_of}
+use Rattle.cli_verbs.specs.Gap.{gap_of}
+use Rattle.cli_verbs.specs.Head.{head_of}
+use Rattle.cli_verbs.specs.JsonParse.{json_parse_of}
+use Rattle.cli_verbs.specs.JsonStringify.{json_stringify_of}
+use Rattle.cli_verbs.specs.Label.{label_of}
+use Rattle.cli_verbs.specs.Reorder.{reorder_of}
+use Rattle.cli_verbs.specs.Repeat.{repeat_of}
+use Rattle.cli_verbs.specs.Sec2Gmt.{sec2gmt_of}
+use Rattle.cli_verbs.specs.Sec2GmtDate.{sec2gmtdate_of}
+use Rattle.cli_verbs.specs.SortWithinRecords.{sort_within_records_of}
+use Rattle.cli_verbs.specs.Sparsify.{sparsify_of}
+use Rattle.cli_verbs.specs.Ssub.{ssub_of}
+use Rattle.cli_verbs.specs.Template.{template_of}
+use Rattle.cli_verbs.specs.Unflatten.{unflatten_of}
+use Rattle.cli_verbs.specs.Unspace.{unspace_of}
+use Rattle.cli_verbs.specs.Cut.{cut_patterns, IsCutOf}
+use Rattle.cli_verbs.specs.Grep.{grep_patterns, IsGrepOf}
+use Rattle.cli_verbs.specs.Gsub.{IsGsubOf}
+use Rattle.cli_verbs.specs.HavingFields.{having_patterns, IsHavingFieldsOf}
+use Rattle.cli_verbs.specs.Rename.{rename_patterns, IsRenameOf}
+use Rattle.cli_verbs.specs.Sub.{IsSubOf}
+use Rattle.cli_verbs.specs.Seqgen.{seqgen_of, IsRefusedSeq}
+use Rattle.cli_verbs.specs.OwnPattern.{own_pattern, own_patterns}
+
+-- the spec is `cut` with these options
+abbrev pub IsStreamCut : VerbWords → VerbSpec → Type 0
+IsStreamCut given spec = (options : Cut) × (spec ≡ Stream (stream.Cut options)) × IsCutOf given options
+
+-- the spec is `grep` with these options
+abbrev pub IsStreamGrep : VerbWords → VerbSpec → Type 0
+IsStreamGrep given spec = (options : Grep) × (spec ≡ Stream (stream.Grep options)) × IsGrepOf given options
+
+-- the spec is `gsub` with these options
+abbrev pub IsStreamGsub : VerbWords → VerbSpec → Type 0
+IsStreamGsub given spec = (options : Gsub) × (spec ≡ Stream (stream.Gsub options)) × IsGsubOf given options
+
+-- the spec is `having-fields` with these options
+abbrev pub IsStreamHavingFields : VerbWords → VerbSpec → Type 0
+IsStreamHavingFields given spec = (options : HavingFields) × (spec ≡ Stream (stream.HavingFields options)) × IsHavingFieldsOf given options
+
+-- the spec is `rename` with these options
+abbrev pub IsStreamRename : VerbWords → VerbSpec → Type 0
+IsStreamRename given spec = (options : Rename) × (spec ≡ Stream (stream.Rename options)) × IsRenameOf given options
+
+-- the spec is `sub` with these options
+abbrev pub IsStreamSub : VerbWords → VerbSpec → Type 0
+IsStreamSub given spec = (options : Sub) × (spec ≡ Stream (stream.Sub options)) × IsSubOf given options
+
+-- the verb with this name is that which the words give
+abbrev pub IsVerbNamed : VerbName → List ℕ → VerbWords → VerbSpec → Type 0
+IsVerbNamed verb.Altkv flatsep given spec = spec ≡ Stream stream.Altkv
+IsVerbNamed verb.Cat flatsep given spec = spec ≡ Stream (stream.Cat (cat_of given))
+IsVerbNamed verb.Cut flatsep given spec = IsStreamCut given spec
+IsVerbNamed verb.Decimate flatsep given spec = spec ≡ Stream (stream.Decimate (decimate_of given))
+IsVerbNamed verb.FillDown flatsep given spec = spec ≡ Stream (stream.FillDown (fill_down_of given))
+IsVerbNamed verb.FillEmpty flatsep given spec = spec ≡ Stream (stream.FillEmpty (fill_empty_of given))
+IsVerbNamed verb.Flatten flatsep given spec = spec ≡ Stream (stream.Flatten (flatten_of flatsep given))
+IsVerbNamed verb.Gap flatsep given spec = spec ≡ Stream (stream.Gap (gap_of given))
+IsVerbNamed verb.Grep flatsep given spec = IsStreamGrep given spec
+IsVerbNamed verb.Gsub flatsep given spec = IsStreamGsub given spec
+IsVerbNamed verb.HavingFields flatsep given spec = IsStreamHavingFields given spec
+IsVerbNamed verb.Head flatsep given spec = spec ≡ Stream (stream.Head (head_of given))
+IsVerbNamed verb.JsonParse flatsep given spec = spec ≡ Stream (stream.JsonParse (json_parse_of given))
+IsVerbNamed verb.JsonStringify flatsep given spec = spec ≡ Stream (stream.JsonStringify (json_stringify_of given))
+IsVerbNamed verb.Label flatsep given spec = spec ≡ Stream (stream.Label (label_of given))
+IsVerbNamed verb.Nothing flatsep given spec = spec ≡ Stream stream.Nothing
+IsVerbNamed verb.Regularize flatsep given spec = spec ≡ Stream stream.Regularize
+IsVerbNamed verb.Rename flatsep given spec = IsStreamRename given spec
+IsVerbNamed verb.Reorder flatsep given spec = spec ≡ Stream (stream.Reorder (reorder_of given))
+IsVerbNamed verb.Repeat flatsep given spec = spec ≡ Stream (stream.Repeat (repeat_of given))
+IsVerbNamed verb.Sec2Gmt flatsep given spec = spec ≡ Stream (stream.Sec2Gmt (sec2gmt_of given))
+IsVerbNamed verb.Sec2GmtDate flatsep given spec = spec ≡ Stream (stream.Sec2GmtDate (sec2gmtdate_of given))
+IsVerbNamed verb.Seqgen flatsep given spec = spec ≡ Seq (seqgen_of given)
+IsVerbNamed verb.SortWithinRecords flatsep given spec = spec ≡ Stream (stream.SortWithinRecords (sort_within_records_of given))
+IsVerbNamed verb.Sparsify flatsep given spec = spec ≡ Stream (stream.Sparsify (sparsify_of given))
+IsVerbNamed verb.Ssub flatsep given spec = spec ≡ Stream (stream.Ssub (ssub_of given))
+IsVerbNamed verb.Sub flatsep given spec = IsStreamSub given spec
+IsVerbNamed verb.Template flatsep given spec = spec ≡ Stream (stream.Template (template_of given))
+IsVerbNamed verb.Unflatten flatsep given spec = spec ≡ Stream (stream.Unflatten (unflatten_of flatsep given))
+IsVerbNamed verb.Unspace flatsep given spec = spec ≡ Stream (stream.Unspace (unspace_of given))
+
+-- the verb is that which the words give, where names are flattened with this separator
+abbrev pub IsVerbOf : List ℕ → VerbWords → VerbSpec → Type 0
+IsVerbOf flatsep given spec = IsVerbNamed given.verb flatsep given spec
+
+-- the patterns in the words of the verb with this name
+abbrev pub verb_patterns : VerbName → VerbWords → List PatternWord
+verb_patterns verb.Cut given = cut_patterns given
+verb_patterns verb.Grep given = grep_patterns given
+verb_patterns verb.Gsub given = own_patterns given
+verb_patterns verb.HavingFields given = having_patterns given
+verb_patterns verb.Rename given = rename_patterns given
+verb_patterns verb.Sub given = own_patterns given
+verb_patterns _ given = []
+
+-- regex reads the patterns, and a source counts with the numbers
+abbrev pub IsGoodNamed : VerbName → VerbWords → Type 0
+IsGoodNamed verb.Seqgen given = IsSoundSeq (seqgen_of given)
+IsGoodNamed name given = AreGoodPatterns (verb_patterns name given)
+
+abbrev pub IsGoodVerb : VerbWords → Type 0
+IsGoodVerb given = IsGoodNamed given.verb given
+
+-- the first pattern that regex refuses, or the numbers that no source counts with
+abbrev pub IsRefusedNamed : VerbName → VerbWords → Refusal → Type 0
+IsRefusedNamed verb.Seqgen given refusal = IsRefusedSeq given refusal
+IsRefusedNamed name given refusal = IsFirstRefused (verb_patterns name given) refusal
+
+abbrev pub IsRefusedVerb : VerbWords → Refusal → Type 0
+IsRefusedVerb given refusal = IsRefusedNamed given.verb given refusal
+
+-- the pattern in the first word of a verb's own, if the word is there
+abbrev pub own_so_far : Bool → VerbWords → List PatternWord
+own_so_far either_case given = if length given.words == 0 then [] else own_pattern either_case given ∷ []
+
+-- the patterns so far in the words of the verb with this name; names may still be followed by options that make them patterns
+abbrev pub patterns_so_far : VerbName → VerbWords → List PatternWord
+patterns_so_far verb.Grep given = own_so_far (has (codes "-i") given.options) given
+patterns_so_far verb.Gsub given = own_so_far false given
+patterns_so_far verb.Sub given = own_so_far false given
+patterns_so_far verb.HavingFields given = having_patterns given
+patterns_so_far _ given = []

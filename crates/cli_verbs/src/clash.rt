@@ -1,0 +1,117 @@
+//! Words of a verb that contradict each other.
+ghost use Rattle.std.specs.Prelude.{◌≡◌, [], IfOk, map};
+ghost use Rattle.std.specs.List.{list_any};
+ghost use Rattle.mlr_event.specs.Reading.{is_among};
+ghost use Rattle.cli_verbs.specs.Clash.{are_rivals, clash_after, clash_of, has_repeated, is_odd_rename, names_clash, option_clash, are_in};
+
+use crate::names::all_names;
+use cli_grammar::{Given, Group, VerbName, VerbWords};
+use mlr_record::split::count_parts;
+use mlr_spec::NoMemory;
+use std::alloc::Global;
+use verbs_fields::are_distinct;
+
+/// The number of the first word that contradicts an earlier one.
+pub fn clash_of(alloc: Global, given: &VerbWords) -> Result<Option<usize>, NoMemory>
+    ensures { IfOk result (λ number. number ≡ clash_of given.now) }
+{
+    match option_clash(given) {
+        Some(number) => Ok(Some(number)),
+        None => names_clash(alloc, given),
+    }
+}
+
+/// The number of the first option that contradicts an earlier one.
+fn option_clash(given: &VerbWords) -> Option<usize>
+    ensures { result ≡ option_clash given.now }
+{
+    first_clash(given.verb.row().groups, given.options.as_slice())
+}
+
+/// The number of the first of these options that contradicts an earlier one.
+fn first_clash(groups: &[Group], options: &[Given]) -> Option<usize>
+    ensures { result ≡ clash_after
+        (map (λ group. (map (λ name. name.now) group.0.now, group.1)) groups.now) [] options.now }
+{
+    for (place, given) in options.iter().enumerate() {
+        if has_rival(groups, &options[..place], given.name.as_slice()) {
+            return Some(given.number);
+        }
+    }
+    None
+}
+
+/// Whether one of these options contradicts the option with this name.
+fn has_rival(groups: &[Group], before: &[Given], name: &[u8]) -> bool
+    ensures { result ≡ list_any (λ other. are_rivals
+        (map (λ group. (map (λ name. name.now) group.0.now, group.1)) groups.now)
+        name.now other.name) before.now }
+{
+    for other in before {
+        if are_rivals(groups, name, other.name.as_slice()) {
+            return true;
+        }
+    }
+    false
+}
+
+/// Whether two names are different options of one group.
+fn are_rivals(groups: &[Group], name: &[u8], other: &[u8]) -> bool
+    ensures { result ≡ are_rivals
+        (map (λ group. (map (λ name. name.now) group.0.now, group.1)) groups.now)
+        name.now other.now }
+{
+    name != other && are_in_one(groups, name, other)
+}
+
+/// Whether two names are options of one group.
+fn are_in_one(groups: &[Group], name: &[u8], other: &[u8]) -> bool
+    ensures { result ≡ list_any (are_in name.now other.now)
+        (map (λ group. (map (λ name. name.now) group.0.now, group.1)) groups.now) }
+{
+    for group in groups {
+        if is_among(group.0, name) && is_among(group.0, other) {
+            return true;
+        }
+    }
+    false
+}
+
+/// Whether a name is among these.
+fn is_among(names: &[&[u8]], name: &[u8]) -> bool
+    ensures { result ≡ is_among (map (λ name. name.now) names.now) name.now }
+{
+    for other in names {
+        if name == *other {
+            return true;
+        }
+    }
+    false
+}
+
+/// The number of the names of `label` or `rename`, where they contradict each other.
+fn names_clash(alloc: Global, given: &VerbWords) -> Result<Option<usize>, NoMemory>
+    ensures { IfOk result (λ number. number ≡ names_clash given.now.verb given.now) }
+{
+    let clashes = match given.verb {
+        VerbName::Label => has_repeated(alloc, given)?,
+        VerbName::Rename => is_odd_rename(given),
+        _ => false,
+    };
+    Ok(if clashes { Some(given.own) } else { None })
+}
+
+/// Whether a name repeats.
+fn has_repeated(alloc: Global, given: &VerbWords) -> Result<bool, NoMemory>
+    ensures { IfOk result (λ repeated. repeated ≡ has_repeated given.now) }
+{
+    let names = all_names(alloc, given.word(0))?;
+    Ok(!are_distinct(&names))
+}
+
+/// Whether the last name has no name that replaces it.
+fn is_odd_rename(given: &VerbWords) -> bool
+    ensures { result ≡ is_odd_rename given.now }
+{
+    count_parts(b",", given.word(0)) % 2 == 1
+}

@@ -1,0 +1,23 @@
+//! Why the words of a verb give no verb.
+use mlr_spec::NoMemory;
+use serial_core::Refusal;
+
+/// Why the words of a verb give no verb.
+#[derive(Drop)]
+pub enum Fault {
+    /// A word can't be accepted.
+    Refused(Refusal),
+    /// Memory ran out.
+    NoMemory,
+}
+
+impl From<NoMemory> for Fault {
+    ghost use Rattle.std.specs.Prelude.{◌≡◌};
+    ghost use Rattle.cli_verbs.specs.declared.fault.Fault.TheVariants as fault;
+
+    ghost from_gives = { λ _ made. made ≡ fault.NoMemory };
+
+    fn from(_: NoMemory) -> Fault {
+        Fault::NoMemory
+    }
+}

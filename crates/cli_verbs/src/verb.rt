@@ -1,0 +1,78 @@
+//! The verb that words give.
+ghost use Rattle.std.specs.Prelude.{IfErr, IfOk};
+ghost use Rattle.cli_verbs.specs.Faults.{IfRefused};
+ghost use Rattle.cli_verbs.specs.Verbs.{IsGoodVerb, IsRefusedVerb, IsVerbOf};
+
+use crate::cat::cat;
+use crate::cut::cut;
+use crate::decimate::decimate;
+use crate::fault::Fault;
+use crate::fill_down::fill_down;
+use crate::fill_empty::fill_empty;
+use crate::flatten::flatten;
+use crate::gap::gap;
+use crate::grep::grep;
+use crate::gsub::gsub;
+use crate::having_fields::having_fields;
+use crate::head::head;
+use crate::json_parse::json_parse;
+use crate::json_stringify::json_stringify;
+use crate::label::label;
+use crate::rename::rename;
+use crate::reorder::reorder;
+use crate::repeat::repeat;
+use crate::sec2gmt::sec2gmt;
+use crate::sec2gmtdate::sec2gmtdate;
+use crate::seqgen::seqgen;
+use crate::sort_within_records::sort_within_records;
+use crate::sparsify::sparsify;
+use crate::ssub::ssub;
+use crate::sub::sub;
+use crate::template::template;
+use crate::unflatten::unflatten;
+use crate::unspace::unspace;
+use chain_core::VerbSpec;
+use cli_grammar::{VerbName, VerbWords};
+use std::alloc::Global;
+use verbs_stream::Spec;
+
+/// The verb that words give, with its options. Names are flattened with this separator by default.
+pub fn verb_of(alloc: Global, flatsep: &[u8], given: &VerbWords) -> Result<VerbSpec, Fault>
+    ensures means { IfOk result (IsVerbOf flatsep.now given.now) }
+    ensures good { IfOk result (λ _. IsGoodVerb given.now) }
+    ensures refused { IfErr result (IfRefused (IsRefusedVerb given.now)) }
+{
+    let spec = match given.verb {
+        VerbName::Altkv => Spec::Altkv,
+        VerbName::Cat => Spec::Cat(cat(alloc, given)?),
+        VerbName::Cut => Spec::Cut(cut(alloc, given)?),
+        VerbName::Decimate => Spec::Decimate(decimate(alloc, given)?),
+        VerbName::FillDown => Spec::FillDown(fill_down(alloc, given)?),
+        VerbName::FillEmpty => Spec::FillEmpty(fill_empty(alloc, given)?),
+        VerbName::Flatten => Spec::Flatten(flatten(alloc, flatsep, given)?),
+        VerbName::Gap => Spec::Gap(gap(alloc, given)?),
+        VerbName::Grep => Spec::Grep(grep(alloc, given)?),
+        VerbName::Gsub => Spec::Gsub(gsub(alloc, given)?),
+        VerbName::HavingFields => Spec::HavingFields(having_fields(alloc, given)?),
+        VerbName::Head => Spec::Head(head(alloc, given)?),
+        VerbName::JsonParse => Spec::JsonParse(json_parse(alloc, given)?),
+        VerbName::JsonStringify => Spec::JsonStringify(json_stringify(alloc, given)?),
+        VerbName::Label => Spec::Label(label(alloc, given)?),
+        VerbName::Nothing => Spec::Nothing,
+        VerbName::Regularize => Spec::Regularize,
+        VerbName::Rename => Spec::Rename(rename(alloc, given)?),
+        VerbName::Reorder => Spec::Reorder(reorder(alloc, given)?),
+        VerbName::Repeat => Spec::Repeat(repeat(alloc, given)?),
+        VerbName::Sec2Gmt => Spec::Sec2Gmt(sec2gmt(alloc, given)?),
+        VerbName::Sec2GmtDate => Spec::Sec2GmtDate(sec2gmtdate(alloc, given)?),
+        VerbName::Seqgen => return Ok(VerbSpec::Seq(seqgen(alloc, given)?)),
+        VerbName::SortWithinRecords => Spec::SortWithinRecords(sort_within_records(given)),
+        VerbName::Sparsify => Spec::Sparsify(sparsify(alloc, given)?),
+        VerbName::Ssub => Spec::Ssub(ssub(alloc, given)?),
+        VerbName::Sub => Spec::Sub(sub(alloc, given)?),
+        VerbName::Template => Spec::Template(template(alloc, given)?),
+        VerbName::Unflatten => Spec::Unflatten(unflatten(alloc, flatsep, given)?),
+        VerbName::Unspace => Spec::Unspace(unspace(alloc, given)?),
+    };
+    Ok(VerbSpec::Stream(spec))
+}

@@ -1,4 +1,0 @@
-pub mod Flags
-pub mod Verbs
-pub mod Grammar
-pub mod Walk
