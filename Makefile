@@ -12,13 +12,18 @@ bin/mlr: $(SOURCES)
 test:  ## prove everything from nothing, and run all tests (rt ci)
 	rt ci
 
-check: bin/mlr  ## run the built program on real files, pipes and devices, and the examples of the documents
+check: bin/mlr  ## run the built program on real files, pipes and devices, on lines of words, and on the examples of the documents
 	tests/program bin/mlr
+	tests/words bin/mlr
+	tests/generated
 	tests/documents bin/mlr
 
-install: bin/mlr  ## copy the program to PREFIX/bin, and its manual page to PREFIX/share/man
+install: bin/mlr  ## copy the program to PREFIX/bin, and its manual page and completions to PREFIX/share
 	install -D -m 755 bin/mlr $(DESTDIR)$(PREFIX)/bin/mlr
 	install -D -m 644 man/mlr.1 $(DESTDIR)$(PREFIX)/share/man/man1/mlr.1
+	install -D -m 644 completions/mlr.bash $(DESTDIR)$(PREFIX)/share/bash-completion/completions/mlr
+	install -D -m 644 completions/_mlr $(DESTDIR)$(PREFIX)/share/zsh/site-functions/_mlr
+	install -D -m 644 completions/mlr.fish $(DESTDIR)$(PREFIX)/share/fish/vendor_completions.d/mlr.fish
 
 help:  ## list the targets
 	@echo 'make: prove and build bin/mlr, if a source has changed'
