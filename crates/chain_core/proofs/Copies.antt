@@ -3,9 +3,10 @@ use Rattle.std.proofs.Common.{List, [], ◌∷◌, ap, sym, ◌∙◌, subst}
 use Rattle.read_files.specs.Represents.{can_read}
 use Rattle.verbs_seq.specs.Seq.{IsSoundSeq}
 use Rattle.chain_core.specs.declared.plan.Plan.{Plan}
-use Rattle.chain_core.specs.declared.verb_spec.VerbSpec.{VerbSpec}
-use Rattle.chain_core.specs.declared.verb_spec.VerbSpec.TheVariants.{Stream, Seq}
-use Rattle.chain_core.specs.Plans.{AreSameVerbs, AreSound, AreVerbs, IsCopy, IsSound}
+use Rattle.verb_specs.specs.declared.verb_spec.VerbSpec.{VerbSpec}
+use Rattle.verb_specs.specs.declared.verb_spec.VerbSpec.TheVariants.{Stream, Seq}
+use Rattle.chain_core.specs.Plans.{IsCopy, IsSound}
+use Rattle.verb_specs.specs.Verbs.{AreSameVerbs, AreSound, AreVerbs}
 
 verbs-copied : (specs copies : List VerbSpec) → AreSameVerbs specs copies → AreVerbs specs → AreVerbs copies
 verbs-copied [] [] same are = tt

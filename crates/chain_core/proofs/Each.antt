@@ -18,10 +18,10 @@ use Rattle.serial_core.specs.declared.answer.Ended.TheVariants as answer
 use Rattle.serial_core.specs.Command.{Command, result, text}
 use Rattle.serial_core.specs.Represents.{Leaves}
 use Rattle.serial_core.specs.Run.{Run}
-use Rattle.chain_core.specs.declared.verb_spec.VerbSpec.{VerbSpec}
+use Rattle.verb_specs.specs.declared.verb_spec.VerbSpec.{VerbSpec}
 use Rattle.chain_core.specs.Outputs.{LeavesEach, LeavesFor, clear, clear_after, opened_by, pieces_for, style_by, text_of}
 use Rattle.chain_core.specs.PlanRun.{PlanRun}
-use Rattle.chain_core.specs.Plans.{verbs_of}
+use Rattle.verb_specs.specs.Verbs.{verbs_of}
 use Rattle.chain_core.proofs.Plain.{are_plain, result-plain}
 
 pub no-pieces : (one : Target) (events : List Event) → are_plain events ≡ true → pieces_for one events ≡ []

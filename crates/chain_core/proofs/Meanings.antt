@@ -15,9 +15,10 @@ use Rattle.verbs_base.specs.Records.{verb_of}
 use Rattle.verbs_stream.specs.Meaning.{meaning_of}
 use Rattle.serial_core.specs.Command.{Command}
 use Rattle.chain_core.specs.declared.plan.Plan.{Plan}
-use Rattle.chain_core.specs.declared.verb_spec.VerbSpec.{VerbSpec}
-use Rattle.chain_core.specs.declared.verb_spec.VerbSpec.TheVariants.{Stream, Seq}
-use Rattle.chain_core.specs.Plans.{IsCommandOf, verbs_of}
+use Rattle.verb_specs.specs.declared.verb_spec.VerbSpec.{VerbSpec}
+use Rattle.verb_specs.specs.declared.verb_spec.VerbSpec.TheVariants.{Stream, Seq}
+use Rattle.chain_core.specs.Plans.{IsCommandOf}
+use Rattle.verb_specs.specs.Verbs.{verbs_of}
 
 list-of : (specs : List VerbSpec) (quiet : Bool) (events : List Event) → is_list events ≡ true → is_list (chain_from quiet (verbs_of specs) events) ≡ true
 list-of [] quiet events list = list

@@ -5,9 +5,9 @@ use Rattle.std.proofs.lemmas.List.{append-nil, drop_all}
 use Rattle.mlr_event.specs.declared.event.Event.{Event}
 use Rattle.mlr_event.specs.Verb as meaning
 use Rattle.chain_core.specs.declared.verb.Verb.{Verb}
-use Rattle.chain_core.specs.declared.verb_spec.VerbSpec.{VerbSpec}
-use Rattle.chain_core.specs.declared.verb_spec.VerbSpec.TheVariants.{Stream, Seq}
-use Rattle.chain_core.specs.Plans.{AreSound, AreVerbs, IsVerbOrSource, no_lefts, verb_with, verbs_of, verbs_with}
+use Rattle.verb_specs.specs.declared.verb_spec.VerbSpec.{VerbSpec}
+use Rattle.verb_specs.specs.declared.verb_spec.VerbSpec.TheVariants.{Stream, Seq}
+use Rattle.verb_specs.specs.Verbs.{AreSound, AreVerbs, IsVerbOrSource, no_lefts, verb_with, verbs_of, verbs_with}
 use Rattle.chain_core.specs.Verbs.{AreNew, IsNew}
 
 abbrev pub AreVerbsOrSources : List VerbSpec → Type 0

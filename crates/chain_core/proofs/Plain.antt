@@ -23,9 +23,9 @@ use Rattle.verbs_seq.specs.declared.seq_spec.SeqSpec.{SeqSpec}
 use Rattle.verbs_seq.specs.Seq.{seq_context, seq_count, seq_event}
 use Rattle.verbs_stream.specs.Meaning.{meaning_of}
 use Rattle.serial_core.specs.Command.{Command, Origin, files, numbers, given_by, result}
-use Rattle.chain_core.specs.declared.verb_spec.VerbSpec.{VerbSpec}
-use Rattle.chain_core.specs.declared.verb_spec.VerbSpec.TheVariants.{Stream, Seq}
-use Rattle.chain_core.specs.Plans.{verbs_of}
+use Rattle.verb_specs.specs.declared.verb_spec.VerbSpec.{VerbSpec}
+use Rattle.verb_specs.specs.declared.verb_spec.VerbSpec.TheVariants.{Stream, Seq}
+use Rattle.verb_specs.specs.Verbs.{verbs_of}
 
 abbrev pub is_plain : Event → Bool
 is_plain (event.Rec pairs ctx) = true

@@ -15,7 +15,8 @@ use Rattle.serial_core.specs.Run.{Run, StopsEarly}
 use Rattle.serial_core.specs.Whole.{OfWhole, whole_of}
 use Rattle.serial_core.proofs.Running.{following-none}
 use Rattle.chain_core.specs.declared.plan.Plan.{Plan}
-use Rattle.chain_core.specs.Plans.{IsCommandOf, IsSound, origin_of, verbs_of}
+use Rattle.chain_core.specs.Plans.{IsCommandOf, IsSound, origin_of}
+use Rattle.verb_specs.specs.Verbs.{verbs_of}
 
 -- a plan that can be run has a command
 pub command-of : (plan : Plan) → IsSound plan → (command : Command) × IsCommandOf plan command

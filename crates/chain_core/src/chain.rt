@@ -5,18 +5,19 @@ ghost use Rattle.mlr_event.specs.declared.event.Event.{Event as SpecEvent};
 ghost use Rattle.mlr_event.specs.Verb.{Verb as SpecVerb, is_open};
 ghost use Rattle.verb_chain.specs.Chain.{chain, stopped};
 ghost use Rattle.verb_chain.specs.Represents.{Represents as Chained, verbs_in};
-ghost use Rattle.chain_core.specs.Plans.{AreSound, IsSound, IsVerbOrSource, verb_with, verbs_with};
+ghost use Rattle.chain_core.specs.Plans.{IsSound};
+ghost use Rattle.verb_specs.specs.Verbs.{AreSound, IsVerbOrSource, verb_with, verbs_with};
 ghost use Rattle.chain_core.specs.Verbs.{AreNew, IsNew, WasGiven, meaning_in};
 ghost use Rattle.chain_core.specs.Chains.{HasNotBegun, Represents};
 
 use crate::lefts::Lefts;
 use crate::plan::Plan;
 use crate::verb::Verb;
-use crate::verb_spec::VerbSpec;
 use mlr_event::{Event, Events};
 use mlr_spec::NoMemory;
 use std::alloc::Global;
 use std::mem::replace;
+use verb_specs::VerbSpec;
 
 /// The verbs of a plan one after another, without the source. It begins with `begin`, and represents the list of events
 /// that it was given after that.

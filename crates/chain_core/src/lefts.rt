@@ -1,6 +1,6 @@
 //! What the left files of a command hold.
 ghost use Rattle.std.specs.Prelude.{◌≡◌, IfOk};
-ghost use Rattle.chain_core.specs.Plans.{no_lefts};
+ghost use Rattle.verb_specs.specs.Verbs.{no_lefts};
 
 use crate::plan::Plan;
 use mlr_event::Events;

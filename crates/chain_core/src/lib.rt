@@ -10,10 +10,7 @@ mod plan_outlet;
 mod reader;
 mod run;
 mod serial;
-#[cfg(test)]
-mod tests;
 mod verb;
-mod verb_spec;
 
 pub use chain::Chain;
 pub use laws::meaning_laws;
@@ -28,4 +25,4 @@ pub use run::run_serial;
 pub use serial::Serial;
 pub use serial_core::{Ended, Refusal, SerialTurn, Why};
 pub use verb::Verb;
-pub use verb_spec::VerbSpec;
+pub use verb_specs::VerbSpec;

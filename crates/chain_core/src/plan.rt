@@ -1,12 +1,13 @@
 //! A command as a plan: inputs, verbs and styles.
 ghost use Rattle.std.specs.Prelude.{◌≡◌, IfOk};
-ghost use Rattle.chain_core.specs.Plans.{AreSameVerbs, IsCopy, IsSound};
+ghost use Rattle.chain_core.specs.Plans.{IsCopy, IsSound};
+ghost use Rattle.verb_specs.specs.Verbs.{AreSameVerbs};
 
-use crate::verb_spec::VerbSpec;
 use mlr_event::{NameList, ReadOpts};
 use mlr_list::List;
 use mlr_spec::NoMemory;
 use std::alloc::Global;
+use verb_specs::VerbSpec;
 use writers::WriteOpts;
 
 /// Verbs in their order.

@@ -12,12 +12,12 @@ ghost use Rattle.chain_core.specs.Parts.{Reads};
 ghost use Rattle.chain_core.specs.Plans.{IsSound, inputs_of, origin_of};
 
 use crate::plan::Plan;
-use crate::verb_spec::VerbSpec;
 use mlr_event::{Events, NameList};
 use mlr_spec::NoMemory;
 use mlr_world::Inputs;
 use read_files::{FileReader, ReadTurn};
 use std::alloc::Global;
+use verb_specs::VerbSpec;
 use verbs_seq::{SeqSource, SeqSpec};
 
 /// Reads what a plan reads: the numbers of its source, or else its main inputs in their order.

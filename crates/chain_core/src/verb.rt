@@ -1,13 +1,13 @@
 //! Verbs of a chain, of any kind.
 ghost use Rattle.std.specs.Prelude.{◌≡◌, ◌++◌, ◌∷◌, [], IfOk, OnOk};
 ghost use Rattle.mlr_event.specs.Verb.{Verb as SpecVerb};
-ghost use Rattle.chain_core.specs.Plans.{IsVerb, verb_with};
+ghost use Rattle.verb_specs.specs.Verbs.{IsVerb, verb_with};
 ghost use Rattle.chain_core.specs.Verbs.{HasBegun, IsNew};
 
-use crate::verb_spec::VerbSpec;
 use mlr_event::{Event, Events, Step};
 use mlr_spec::NoMemory;
 use std::alloc::Global;
+use verb_specs::VerbSpec;
 use verbs_stream::StreamVerb;
 
 /// A verb of a chain, of any kind. It begins with `begin`, and takes events after that.

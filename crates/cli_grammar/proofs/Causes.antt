@@ -4,9 +4,9 @@ use Rattle.std.specs.Prelude.{not, codes, if◌then◌else◌}
 use Rattle.std.specs.Str.{bytes_eq}
 use Rattle.mlr_tables.specs.Names.{verb_names}
 use Rattle.mlr_tables.specs.Table.{row_of}
-use Rattle.serial_core.specs.declared.answer.Refusal.{Refusal}
-use Rattle.serial_core.specs.declared.answer.Why.{Why}
-use Rattle.serial_core.specs.declared.answer.Why.TheVariants.{MissingArgument, NotBuilt, UnknownFlag, UnknownVerb}
+use Rattle.mlr_event.specs.declared.refusal.Refusal.{Refusal}
+use Rattle.mlr_event.specs.declared.refusal.Why.{Why}
+use Rattle.mlr_event.specs.declared.refusal.Why.TheVariants.{MissingArgument, NotBuilt, UnknownFlag, UnknownVerb}
 use Rattle.cli_grammar.specs.declared.flag_table.Setting.{Setting}
 use Rattle.cli_grammar.specs.declared.given.Given.{Given}
 use Rattle.cli_grammar.specs.declared.given.VerbWords.{VerbWords}

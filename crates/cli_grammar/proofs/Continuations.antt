@@ -9,7 +9,7 @@ use Rattle.std.proofs.lemmas.List.Folds.{list_any-append}
 use Rattle.std.proofs.lemmas.Slice.Eq.{bytes_eq-Decides}
 use Rattle.std.proofs.Math.Bool.{or-true}
 use Rattle.mlr_spec.specs.Infer.{kind_after_sign}
-use Rattle.serial_core.specs.declared.answer.Why.{Why}
+use Rattle.mlr_event.specs.declared.refusal.Why.{Why}
 use Rattle.cli_grammar.specs.declared.flag_table.Setting.{Setting}
 use Rattle.cli_grammar.specs.declared.given.Given.{Given}
 use Rattle.cli_grammar.specs.declared.given.VerbWords.{VerbWords}

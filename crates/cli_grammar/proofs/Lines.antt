@@ -10,8 +10,8 @@ use Rattle.std.proofs.lemmas.Slice.Eq.{bytes_eq-Decides}
 use Rattle.std.proofs.Math.Bool.{or-true}
 use Rattle.mlr_tables.specs.Names.{verb_names}
 use Rattle.mlr_tables.specs.Table.{row_of}
-use Rattle.serial_core.specs.declared.answer.Why.{Why}
-use Rattle.serial_core.specs.declared.answer.Why.TheVariants.{UnknownFlag, NotBuilt, UnknownVerb}
+use Rattle.mlr_event.specs.declared.refusal.Why.{Why}
+use Rattle.mlr_event.specs.declared.refusal.Why.TheVariants.{UnknownFlag, NotBuilt, UnknownVerb}
 use Rattle.cli_grammar.specs.declared.flag_table.Setting.{Setting}
 use Rattle.cli_grammar.specs.declared.verb_table.VerbName.{VerbName}
 use Rattle.cli_grammar.specs.Flags.{flag_named}

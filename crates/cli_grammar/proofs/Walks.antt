@@ -5,8 +5,8 @@ use Rattle.std.specs.List.{flat_map, list_all}
 use Rattle.std.specs.Str.{bytes_eq}
 use Rattle.std.proofs.lemmas.Bool.{and_parts, eqb-true, lt-ltb, le-ltb}
 use Rattle.std.proofs.lemmas.List.{append-nil, length-append}
-use Rattle.serial_core.specs.declared.answer.Why.{Why}
-use Rattle.serial_core.specs.declared.answer.Why.TheVariants.{UnknownFlag, NotBuilt, UnknownVerb}
+use Rattle.mlr_event.specs.declared.refusal.Why.{Why}
+use Rattle.mlr_event.specs.declared.refusal.Why.TheVariants.{UnknownFlag, NotBuilt, UnknownVerb}
 use Rattle.mlr_tables.specs.Names.{verb_names}
 use Rattle.mlr_tables.specs.Table.{row_of}
 use Rattle.std.proofs.Math.Bool.{or-true}

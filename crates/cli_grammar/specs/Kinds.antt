@@ -3,8 +3,8 @@ use Rattle.std.specs.Prelude.{ℕ, ℤ, pos, Bool, ◌&&◌, int_le, if◌then�
 use Rattle.std.specs.Str.{bytes_eq}
 use Rattle.mlr_event.specs.declared.options.Format.{Format}
 use Rattle.mlr_event.specs.declared.options.Format.TheVariants.{Csv, Tsv, Json, Jsonl, Dkvp, Nidx, Xtab, Pprint, Markdown}
-use Rattle.serial_core.specs.declared.answer.Why.{Why}
-use Rattle.serial_core.specs.declared.answer.Why.TheVariants.{UnknownFlag, BadNumber, BadSeparator}
+use Rattle.mlr_event.specs.declared.refusal.Why.{Why}
+use Rattle.mlr_event.specs.declared.refusal.Why.TheVariants.{UnknownFlag, BadNumber, BadSeparator}
 use Rattle.cli_grammar.specs.declared.kind.Kind.{Kind}
 use Rattle.cli_grammar.specs.declared.kind.Kind.TheVariants as kind
 use Rattle.cli_grammar.specs.Numbers.{int_in}

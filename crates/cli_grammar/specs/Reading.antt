@@ -5,9 +5,9 @@ use Rattle.std.specs.Str.{bytes_eq}
 use Rattle.mlr_spec.specs.Ascii.{dash}
 use Rattle.mlr_tables.specs.Names.{verb_names}
 use Rattle.mlr_tables.specs.Table.{row_of}
-use Rattle.serial_core.specs.declared.answer.Refusal.{Refusal}
-use Rattle.serial_core.specs.declared.answer.Why.{Why}
-use Rattle.serial_core.specs.declared.answer.Why.TheVariants.{NoVerb, UnknownFlag, UnknownVerb, MissingArgument, NotBuilt}
+use Rattle.mlr_event.specs.declared.refusal.Refusal.{Refusal}
+use Rattle.mlr_event.specs.declared.refusal.Why.{Why}
+use Rattle.mlr_event.specs.declared.refusal.Why.TheVariants.{NoVerb, UnknownFlag, UnknownVerb, MissingArgument, NotBuilt}
 use Rattle.cli_grammar.specs.declared.kind.Kind.{Kind}
 use Rattle.cli_grammar.specs.declared.kind.Kind.TheVariants.{Nothing}
 use Rattle.cli_grammar.specs.declared.given.Given.{Given}

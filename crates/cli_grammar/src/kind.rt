@@ -4,8 +4,7 @@ ghost use Rattle.cli_grammar.specs.Kinds.{fault_of, format_named, is_within};
 
 use crate::number::int_in;
 use crate::separator::{is_short, separator_in};
-use mlr_event::Format;
-use serial_core::Why;
+use mlr_event::{Format, Why};
 
 /// What the word after an option is.
 #[derive(Clone, Copy)]

@@ -1,8 +1,8 @@
 //! Laws of the grammar.
 ghost use Rattle.std.specs.Prelude.{◌≡◌, ℕ, ◌-◌, ◌≢◌, List, None, Some, true};
 ghost use Rattle.std.specs.List.{list_all};
-ghost use Rattle.serial_core.specs.declared.answer.Refusal.{Refusal as SpecRefusal};
-ghost use Rattle.serial_core.specs.declared.answer.Why.TheVariants.{MissingArgument};
+ghost use Rattle.mlr_event.specs.declared.refusal.Refusal.{Refusal as SpecRefusal};
+ghost use Rattle.mlr_event.specs.declared.refusal.Why.TheVariants.{MissingArgument};
 ghost use Rattle.cli_grammar.specs.declared.given.Given.{Given as SpecGiven};
 ghost use Rattle.cli_grammar.specs.declared.given.VerbWords.{VerbWords as SpecVerbWords};
 ghost use Rattle.cli_grammar.specs.Grammar.{IsLine, IsRefusedAfter, is_flag, is_verb};

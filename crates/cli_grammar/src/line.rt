@@ -8,12 +8,11 @@ use crate::flag_table::flag_named;
 use crate::given::{Given, VerbWords};
 use crate::kind::Kind;
 use crate::verb_table::{Group, OptionRow, verb_named};
-use mlr_event::Names;
+use mlr_event::{Names, Refusal, Why};
 use mlr_list::List;
 use mlr_spec::NoMemory;
 use mlr_tables::verbs;
 use mlr_value::Bytes;
-use serial_core::{Refusal, Why};
 use std::alloc::Global;
 
 /// A command line, as far as its words could be read.

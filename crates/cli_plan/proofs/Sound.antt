@@ -5,9 +5,10 @@ use Rattle.std.specs.List.{list_all}
 use Rattle.std.specs.Str.{bytes_eq}
 use Rattle.std.proofs.lemmas.Bool.{false≢true}
 use Rattle.std.proofs.lemmas.Slice.Eq.{bytes_eq-Decides}
-use Rattle.chain_core.specs.declared.verb_spec.VerbSpec.{VerbSpec}
-use Rattle.chain_core.specs.declared.verb_spec.VerbSpec.TheVariants.{Stream, Seq}
-use Rattle.chain_core.specs.Plans.{AreSound, AreVerbs, IsSound, IsVerb}
+use Rattle.verb_specs.specs.declared.verb_spec.VerbSpec.{VerbSpec}
+use Rattle.verb_specs.specs.declared.verb_spec.VerbSpec.TheVariants.{Stream, Seq}
+use Rattle.chain_core.specs.Plans.{IsSound}
+use Rattle.verb_specs.specs.Verbs.{AreSound, AreVerbs, IsVerb}
 use Rattle.chain_core.specs.declared.plan.Plan.{Plan}
 use Rattle.read_files.specs.Represents.{can_read}
 use Rattle.cli_grammar.specs.declared.given.Given.{Given}
@@ -23,8 +24,8 @@ use Rattle.cli_grammar.specs.Reading.{kind_in}
 use Rattle.cli_grammar.specs.Separators.{separator_in}
 use Rattle.cli_grammar.specs.Verbs.{positive, row_of_verb}
 use Rattle.mlr_spec.specs.Pairs.{are_distinct}
-use Rattle.serial_core.specs.declared.answer.Why.{Why}
-use Rattle.serial_core.specs.declared.answer.Why.TheVariants.{BadNumber}
+use Rattle.mlr_event.specs.declared.refusal.Why.{Why}
+use Rattle.mlr_event.specs.declared.refusal.Why.TheVariants.{BadNumber}
 use Rattle.verbs_seq.specs.Seq.{IsSoundSeq}
 use Rattle.verbs_state.specs.Gap.{IsSoundGap}
 use Rattle.verbs_state.specs.declared.gap.Gap.TheVariants.{Count, Groups}

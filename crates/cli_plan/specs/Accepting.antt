@@ -1,8 +1,8 @@
 -- Which command lines are accepted, and which words are refused, beyond the grammar: patterns and numbers of verbs, the
 -- number of verbs, and words that contradict each other.
 use Rattle.std.specs.Prelude.{◌≡◌, ◌⊎◌, ℕ, ◌+◌, ◌<◌, nat_lt, Bool, true, false, not, ◌&&◌, if◌then◌else◌, List, [], ◌∷◌, length, Option, Some, None}
-use Rattle.serial_core.specs.declared.answer.Refusal.{Refusal}
-use Rattle.serial_core.specs.declared.answer.Why.TheVariants.{Clash, TooManyVerbs}
+use Rattle.mlr_event.specs.declared.refusal.Refusal.{Refusal}
+use Rattle.mlr_event.specs.declared.refusal.Why.TheVariants.{Clash, TooManyVerbs}
 use Rattle.cli_grammar.specs.declared.given.Given.{Given}
 use Rattle.cli_grammar.specs.declared.given.VerbWords.{VerbWords}
 use Rattle.cli_grammar.specs.declared.line.Line.{Line}

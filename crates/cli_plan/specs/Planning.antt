@@ -1,7 +1,7 @@
 -- What words mean: a plan, a text that the program says, or a refusal.
 use Rattle.std.specs.Prelude.{◌≡◌, ℕ, List, [], ◌∷◌, Some, None}
 use Rattle.chain_core.specs.declared.plan.Plan.{Plan}
-use Rattle.chain_core.specs.declared.verb_spec.VerbSpec.{VerbSpec}
+use Rattle.verb_specs.specs.declared.verb_spec.VerbSpec.{VerbSpec}
 use Rattle.cli_grammar.specs.declared.given.Given.{Given}
 use Rattle.cli_grammar.specs.declared.given.VerbWords.{VerbWords}
 use Rattle.cli_grammar.specs.declared.line.Line.{Line}

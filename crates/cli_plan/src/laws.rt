@@ -1,7 +1,7 @@
 //! Laws of what words come to.
 ghost use Rattle.std.specs.Prelude.{◌≡◌, ◌≢◌, ℕ, List};
-ghost use Rattle.serial_core.specs.declared.answer.Refusal.{Refusal as SpecRefusal};
-ghost use Rattle.serial_core.specs.declared.answer.Why.TheVariants.{PatternSize};
+ghost use Rattle.mlr_event.specs.declared.refusal.Refusal.{Refusal as SpecRefusal};
+ghost use Rattle.mlr_event.specs.declared.refusal.Why.TheVariants.{PatternSize};
 ghost use Rattle.cli_grammar.specs.Reading.{line_in};
 ghost use Rattle.cli_plan.specs.Accepting.{IsAccepted, IsRefused};
 

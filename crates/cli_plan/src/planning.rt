@@ -5,7 +5,7 @@ ghost use Rattle.std.specs.Option.{option_map};
 ghost use Rattle.chain_core.specs.Plans.{IsSound};
 ghost use Rattle.chain_core.specs.declared.plan.Plan.{Plan as SpecPlan};
 ghost use Rattle.cli_grammar.specs.Grammar.{is_verb};
-ghost use Rattle.serial_core.specs.declared.answer.Why.TheVariants.{Clash, TooManyVerbs};
+ghost use Rattle.mlr_event.specs.declared.refusal.Why.TheVariants.{Clash, TooManyVerbs};
 ghost use Rattle.cli_verbs.specs.Faults.{IfRefused};
 ghost use Rattle.cli_verbs.specs.Verbs.{IsVerbOf};
 ghost use Rattle.cli_plan.specs.Accepting.{AreGoodAfter, IsAccepted, IsFirstRefusedAfter, IsGoodAfter, IsGoodPartial, IsRefused, IsRefusedAfter, IsRefusedPartial, clash_after, clash_among, clash_with, is_source};

@@ -20,9 +20,9 @@ use Rattle.mlr_world.specs.declared.outputs.Done.TheVariants as done
 use Rattle.mlr_world.specs.Outputs.{IsPrefixOf, with_bytes}
 use Rattle.serial_core.specs.declared.answer.Ended.{Ended}
 use Rattle.serial_core.specs.declared.answer.Ended.TheVariants as answer
-use Rattle.serial_core.specs.declared.answer.Refusal.{Refusal}
-use Rattle.serial_core.specs.declared.answer.Why.{Why}
-use Rattle.serial_core.specs.declared.answer.Why.TheVariants as why
+use Rattle.mlr_event.specs.declared.refusal.Refusal.{Refusal}
+use Rattle.mlr_event.specs.declared.refusal.Why.{Why}
+use Rattle.mlr_event.specs.declared.refusal.Why.TheVariants as why
 use Rattle.writers.specs.declared.options.WriteOpts.{WriteOpts}
 use Rattle.cli_run.specs.Meaning.{word_at}
 

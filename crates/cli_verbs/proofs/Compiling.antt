@@ -1,7 +1,7 @@
 -- Patterns that are compiled one after another.
 use Rattle.std.proofs.Common.{List, [], ◌∷◌, ◌++◌, inl, inr, refl, subst, sym, append_assoc, append-nil, ◌∙◌, ap}
 use Rattle.regex.specs.Patterns.{Re}
-use Rattle.serial_core.specs.declared.answer.Refusal.{Refusal}
+use Rattle.mlr_event.specs.declared.refusal.Refusal.{Refusal}
 use Rattle.cli_verbs.specs.Compiled.{AreCompiled, AreMoreCompiled, IsNextCompiled}
 use Rattle.cli_verbs.specs.PatternWords.{PatternWord, AreGoodPatterns, IsFirstRefused, IsGoodPattern, IsRefusedPattern}
 

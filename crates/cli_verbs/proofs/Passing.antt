@@ -1,7 +1,7 @@
 -- Patterns that are read one after another.
 use Rattle.std.proofs.Common.{◌≡◌, List, [], ◌∷◌, ◌++◌, inl, inr, subst, sym, ap, ◌∙◌, append_assoc, refl}
 use Rattle.cli_grammar.specs.declared.given.Given.{Given}
-use Rattle.serial_core.specs.declared.answer.Refusal.{Refusal}
+use Rattle.mlr_event.specs.declared.refusal.Refusal.{Refusal}
 use Rattle.cli_verbs.specs.declared.fault.Fault.{Fault}
 use Rattle.cli_verbs.specs.declared.fault.Fault.TheVariants.{Refused, NoMemory}
 use Rattle.cli_verbs.specs.Faults.{IfRefused}

@@ -3,7 +3,7 @@ use Rattle.std.proofs.Common.{◌≡◌, ℕ, ◌≤◌, ◌-◌, get_or, take, 
 use Rattle.std.proofs.lemmas.List.{map-append, take_rest}
 use Rattle.std.specs.declared.sync.Arc.{Arc}
 use Rattle.regex.specs.declared.bytes.regex.Regex.{Regex}
-use Rattle.serial_core.specs.declared.answer.Refusal.{Refusal}
+use Rattle.mlr_event.specs.declared.refusal.Refusal.{Refusal}
 use Rattle.std.specs.Arc.{arc_value}
 use Rattle.cli_verbs.specs.declared.fault.Fault.{Fault}
 use Rattle.cli_verbs.specs.declared.fault.Fault.TheVariants.{Refused, NoMemory}

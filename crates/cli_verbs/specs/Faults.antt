@@ -3,9 +3,9 @@ use Rattle.std.specs.Prelude.{ℕ}
 use Rattle.mlr_pattern.specs.declared.read.PatternFault.{PatternFault}
 use Rattle.mlr_pattern.specs.declared.read.PatternFault.TheVariants.{Bad, TooLarge}
 use Rattle.mlr_pattern.specs.declared.read.PatternFault.TheVariants as pattern
-use Rattle.serial_core.specs.declared.answer.Refusal.{Refusal}
-use Rattle.serial_core.specs.declared.answer.Why.{Why}
-use Rattle.serial_core.specs.declared.answer.Why.TheVariants.{BadPattern, PatternSize}
+use Rattle.mlr_event.specs.declared.refusal.Refusal.{Refusal}
+use Rattle.mlr_event.specs.declared.refusal.Why.{Why}
+use Rattle.mlr_event.specs.declared.refusal.Why.TheVariants.{BadPattern, PatternSize}
 use Rattle.cli_verbs.specs.declared.fault.Fault.{Fault}
 use Rattle.cli_verbs.specs.declared.fault.Fault.TheVariants.{Refused, NoMemory}
 

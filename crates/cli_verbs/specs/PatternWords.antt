@@ -3,8 +3,8 @@ use Rattle.std.specs.Prelude.{◌≡◌, ◌⊎◌, ◌≤◌, ℕ, Bool, ◌||�
 use Rattle.mlr_pattern.specs.Reading.{IsPatternText}
 use Rattle.mlr_pattern.specs.Weight.{weight}
 use Rattle.mlr_pattern.specs.Word.{shed, is_either_case}
-use Rattle.serial_core.specs.declared.answer.Refusal.{Refusal}
-use Rattle.serial_core.specs.declared.answer.Why.TheVariants.{BadPattern, PatternSize}
+use Rattle.mlr_event.specs.declared.refusal.Refusal.{Refusal}
+use Rattle.mlr_event.specs.declared.refusal.Why.TheVariants.{BadPattern, PatternSize}
 
 -- A pattern in a word: the number of the word, the text of the pattern, and whether it ignores the case of letters.
 pub record PatternWord : Type 0 where

@@ -1,8 +1,8 @@
 -- The options of `seqgen`.
 use Rattle.std.specs.Prelude.{◌≡◌, ℕ, pos, codes}
 use Rattle.cli_grammar.specs.declared.given.VerbWords.{VerbWords}
-use Rattle.serial_core.specs.declared.answer.Refusal.{Refusal}
-use Rattle.serial_core.specs.declared.answer.Why.TheVariants.{BadNumber}
+use Rattle.mlr_event.specs.declared.refusal.Refusal.{Refusal}
+use Rattle.mlr_event.specs.declared.refusal.Why.TheVariants.{BadNumber}
 use Rattle.verbs_seq.specs.Seq.{IsSoundSeq}
 use Rattle.verbs_seq.specs.declared.seq_spec.SeqSpec.{SeqSpec}
 use Rattle.cli_verbs.specs.Choices.{int_or, number_or, word_or}

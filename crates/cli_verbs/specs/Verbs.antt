@@ -1,12 +1,12 @@
 -- The verb that words give.
 use Rattle.std.specs.Prelude.{◌≡◌, ℕ, Bool, false, ◌==◌, if◌then◌else◌, List, [], ◌∷◌, length, codes}
-use Rattle.chain_core.specs.declared.verb_spec.VerbSpec.{VerbSpec}
-use Rattle.chain_core.specs.declared.verb_spec.VerbSpec.TheVariants.{Stream, Seq}
+use Rattle.verb_specs.specs.declared.verb_spec.VerbSpec.{VerbSpec}
+use Rattle.verb_specs.specs.declared.verb_spec.VerbSpec.TheVariants.{Stream, Seq}
 use Rattle.cli_grammar.specs.Options.{has}
 use Rattle.cli_grammar.specs.declared.given.VerbWords.{VerbWords}
 use Rattle.cli_grammar.specs.declared.verb_table.VerbName.{VerbName}
 use Rattle.cli_grammar.specs.declared.verb_table.VerbName.TheVariants as verb
-use Rattle.serial_core.specs.declared.answer.Refusal.{Refusal}
+use Rattle.mlr_event.specs.declared.refusal.Refusal.{Refusal}
 use Rattle.verbs_pattern.specs.declared.cut.Cut.{Cut}
 use Rattle.verbs_pattern.specs.declared.grep.Grep.{Grep}
 use Rattle.verbs_pattern.specs.declared.gsub.Gsub.{Gsub}

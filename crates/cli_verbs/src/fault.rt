@@ -1,6 +1,6 @@
 //! Why the words of a verb give no verb.
+use mlr_event::Refusal;
 use mlr_spec::NoMemory;
-use serial_core::Refusal;
 
 /// Why the words of a verb give no verb.
 #[derive(Drop)]

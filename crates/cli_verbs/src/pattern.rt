@@ -8,10 +8,10 @@ ghost use Rattle.cli_verbs.specs.Faults.{fault_of, refused, IfRefused};
 ghost use Rattle.cli_verbs.specs.PatternWords.{pattern_in, IsGoodPattern, AreGoodPatterns, IsRefusedPattern, IsFirstRefused};
 
 use crate::fault::Fault;
+use mlr_event::{Refusal, Why};
 use mlr_pattern::{Pattern, PatternFault, PatternWord, Patterns, pattern_word, read_pattern};
 use mlr_spec::NoMemory;
 use mlr_value::Bytes;
-use serial_core::{Refusal, Why};
 use std::alloc::Global;
 use std::sync::Arc;
 

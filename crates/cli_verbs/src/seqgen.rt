@@ -8,8 +8,8 @@ use crate::choice::{int_or, number_or, text_or};
 use crate::fault::Fault;
 use crate::pattern::refused;
 use cli_grammar::VerbWords;
+use mlr_event::Why;
 use mlr_spec::NoMemory;
-use serial_core::Why;
 use std::alloc::Global;
 use verbs_seq::SeqSpec;
 

@@ -31,9 +31,9 @@ use crate::sub::sub;
 use crate::template::template;
 use crate::unflatten::unflatten;
 use crate::unspace::unspace;
-use chain_core::VerbSpec;
 use cli_grammar::{VerbName, VerbWords};
 use std::alloc::Global;
+use verb_specs::VerbSpec;
 use verbs_stream::Spec;
 
 /// The verb that words give, with its options. Names are flattened with this separator by default.

@@ -12,10 +12,9 @@ pub mod models;
 mod name_list;
 mod names;
 mod options;
+mod refusal;
 pub mod rows;
 mod step;
-#[cfg(test)]
-mod tests;
 
 pub use batch::{Batch, Tail};
 pub use event::{Body, Ctx, Event, Piece};
@@ -26,4 +25,5 @@ pub use laws::verb_laws;
 pub use name_list::NameList;
 pub use names::{FileRef, InputName, Mode, StyleId, Target};
 pub use options::{Comments, Format, ReadOpts};
+pub use refusal::{Refusal, Why};
 pub use step::Step;

@@ -5,8 +5,6 @@
 mod groups;
 mod keys;
 mod tallies;
-#[cfg(test)]
-mod tests;
 
 pub use groups::Groups;
 pub use keys::{KeyTable, append_text, append_texts};

@@ -10,8 +10,6 @@ mod machine;
 mod read;
 mod steps;
 mod string;
-#[cfg(test)]
-mod tests;
 mod token;
 mod word;
 mod write;

@@ -5,8 +5,6 @@
 mod patterns;
 mod read;
 mod replace;
-#[cfg(test)]
-mod tests;
 mod values;
 mod weight;
 mod which;

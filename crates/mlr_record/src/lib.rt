@@ -6,8 +6,6 @@ mod laws;
 mod node;
 mod record;
 pub mod split;
-#[cfg(test)]
-mod tests;
 mod unflatten;
 
 pub use laws::flattened_again;

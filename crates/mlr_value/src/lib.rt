@@ -9,8 +9,6 @@ mod map_value;
 mod order;
 mod short;
 mod stops;
-#[cfg(test)]
-mod tests;
 mod value;
 
 pub use arithmetic::{arith, arith1};

@@ -11,10 +11,6 @@ mod records;
 mod row;
 mod row_outcome;
 mod rules;
-#[cfg(test)]
-mod test_files;
-#[cfg(test)]
-mod tests;
 mod tsv;
 
 pub use laws::prefix_laws;

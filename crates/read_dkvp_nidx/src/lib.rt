@@ -11,8 +11,6 @@ mod nidx;
 mod reader;
 mod row;
 mod rules;
-#[cfg(test)]
-mod tests;
 
 pub use laws::prefix_laws;
 pub use reader::{LineReader, can_read};

@@ -8,8 +8,6 @@ mod record_state;
 mod records;
 mod stream;
 mod strings;
-#[cfg(test)]
-mod tests;
 mod text;
 
 pub use json::{JsonReader, can_read};

@@ -10,8 +10,6 @@ mod reader;
 mod row;
 mod rules;
 mod table;
-#[cfg(test)]
-mod tests;
 mod words;
 mod xtab;
 

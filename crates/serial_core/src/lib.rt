@@ -9,6 +9,7 @@ mod serial;
 #[cfg(test)]
 mod tests;
 
-pub use answer::{Ended, Refusal, Why};
+pub use answer::Ended;
+pub use mlr_event::{Refusal, Why};
 pub use reader::Reader;
 pub use serial::{Serial, SerialTurn};

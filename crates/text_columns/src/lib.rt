@@ -8,8 +8,6 @@ mod encode;
 mod padding;
 mod pprint;
 mod rows;
-#[cfg(test)]
-mod tests;
 mod width;
 mod widths;
 mod xtab;

@@ -11,8 +11,6 @@ mod over_events;
 mod per_record;
 mod stateful;
 mod string;
-#[cfg(test)]
-mod tests;
 
 pub use change::{Change, change_fields, change_record};
 pub use choosing::{drop_named, is_empty, keep_named, pick_named};

@@ -11,8 +11,6 @@ mod reorder;
 mod sort_within_records;
 mod sparsify;
 mod template;
-#[cfg(test)]
-mod tests;
 mod unspace;
 
 pub use altkv::Altkv;

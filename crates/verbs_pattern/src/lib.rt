@@ -16,8 +16,6 @@ mod ssub;
 mod sub;
 mod sub_fields;
 mod substitution;
-#[cfg(test)]
-mod tests;
 
 pub use cut::{Cut, CutFields, CutVerb};
 pub use grep::{Grep, GrepVerb};

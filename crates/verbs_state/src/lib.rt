@@ -12,8 +12,6 @@ mod laws;
 mod nothing;
 mod regularize;
 mod repeat;
-#[cfg(test)]
-mod tests;
 
 pub use cat::{Cat, CatVerb};
 pub use decimate::{Decimate, DecimateVerb};

@@ -4,12 +4,6 @@
 
 mod running;
 mod spec;
-#[cfg(test)]
-mod test_rows;
-#[cfg(test)]
-mod test_verbs;
-#[cfg(test)]
-mod tests;
 mod verb;
 
 pub use spec::Spec;

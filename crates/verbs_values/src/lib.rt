@@ -10,8 +10,6 @@ mod json_values;
 mod laws;
 mod sec2gmt;
 mod sec2gmtdate;
-#[cfg(test)]
-mod tests;
 mod unflatten;
 
 pub use fill_empty::FillEmpty;

@@ -21,8 +21,6 @@ mod shape;
 mod stage;
 mod state;
 mod style;
-#[cfg(test)]
-mod tests;
 mod tsv;
 mod writer;
 mod xtab;

@@ -1,7 +1,7 @@
 use Rattle.std.proofs.Common.{◌≡◌, ◌++◌, ◌∷◌, [], ap, sym, subst}
 use Rattle.verbs_base.specs.Records.{verb_of}
 use Rattle.verbs_stream.specs.Meaning.{meaning_of}
-use Rattle.chain_core.specs.Plans.{verb_with}
+use Rattle.verb_specs.specs.Verbs.{verb_with}
 use Rattle.chain_core.specs.Verbs.{AreNew}
 use Rattle.chain_core.proofs.New.{new-following}
 use Rattle.chain_core.proofs.chain.push_new.Goals as goal

@@ -1,5 +1,5 @@
 use Rattle.std.proofs.Common.{◌≡◌, take}
-use Rattle.chain_core.specs.Plans.{no_lefts}
+use Rattle.verb_specs.specs.Verbs.{no_lefts}
 use Rattle.chain_core.proofs.lefts.no_lefts.Given as goal
 
 -- an entry for each verb so far

@@ -1,5 +1,5 @@
 use Rattle.std.proofs.Common.{take}
-use Rattle.chain_core.specs.Plans.{AreSameVerbs}
+use Rattle.verb_specs.specs.Verbs.{AreSameVerbs}
 use Rattle.chain_core.proofs.plan.copy_verbs.Given as goal
 
 -- those so far

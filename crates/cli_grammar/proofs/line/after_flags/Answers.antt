@@ -1,6 +1,6 @@
 use Rattle.std.proofs.Common.{◌≡◌, ℕ, Bool, true, false, List, Option, Some, None, refl, ap, sym, ◌∙◌}
 use Rattle.std.specs.Prelude.{if◌then◌else◌}
-use Rattle.serial_core.specs.declared.answer.Why.TheVariants.{UnknownFlag}
+use Rattle.mlr_event.specs.declared.refusal.Why.TheVariants.{UnknownFlag}
 use Rattle.cli_grammar.specs.declared.flag_table.Setting.{Setting}
 use Rattle.cli_grammar.specs.declared.kind.Kind.{Kind}
 use Rattle.cli_grammar.specs.declared.line.Next.{Next}

@@ -1,6 +1,6 @@
 use Rattle.std.proofs.Common.{ℕ, List, ◌++◌, drop}
-use Rattle.chain_core.specs.declared.verb_spec.VerbSpec.{VerbSpec}
-use Rattle.serial_core.specs.declared.answer.Refusal.{Refusal}
+use Rattle.verb_specs.specs.declared.verb_spec.VerbSpec.{VerbSpec}
+use Rattle.mlr_event.specs.declared.refusal.Refusal.{Refusal}
 use Rattle.cli_grammar.specs.declared.given.VerbWords.{VerbWords}
 use Rattle.cli_plan.specs.Accepting.{AreGoodAfter, IsFirstRefusedAfter}
 use Rattle.cli_plan.specs.Planning.{AreVerbsOf}

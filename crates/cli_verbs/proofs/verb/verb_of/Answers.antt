@@ -1,5 +1,5 @@
 use Rattle.std.proofs.Common.{rules, ap, refl, sym, subst}
-use Rattle.chain_core.specs.declared.verb_spec.VerbSpec.TheVariants.{Stream}
+use Rattle.verb_specs.specs.declared.verb_spec.VerbSpec.TheVariants.{Stream}
 use Rattle.cli_verbs.specs.Verbs.{IsVerbNamed}
 use Rattle.cli_verbs.proofs.verb.verb_of.Goals as goal
 use Rattle.cli_verbs.proofs.verb.verb_of.Goals.{in-Altkv, in-Cat+in_ok-cat-in-Cat, in-Cut+in_ok-cut-in-Cut, in-Decimate+in_ok-decimate-in-Decimate, in-FillDown+in_ok-fill_down-in-FillDown, in-FillEmpty+in_ok-fill_empty-in-FillEmpty, in-Flatten+in_ok-flatten-in-Flatten, in-Gap+in_ok-gap-in-Gap, in-Grep+in_ok-grep-in-Grep, in-Gsub+in_ok-gsub-in-Gsub, in-HavingFields+in_ok-having_fields-in-HavingFields, in-Head+in_ok-head-in-Head, in-JsonParse+in_ok-json_parse-in-JsonParse, in-JsonStringify+in_ok-json_stringify-in-JsonStringify, in-Label+in_ok-label-in-Label, in-Nothing, in-Regularize, in-Rename+in_ok-rename-in-Rename, in-Reorder+in_ok-reorder-in-Reorder, in-Repeat+in_ok-repeat-in-Repeat, in-Sec2Gmt+in_ok-sec2gmt-in-Sec2Gmt, in-Sec2GmtDate+in_ok-sec2gmtdate-in-Sec2GmtDate, in-SortWithinRecords, in-Sparsify+in_ok-sparsify-in-Sparsify, in-Ssub+in_ok-ssub-in-Ssub, in-Sub+in_ok-sub-in-Sub, in-Template+in_ok-template-in-Template, in-Unflatten+in_ok-unflatten-in-Unflatten, in-Unspace+in_ok-unspace-in-Unspace}

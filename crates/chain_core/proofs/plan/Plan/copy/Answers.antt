@@ -1,5 +1,5 @@
 use Rattle.std.proofs.Common.{refl, subst, ◌∙◌}
-use Rattle.chain_core.specs.Plans.{AreSameVerbs}
+use Rattle.verb_specs.specs.Verbs.{AreSameVerbs}
 use Rattle.chain_core.proofs.Copies.{copy-is-sound}
 use Rattle.chain_core.proofs.plan.Plan.copy.Goals as goal
 

@@ -3,7 +3,7 @@ use Rattle.verb_chain.specs.Chain.{chain}
 use Rattle.verb_chain.specs.Represents as chained
 use Rattle.outlet.specs.Represents as outlet
 use Rattle.serial_core.specs.Reading.{ReaderRepresents}
-use Rattle.chain_core.specs.Plans.{verbs_with}
+use Rattle.verb_specs.specs.Verbs.{verbs_with}
 use Rattle.chain_core.specs.Verbs.{WasGiven, meaning_in}
 use Rattle.chain_core.proofs.New.{no-lefts-same}
 use Rattle.chain_core.proofs.Firsts.{same-first}

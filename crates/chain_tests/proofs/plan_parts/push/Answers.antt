@@ -1,9 +1,9 @@
 use Rattle.std.proofs.Common.{List, [], ◌∷◌, ◌++◌, sym, subst}
 use Rattle.verbs_stream.specs.declared.spec.Spec.{Spec}
 use Rattle.verbs_stream.specs.Meaning.{IsSound}
-use Rattle.chain_core.specs.declared.verb_spec.VerbSpec.{VerbSpec}
-use Rattle.chain_core.specs.declared.verb_spec.VerbSpec.TheVariants.{Stream, Seq}
-use Rattle.chain_core.specs.Plans.{AreSound, AreVerbs}
+use Rattle.verb_specs.specs.declared.verb_spec.VerbSpec.{VerbSpec}
+use Rattle.verb_specs.specs.declared.verb_spec.VerbSpec.TheVariants.{Stream, Seq}
+use Rattle.verb_specs.specs.Verbs.{AreSound, AreVerbs}
 use Rattle.chain_core.proofs.tests.push.Goals as goal
 
 verbs-append : (specs : List VerbSpec) (spec : Spec) → AreVerbs specs → IsSound spec → AreVerbs (specs ++ Stream spec ∷ [])

@@ -1,6 +1,6 @@
 //! Verbs of a plan, of any kind, with their options.
 ghost use Rattle.std.specs.Prelude.{IfOk, IsOk};
-ghost use Rattle.chain_core.specs.Plans.{AreSame, IsShort};
+ghost use Rattle.verb_specs.specs.Verbs.{AreSame, IsShort};
 
 use mlr_spec::NoMemory;
 use std::alloc::Global;

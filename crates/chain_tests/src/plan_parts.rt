@@ -6,7 +6,8 @@ ghost use Rattle.mlr_event.specs.Verb.{Verb as SpecVerb, is_open};
 ghost use Rattle.read_files.specs.Represents.{can_read};
 ghost use Rattle.verbs_stream.specs.Meaning.{IsSound as IsSoundSpec};
 ghost use Rattle.chain_core.specs.Chains.{Represents};
-ghost use Rattle.chain_core.specs.Plans.{AreSound, IsSound};
+ghost use Rattle.chain_core.specs.Plans.{IsSound};
+ghost use Rattle.verb_specs.specs.Verbs.{AreSound};
 
 use crate::{
     Chain, Ended, Let, NameList, Outlet, Plan, ReadTurn, Reader, Serial, SerialTurn, StyleList,

@@ -1,4 +1,4 @@
-use Rattle.chain_core.specs.Plans.{AreSound}
+use Rattle.verb_specs.specs.Verbs.{AreSound}
 use Rattle.chain_core.proofs.tests.verbs_of.Given as goal
 
 -- verbs that may be run

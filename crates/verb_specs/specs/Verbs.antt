@@ -1,0 +1,66 @@
+-- What a verb of a plan means, which options words may give it, and which options are short.
+use Rattle.std.specs.Prelude.{◌≡◌, ◌≤◌, length, List, [], ◌∷◌, ◌++◌, map}
+use Rattle.mlr_event.specs.declared.event.Event.{Event}
+use Rattle.mlr_event.specs.Verb.{Verb}
+use Rattle.verbs_seq.specs.Seq.{IsSoundSeq}
+use Rattle.verbs_base.specs.Records.{verb_of}
+use Rattle.verbs_stream.specs.Meaning as stream
+use Rattle.verb_specs.specs.declared.verb_spec.VerbSpec.{VerbSpec}
+use Rattle.verb_specs.specs.declared.verb_spec.VerbSpec.TheVariants.{Stream, Seq}
+
+-- a verb that isn't a source, with options that words may give
+abbrev pub IsVerb : VerbSpec → Type 0
+IsVerb (Stream spec) = stream.IsSound spec
+IsVerb (Seq seq) = ⊥
+
+abbrev pub AreVerbs : List VerbSpec → Type 0
+AreVerbs [] = Unit {0}
+AreVerbs (spec ∷ specs) = IsVerb spec × AreVerbs specs
+
+-- a source, or a verb with options that words may give
+abbrev pub IsVerbOrSource : VerbSpec → Type 0
+IsVerbOrSource (Stream spec) = stream.IsSound spec
+IsVerbOrSource (Seq seq) = Unit {0}
+
+-- the first verb of a plan may be a source
+abbrev pub AreSound : List VerbSpec → Type 0
+AreSound [] = Unit {0}
+AreSound (Stream spec ∷ specs) = stream.IsSound spec × AreVerbs specs
+AreSound (Seq seq ∷ specs) = IsSoundSeq seq × AreVerbs specs
+
+-- the verb of these options with the records of its left file; a source is none
+abbrev pub verb_with : VerbSpec → List Event → List Verb
+verb_with (Stream spec) left = verb_of (stream.meaning_of spec) ∷ []
+verb_with (Seq seq) left = []
+
+-- the verbs without a source, each with the records of its left file
+abbrev pub verbs_with : List VerbSpec → List (List Event) → List Verb
+verbs_with [] lefts = []
+verbs_with (spec ∷ specs) [] = verb_with spec [] ++ verbs_with specs []
+verbs_with (spec ∷ specs) (left ∷ lefts) = verb_with spec left ++ verbs_with specs lefts
+
+-- what the left files of verbs hold where no verb has one
+abbrev pub no_lefts : List VerbSpec → List (List Event)
+no_lefts specs = map (λ spec. []) specs
+
+-- the verbs of a plan where no verb has a left file
+abbrev pub verbs_of : List VerbSpec → List Verb
+verbs_of specs = verbs_with specs []
+
+-- a copy of a verb: the same verb, sound where its source is
+abbrev pub AreSame : VerbSpec → VerbSpec → Type 0
+AreSame (Stream spec) (Stream copy) = (stream.meaning_of copy ≡ stream.meaning_of spec) × (stream.IsSound spec → stream.IsSound copy)
+AreSame (Stream spec) (Seq copy) = ⊥
+AreSame (Seq seq) (Stream copy) = ⊥
+AreSame (Seq seq) (Seq copy) = copy ≡ seq
+
+-- a verb whose options have no list, no pattern and no text of more than 16 bytes
+abbrev pub IsShort : VerbSpec → Type 0
+IsShort (Stream spec) = stream.IsShort spec
+IsShort (Seq seq) = length seq.field ≤ 16
+
+abbrev pub AreSameVerbs : List VerbSpec → List VerbSpec → Type 0
+AreSameVerbs [] [] = Unit {0}
+AreSameVerbs [] (copy ∷ copies) = ⊥
+AreSameVerbs (spec ∷ specs) [] = ⊥
+AreSameVerbs (spec ∷ specs) (copy ∷ copies) = AreSame spec copy × AreSameVerbs specs copies
