@@ -12,9 +12,10 @@ bin/mlr: $(SOURCES)
 test:  ## prove everything from nothing, and run all tests (rt ci)
 	rt ci
 
-check: bin/mlr  ## run the built program on real files, pipes and devices, on lines of words, and on the examples of the documents
+check: bin/mlr  ## run the built program on real files, pipes and devices, lines of words, cases of each verb, and the examples of the documents
 	tests/program bin/mlr
 	tests/words bin/mlr
+	tests/verbs bin/mlr
 	tests/generated
 	tests/documents bin/mlr
 

@@ -6,7 +6,7 @@ use Rattle.mlr_event.specs.declared.event.Event.{Event}
 use Rattle.mlr_event.specs.Verb as meaning
 use Rattle.chain_core.specs.declared.verb.Verb.{Verb}
 use Rattle.verb_specs.specs.declared.verb_spec.VerbSpec.{VerbSpec}
-use Rattle.verb_specs.specs.declared.verb_spec.VerbSpec.TheVariants.{Stream, Seq}
+use Rattle.verb_specs.specs.declared.verb_spec.VerbSpec.TheVariants.{Stream, Retain, Seq}
 use Rattle.verb_specs.specs.Verbs.{AreSound, AreVerbs, IsVerbOrSource, no_lefts, verb_with, verbs_of, verbs_with}
 use Rattle.chain_core.specs.Verbs.{AreNew, IsNew}
 
@@ -17,11 +17,13 @@ AreVerbsOrSources (spec ∷ specs) = IsVerbOrSource spec × AreVerbsOrSources sp
 verbs-too : (specs : List VerbSpec) → AreVerbs specs → AreVerbsOrSources specs
 verbs-too [] are = tt
 verbs-too (Stream spec ∷ specs) are = (are.0, verbs-too specs are.1)
+verbs-too (Retain spec ∷ specs) are = (tt, verbs-too specs are.1)
 verbs-too (Seq seq ∷ specs) are = absurd are.0
 
 pub sound-too : (specs : List VerbSpec) → AreSound specs → AreVerbsOrSources specs
 sound-too [] are = tt
 sound-too (Stream spec ∷ specs) are = (are.0, verbs-too specs are.1)
+sound-too (Retain spec ∷ specs) are = (tt, verbs-too specs are)
 sound-too (Seq seq ∷ specs) are = (tt, verbs-too specs are.1)
 
 -- one more verb is new

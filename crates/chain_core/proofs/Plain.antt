@@ -18,13 +18,14 @@ use Rattle.verb_chain.specs.Chain.{chain, chain_from, closing, cut, last_context
 use Rattle.verb_chain.specs.Chain as chains
 use Rattle.verb_chain.specs.Represents.{made_at}
 use Rattle.verbs_base.specs.Laws.{verb-quiet}
-use Rattle.verbs_base.specs.Records.{verb_of}
+use Rattle.verbs_base.specs.Records.{RecordVerb, verb_of}
 use Rattle.verbs_seq.specs.declared.seq_spec.SeqSpec.{SeqSpec}
 use Rattle.verbs_seq.specs.Seq.{seq_context, seq_count, seq_event}
+use Rattle.verbs_retain.specs.Meaning as retain
 use Rattle.verbs_stream.specs.Meaning.{meaning_of}
 use Rattle.serial_core.specs.Command.{Command, Origin, files, numbers, given_by, result}
 use Rattle.verb_specs.specs.declared.verb_spec.VerbSpec.{VerbSpec}
-use Rattle.verb_specs.specs.declared.verb_spec.VerbSpec.TheVariants.{Stream, Seq}
+use Rattle.verb_specs.specs.declared.verb_spec.VerbSpec.TheVariants.{Stream, Retain, Seq}
 use Rattle.verb_specs.specs.Verbs.{verbs_of}
 
 abbrev pub is_plain : Event → Bool
@@ -153,11 +154,13 @@ cut-plain true verb events plain = from (closing verb events) refl
     from (Some prefix) is =
         both-plain prefix (event.End (last_context chains.zero_context prefix) ∷ []) (found-plain (λ p. is_open p && verb.closed p) (prefixes events) prefix (prefixes-plain events plain) is) refl
 
+record-plain : (verb : RecordVerb) (quiet : Bool) (events : List Event) → are_plain events ≡ true → are_plain (made_at quiet (verb_of verb) events) ≡ true
+record-plain verb quiet events plain = made-plain (verb_of verb) (verb-quiet verb refl) (cut quiet (verb_of verb) events) (cut-plain quiet (verb_of verb) events plain)
+
 chain-plain : (specs : List VerbSpec) (quiet : Bool) (events : List Event) → are_plain events ≡ true → are_plain (chain_from quiet (verbs_of specs) events) ≡ true
 chain-plain [] quiet events plain = plain
-chain-plain (Stream spec ∷ specs) quiet events plain =
-    let verb = verb_of (meaning_of spec) in
-    chain-plain specs (quiet && not verb.effects) (made_at quiet verb events) (made-plain verb (verb-quiet (meaning_of spec) refl) (cut quiet verb events) (cut-plain quiet verb events plain))
+chain-plain (Stream spec ∷ specs) quiet events plain = chain-plain specs (quiet && true) (made_at quiet (verb_of (meaning_of spec)) events) (record-plain (meaning_of spec) quiet events plain)
+chain-plain (Retain spec ∷ specs) quiet events plain = chain-plain specs (quiet && true) (made_at quiet (verb_of (retain.meaning_of spec)) events) (record-plain (retain.meaning_of spec) quiet events plain)
 chain-plain (Seq seq ∷ specs) quiet events plain = chain-plain specs quiet events plain
 
 -- no piece is in the result of a command with the verbs of such options

@@ -6,14 +6,13 @@ use Rattle.serial_core.specs.Command.{Command, Origin, files, numbers}
 use Rattle.writers.specs.declared.options.WriteOpts.{WriteOpts}
 use Rattle.chain_core.specs.declared.plan.Plan.{Plan}
 use Rattle.verb_specs.specs.declared.verb_spec.VerbSpec.{VerbSpec}
-use Rattle.verb_specs.specs.declared.verb_spec.VerbSpec.TheVariants.{Stream, Seq}
+use Rattle.verb_specs.specs.declared.verb_spec.VerbSpec.TheVariants.{Seq}
 use Rattle.verb_specs.specs.Verbs.{AreSameVerbs, AreSound, verbs_of}
 
 -- where the events come from: a source, or else this origin
 abbrev pub origin_or : Origin → List VerbSpec → Origin
-origin_or origin [] = origin
-origin_or origin (Stream spec ∷ specs) = origin
 origin_or origin (Seq seq ∷ specs) = numbers seq
+origin_or origin _ = origin
 
 abbrev pub inputs_of : Plan → List InputName
 inputs_of plan = if plan.no_input then [] else plan.inputs

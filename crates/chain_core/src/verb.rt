@@ -8,12 +8,15 @@ use mlr_event::{Event, Events, Step};
 use mlr_spec::NoMemory;
 use std::alloc::Global;
 use verb_specs::VerbSpec;
+use verbs_retain::RetainVerb;
 use verbs_stream::StreamVerb;
 
 /// A verb of a chain, of any kind. It begins with `begin`, and takes events after that.
 pub enum Verb {
     /// A streaming verb.
     Stream(StreamVerb),
+    /// A retaining verb.
+    Retain(RetainVerb),
 }
 
 // Written by hand, so that the crates above call it instead of dropping the fields themselves.
@@ -21,6 +24,7 @@ impl Drop for Verb {
     fn drop(self) {
         match self {
             Verb::Stream(verb) => drop(verb),
+            Verb::Retain(verb) => drop(verb),
         }
     }
 }
@@ -39,6 +43,10 @@ impl Verb {
                 Ok(verb) => Ok(Verb::Stream(verb)),
                 Err(error) => Err(error),
             },
+            VerbSpec::Retain(options) => match RetainVerb::of(alloc, options) {
+                Ok(verb) => Ok(Verb::Retain(verb)),
+                Err(error) => Err(error),
+            },
             VerbSpec::Seq(_) => unreachable!(),
         }
     }
@@ -53,7 +61,7 @@ impl Verb {
     {
         match self {
             // It makes nothing before them.
-            Verb::Stream(_) => {
+            Verb::Stream(_) | Verb::Retain(_) => {
                 let _ = out;
                 Ok(())
             }
@@ -62,27 +70,32 @@ impl Verb {
 }
 
 impl Step for Verb {
-    ghost use Rattle.chain_core.specs.declared.verb.Verb.TheVariants.{Stream};
+    ghost use Rattle.chain_core.specs.declared.verb.Verb.TheVariants.{Stream, Retain};
     ghost use Rattle.chain_core.specs.Verbs.{WasGiven, meaning_in};
+    ghost use Rattle.verbs_retain.specs.contracts.verb.RetainVerbStep.TheImpl.Laws as retain;
     ghost use Rattle.verbs_stream.specs.contracts.verb.StreamVerbStep.TheImpl.Laws as stream;
 
     ghost verb = { meaning_in };
 
     ghost represents = { WasGiven };
 
-    ghost broken = { elim [ Stream s ↦ ⟦<StreamVerb as Step>⟧.broken s ] };
+    ghost broken = { elim [
+      | Stream s ↦ ⟦<StreamVerb as Step>⟧.broken s
+      | Retain s ↦ ⟦<RetainVerb as Step>⟧.broken s
+    ] };
 
-    ghost whole = { elim [ Stream s ↦ stream.whole-law s ] };
+    ghost whole = { elim [ Stream s ↦ stream.whole-law s | Retain s ↦ retain.whole-law s ] };
 
-    ghost quiet = { elim [ Stream s ↦ stream.quiet-law s ] };
+    ghost quiet = { elim [ Stream s ↦ stream.quiet-law s | Retain s ↦ retain.quiet-law s ] };
 
-    ghost orderly = { elim [ Stream s ↦ stream.orderly-law s ] };
+    ghost orderly = { elim [ Stream s ↦ stream.orderly-law s | Retain s ↦ retain.orderly-law s ] };
 
-    ghost closes = { elim [ Stream s ↦ stream.closes-law s ] };
+    ghost closes = { elim [ Stream s ↦ stream.closes-law s | Retain s ↦ retain.closes-law s ] };
 
     fn step(&mut self, event: Event, out: &mut Events) -> Result<(), NoMemory> {
         match self {
             Verb::Stream(verb) => verb.step(event, out)?,
+            Verb::Retain(verb) => verb.step(event, out)?,
         }
         Ok(())
     }
@@ -90,36 +103,42 @@ impl Step for Verb {
     fn step_all(&mut self, events: &mut Events, out: &mut Events) -> Result<(), NoMemory> {
         match self {
             Verb::Stream(verb) => verb.step_all(events, out),
+            Verb::Retain(verb) => verb.step_all(events, out),
         }
     }
 
     fn never_closes(&self) -> bool {
         match self {
             Verb::Stream(verb) => verb.never_closes(),
+            Verb::Retain(verb) => verb.never_closes(),
         }
     }
 
     fn closed(&self) -> bool {
         match self {
             Verb::Stream(verb) => verb.closed(),
+            Verb::Retain(verb) => verb.closed(),
         }
     }
 
     fn has_effects(&self) -> bool {
         match self {
             Verb::Stream(verb) => verb.has_effects(),
+            Verb::Retain(verb) => verb.has_effects(),
         }
     }
 
     fn passes_all(&self) -> bool {
         match self {
             Verb::Stream(verb) => verb.passes_all(),
+            Verb::Retain(verb) => verb.passes_all(),
         }
     }
 
     fn is_broken(&self) -> bool {
         match self {
             Verb::Stream(verb) => verb.is_broken(),
+            Verb::Retain(verb) => verb.is_broken(),
         }
     }
 }

@@ -9,7 +9,7 @@ ghost use Rattle.chain_core.specs.Chains.{Represents};
 ghost use Rattle.chain_core.specs.Plans.{IsSound};
 ghost use Rattle.verb_specs.specs.Verbs.{AreSound};
 
-use crate::{
+use chain_core::{
     Chain, Ended, Let, NameList, Outlet, Plan, ReadTurn, Reader, Serial, SerialTurn, StyleList,
     Verb, VerbList, VerbSpec, no_lefts, run_serial,
 };
@@ -248,12 +248,6 @@ fn first_wrong_chain(alloc: Global) -> Result<Option<usize>, NoMemory> {
     Ok(None)
 }
 
-#[test]
-fn heads_stop_their_chain(rt: HostRuntime) -> Result<(), NoMemory> {
-    assert_eq!(rt; first_wrong_chain(rt.alloc())?, None);
-    Ok(())
-}
-
 /// A plan, and what it makes of standard input with a text.
 struct Case {
     name: &'static str,
@@ -380,12 +374,6 @@ fn first_wrong_plan(alloc: Global) -> Result<Option<&'static str>, NoMemory> {
     Ok(None)
 }
 
-#[test]
-fn plans_and_their_copies_make_the_wanted_text(rt: HostRuntime) -> Result<(), NoMemory> {
-    assert_eq!(rt; first_wrong_plan(rt.alloc())?, None);
-    Ok(())
-}
-
 /// The input of the parts that are called one by one.
 const TEXT: &str = "a=1,b=xyz\n";
 
@@ -477,8 +465,11 @@ fn parts_move<R: Threads>(rt: &R, alloc: Global) -> Result<bool, NoMemory> {
 }
 
 #[test]
-fn the_parts_of_a_plan_work_alone(rt: HostRuntime) -> Result<(), NoMemory> {
-    assert!(rt; parts_give_their_rows(rt.alloc())?);
-    assert!(rt; parts_move(&rt, rt.alloc())?);
+fn chains_plans_and_their_parts_make_what_is_wanted(rt: HostRuntime) -> Result<(), NoMemory> {
+    let alloc = rt.alloc();
+    assert_eq!(rt; first_wrong_chain(alloc)?, None);
+    assert_eq!(rt; first_wrong_plan(alloc)?, None);
+    assert!(rt; parts_give_their_rows(alloc)?);
+    assert!(rt; parts_move(&rt, alloc)?);
     Ok(())
 }

@@ -19,11 +19,12 @@ positive = kind.Number (pos 1) (pos (2 ^ 63 - 1))
 
 abbrev pub all_verbs : List VerbName
 all_verbs =
-    verb.Altkv ∷ verb.Cat ∷ verb.Cut ∷ verb.Decimate ∷ verb.FillDown ∷ verb.FillEmpty ∷ verb.Flatten ∷ verb.Gap ∷
-    verb.Grep ∷ verb.Gsub ∷ verb.HavingFields ∷ verb.Head ∷ verb.JsonParse ∷ verb.JsonStringify ∷ verb.Label ∷
-    verb.Nothing ∷ verb.Regularize ∷ verb.Rename ∷ verb.Reorder ∷ verb.Repeat ∷ verb.Sec2Gmt ∷ verb.Sec2GmtDate ∷
-    verb.Seqgen ∷ verb.SortWithinRecords ∷ verb.Sparsify ∷ verb.Ssub ∷ verb.Sub ∷ verb.Template ∷ verb.Unflatten ∷
-    verb.Unspace ∷ []
+    verb.Altkv ∷ verb.Cat ∷ verb.Count ∷ verb.CountDistinct ∷ verb.CountSimilar ∷ verb.Cut ∷ verb.Decimate ∷
+    verb.FillDown ∷ verb.FillEmpty ∷ verb.Flatten ∷ verb.Gap ∷ verb.Grep ∷ verb.GroupBy ∷ verb.GroupLike ∷ verb.Gsub ∷
+    verb.HavingFields ∷ verb.Head ∷ verb.JsonParse ∷ verb.JsonStringify ∷ verb.Label ∷ verb.LeastFrequent ∷
+    verb.MostFrequent ∷ verb.Nothing ∷ verb.Regularize ∷ verb.Rename ∷ verb.Reorder ∷ verb.Repeat ∷ verb.Sec2Gmt ∷
+    verb.Sec2GmtDate ∷ verb.Seqgen ∷ verb.Sort ∷ verb.SortWithinRecords ∷ verb.Sparsify ∷ verb.Ssub ∷ verb.Sub ∷
+    verb.Tac ∷ verb.Tail ∷ verb.Template ∷ verb.Unflatten ∷ verb.Uniq ∷ verb.Unspace ∷ verb.Unsparsify ∷ []
 
 abbrev pub row_of_verb : VerbName → VerbRow
 row_of_verb verb.Altkv = record {
@@ -36,6 +37,24 @@ row_of_verb verb.Cat = record {
   name = codes "cat";
   options = (codes "-n", kind.Nothing) ∷ (codes "-N", kind.Text) ∷ (codes "-g", kind.Names) ∷ [];
   groups = [];
+  words = [];
+}
+row_of_verb verb.Count = record {
+  name = codes "count";
+  options = (codes "-g", kind.Names) ∷ (codes "-n", kind.Nothing) ∷ (codes "-o", kind.Text) ∷ [];
+  groups = [];
+  words = [];
+}
+row_of_verb verb.CountDistinct = record {
+  name = codes "count-distinct";
+  options = (codes "-f", kind.Names) ∷ (codes "-n", kind.Nothing) ∷ (codes "-o", kind.Text) ∷ [];
+  groups = (codes "-f" ∷ [], true) ∷ [];
+  words = [];
+}
+row_of_verb verb.CountSimilar = record {
+  name = codes "count-similar";
+  options = (codes "-g", kind.Names) ∷ (codes "-o", kind.Text) ∷ [];
+  groups = (codes "-g" ∷ [], true) ∷ [];
   words = [];
 }
 row_of_verb verb.Cut = record {
@@ -80,6 +99,18 @@ row_of_verb verb.Grep = record {
   groups = [];
   words = kind.Pattern ∷ [];
 }
+row_of_verb verb.GroupBy = record {
+  name = codes "group-by";
+  options = [];
+  groups = [];
+  words = kind.Names ∷ [];
+}
+row_of_verb verb.GroupLike = record {
+  name = codes "group-like";
+  options = [];
+  groups = [];
+  words = [];
+}
 row_of_verb verb.Gsub = record {
   name = codes "gsub";
   options = (codes "-f", kind.Names) ∷ (codes "-a", kind.Nothing) ∷ [];
@@ -115,6 +146,18 @@ row_of_verb verb.Label = record {
   options = [];
   groups = [];
   words = kind.Names ∷ [];
+}
+row_of_verb verb.LeastFrequent = record {
+  name = codes "least-frequent";
+  options = (codes "-f", kind.Names) ∷ (codes "-b", kind.Nothing) ∷ (codes "-n", count) ∷ (codes "-o", kind.Text) ∷ [];
+  groups = (codes "-f" ∷ [], true) ∷ [];
+  words = [];
+}
+row_of_verb verb.MostFrequent = record {
+  name = codes "most-frequent";
+  options = (codes "-f", kind.Names) ∷ (codes "-b", kind.Nothing) ∷ (codes "-n", count) ∷ (codes "-o", kind.Text) ∷ [];
+  groups = (codes "-f" ∷ [], true) ∷ [];
+  words = [];
 }
 row_of_verb verb.Nothing = record {
   name = codes "nothing";
@@ -164,6 +207,12 @@ row_of_verb verb.Seqgen = record {
   groups = [];
   words = [];
 }
+row_of_verb verb.Sort = record {
+  name = codes "sort";
+  options = (codes "-f", kind.Names) ∷ (codes "-r", kind.Names) ∷ (codes "-nf", kind.Names) ∷ (codes "-nr", kind.Names) ∷ (codes "-c", kind.Names) ∷ (codes "-cr", kind.Names) ∷ [];
+  groups = (codes "-f" ∷ codes "-r" ∷ codes "-nf" ∷ codes "-nr" ∷ codes "-c" ∷ codes "-cr" ∷ [], true) ∷ [];
+  words = [];
+}
 row_of_verb verb.SortWithinRecords = record {
   name = codes "sort-within-records";
   options = (codes "-r", kind.Nothing) ∷ [];
@@ -188,6 +237,18 @@ row_of_verb verb.Sub = record {
   groups = (codes "-f" ∷ codes "-a" ∷ [], true) ∷ [];
   words = kind.Pattern ∷ kind.Text ∷ [];
 }
+row_of_verb verb.Tac = record {
+  name = codes "tac";
+  options = [];
+  groups = [];
+  words = [];
+}
+row_of_verb verb.Tail = record {
+  name = codes "tail";
+  options = (codes "-n", count) ∷ (codes "-g", kind.Names) ∷ [];
+  groups = [];
+  words = [];
+}
 row_of_verb verb.Template = record {
   name = codes "template";
   options = (codes "-f", kind.Names) ∷ (codes "--fill-with", kind.Text) ∷ [];
@@ -200,10 +261,22 @@ row_of_verb verb.Unflatten = record {
   groups = [];
   words = [];
 }
+row_of_verb verb.Uniq = record {
+  name = codes "uniq";
+  options = (codes "-g", kind.Names) ∷ (codes "-a", kind.Nothing) ∷ (codes "-c", kind.Nothing) ∷ (codes "-n", kind.Nothing) ∷ [];
+  groups = (codes "-g" ∷ codes "-a" ∷ [], true) ∷ (codes "-c" ∷ codes "-n" ∷ [], false) ∷ [];
+  words = [];
+}
 row_of_verb verb.Unspace = record {
   name = codes "unspace";
   options = (codes "-f", kind.Text) ∷ (codes "-k", kind.Nothing) ∷ (codes "-v", kind.Nothing) ∷ [];
   groups = (codes "-k" ∷ codes "-v" ∷ [], false) ∷ [];
+  words = [];
+}
+row_of_verb verb.Unsparsify = record {
+  name = codes "unsparsify";
+  options = (codes "--fill-with", kind.Text) ∷ (codes "-f", kind.Names) ∷ [];
+  groups = [];
   words = [];
 }
 

@@ -8,7 +8,7 @@ use std::marker::Model;
 /// An option, and what the word after it is.
 pub type OptionRow = (&'static [u8], Kind);
 
-/// Options of which at most one may be given, and whether one of them must be.
+/// Options of which at most one may be given, but in `sort`, where each counts, and whether one of them must be.
 pub type Group = (&'static [&'static [u8]], bool);
 
 /// A verb: its name, its options, and the words of its own that follow them.
@@ -39,6 +39,9 @@ impl Model for VerbRow {
 pub enum VerbName {
     Altkv,
     Cat,
+    Count,
+    CountDistinct,
+    CountSimilar,
     Cut,
     Decimate,
     FillDown,
@@ -46,12 +49,16 @@ pub enum VerbName {
     Flatten,
     Gap,
     Grep,
+    GroupBy,
+    GroupLike,
     Gsub,
     HavingFields,
     Head,
     JsonParse,
     JsonStringify,
     Label,
+    LeastFrequent,
+    MostFrequent,
     Nothing,
     Regularize,
     Rename,
@@ -60,19 +67,27 @@ pub enum VerbName {
     Sec2Gmt,
     Sec2GmtDate,
     Seqgen,
+    Sort,
     SortWithinRecords,
     Sparsify,
     Ssub,
     Sub,
+    Tac,
+    Tail,
     Template,
     Unflatten,
+    Uniq,
     Unspace,
+    Unsparsify,
 }
 
 /// All verbs that have rows, in the order of their names.
-const VERBS: [VerbName; 30] = [
+const VERBS: [VerbName; 42] = [
     VerbName::Altkv,
     VerbName::Cat,
+    VerbName::Count,
+    VerbName::CountDistinct,
+    VerbName::CountSimilar,
     VerbName::Cut,
     VerbName::Decimate,
     VerbName::FillDown,
@@ -80,12 +95,16 @@ const VERBS: [VerbName; 30] = [
     VerbName::Flatten,
     VerbName::Gap,
     VerbName::Grep,
+    VerbName::GroupBy,
+    VerbName::GroupLike,
     VerbName::Gsub,
     VerbName::HavingFields,
     VerbName::Head,
     VerbName::JsonParse,
     VerbName::JsonStringify,
     VerbName::Label,
+    VerbName::LeastFrequent,
+    VerbName::MostFrequent,
     VerbName::Nothing,
     VerbName::Regularize,
     VerbName::Rename,
@@ -94,13 +113,18 @@ const VERBS: [VerbName; 30] = [
     VerbName::Sec2Gmt,
     VerbName::Sec2GmtDate,
     VerbName::Seqgen,
+    VerbName::Sort,
     VerbName::SortWithinRecords,
     VerbName::Sparsify,
     VerbName::Ssub,
     VerbName::Sub,
+    VerbName::Tac,
+    VerbName::Tail,
     VerbName::Template,
     VerbName::Unflatten,
+    VerbName::Uniq,
     VerbName::Unspace,
+    VerbName::Unsparsify,
 ];
 
 /// A count of records or of copies.
@@ -388,6 +412,132 @@ const UNSPACE: VerbRow = VerbRow {
     words: &[],
 };
 
+const COUNT_VERB: VerbRow = VerbRow {
+    name: b"count",
+    options: &[
+        (b"-g", Kind::Names),
+        (b"-n", Kind::Nothing),
+        (b"-o", Kind::Text),
+    ],
+    groups: &[],
+    words: &[],
+};
+
+const COUNT_DISTINCT_GROUPS: [Group; 1] = [(&[b"-f"], true)];
+
+const COUNT_DISTINCT: VerbRow = VerbRow {
+    name: b"count-distinct",
+    options: &[
+        (b"-f", Kind::Names),
+        (b"-n", Kind::Nothing),
+        (b"-o", Kind::Text),
+    ],
+    groups: &COUNT_DISTINCT_GROUPS,
+    words: &[],
+};
+
+const COUNT_SIMILAR_GROUPS: [Group; 1] = [(&[b"-g"], true)];
+
+const COUNT_SIMILAR: VerbRow = VerbRow {
+    name: b"count-similar",
+    options: &[(b"-g", Kind::Names), (b"-o", Kind::Text)],
+    groups: &COUNT_SIMILAR_GROUPS,
+    words: &[],
+};
+
+const GROUP_BY: VerbRow = VerbRow {
+    name: b"group-by",
+    options: &[],
+    groups: &[],
+    words: &[Kind::Names],
+};
+
+const GROUP_LIKE: VerbRow = VerbRow {
+    name: b"group-like",
+    options: &[],
+    groups: &[],
+    words: &[],
+};
+
+const LEAST_FREQUENT_GROUPS: [Group; 1] = [(&[b"-f"], true)];
+
+const LEAST_FREQUENT: VerbRow = VerbRow {
+    name: b"least-frequent",
+    options: &[
+        (b"-f", Kind::Names),
+        (b"-b", Kind::Nothing),
+        (b"-n", COUNT),
+        (b"-o", Kind::Text),
+    ],
+    groups: &LEAST_FREQUENT_GROUPS,
+    words: &[],
+};
+
+const MOST_FREQUENT_GROUPS: [Group; 1] = [(&[b"-f"], true)];
+
+const MOST_FREQUENT: VerbRow = VerbRow {
+    name: b"most-frequent",
+    options: &[
+        (b"-f", Kind::Names),
+        (b"-b", Kind::Nothing),
+        (b"-n", COUNT),
+        (b"-o", Kind::Text),
+    ],
+    groups: &MOST_FREQUENT_GROUPS,
+    words: &[],
+};
+
+const SORT_GROUPS: [Group; 1] = [(&[b"-f", b"-r", b"-nf", b"-nr", b"-c", b"-cr"], true)];
+
+const SORT: VerbRow = VerbRow {
+    name: b"sort",
+    options: &[
+        (b"-f", Kind::Names),
+        (b"-r", Kind::Names),
+        (b"-nf", Kind::Names),
+        (b"-nr", Kind::Names),
+        (b"-c", Kind::Names),
+        (b"-cr", Kind::Names),
+    ],
+    groups: &SORT_GROUPS,
+    words: &[],
+};
+
+const TAC: VerbRow = VerbRow {
+    name: b"tac",
+    options: &[],
+    groups: &[],
+    words: &[],
+};
+
+const TAIL: VerbRow = VerbRow {
+    name: b"tail",
+    options: &[(b"-n", COUNT), (b"-g", Kind::Names)],
+    groups: &[],
+    words: &[],
+};
+
+const UNIQ_GROUPS: [Group; 2] = [(&[b"-g", b"-a"], true), (&[b"-c", b"-n"], false)];
+
+const UNIQ: VerbRow = VerbRow {
+    name: b"uniq",
+    options: &[
+        (b"-g", Kind::Names),
+        (b"-a", Kind::Nothing),
+        (b"-c", Kind::Nothing),
+        (b"-n", Kind::Nothing),
+    ],
+    groups: &UNIQ_GROUPS,
+    words: &[],
+};
+
+const UNSPARSIFY: VerbRow = VerbRow {
+    name: b"unsparsify",
+    options: &[(b"--fill-with", Kind::Text), (b"-f", Kind::Names)],
+    groups: &[],
+    words: &[],
+};
+
 impl VerbName {
     /// The row of this verb.
     pub fn row(self) -> VerbRow
@@ -396,6 +546,9 @@ impl VerbName {
         match self {
             VerbName::Altkv => ALTKV,
             VerbName::Cat => CAT,
+            VerbName::Count => COUNT_VERB,
+            VerbName::CountDistinct => COUNT_DISTINCT,
+            VerbName::CountSimilar => COUNT_SIMILAR,
             VerbName::Cut => CUT,
             VerbName::Decimate => DECIMATE,
             VerbName::FillDown => FILL_DOWN,
@@ -403,12 +556,16 @@ impl VerbName {
             VerbName::Flatten => FLATTEN,
             VerbName::Gap => GAP,
             VerbName::Grep => GREP,
+            VerbName::GroupBy => GROUP_BY,
+            VerbName::GroupLike => GROUP_LIKE,
             VerbName::Gsub => GSUB,
             VerbName::HavingFields => HAVING_FIELDS,
             VerbName::Head => HEAD,
             VerbName::JsonParse => JSON_PARSE,
             VerbName::JsonStringify => JSON_STRINGIFY,
             VerbName::Label => LABEL,
+            VerbName::LeastFrequent => LEAST_FREQUENT,
+            VerbName::MostFrequent => MOST_FREQUENT,
             VerbName::Nothing => NOTHING,
             VerbName::Regularize => REGULARIZE,
             VerbName::Rename => RENAME,
@@ -417,13 +574,18 @@ impl VerbName {
             VerbName::Sec2Gmt => SEC2GMT,
             VerbName::Sec2GmtDate => SEC2GMTDATE,
             VerbName::Seqgen => SEQGEN,
+            VerbName::Sort => SORT,
             VerbName::SortWithinRecords => SORT_WITHIN_RECORDS,
             VerbName::Sparsify => SPARSIFY,
             VerbName::Ssub => SSUB,
             VerbName::Sub => SUB,
+            VerbName::Tac => TAC,
+            VerbName::Tail => TAIL,
             VerbName::Template => TEMPLATE,
             VerbName::Unflatten => UNFLATTEN,
+            VerbName::Uniq => UNIQ,
             VerbName::Unspace => UNSPACE,
+            VerbName::Unsparsify => UNSPARSIFY,
         }
     }
 }

@@ -6,7 +6,7 @@ use Rattle.std.specs.Str.{bytes_eq}
 use Rattle.std.proofs.lemmas.Bool.{false≢true}
 use Rattle.std.proofs.lemmas.Slice.Eq.{bytes_eq-Decides}
 use Rattle.verb_specs.specs.declared.verb_spec.VerbSpec.{VerbSpec}
-use Rattle.verb_specs.specs.declared.verb_spec.VerbSpec.TheVariants.{Stream, Seq}
+use Rattle.verb_specs.specs.declared.verb_spec.VerbSpec.TheVariants.{Stream, Retain, Seq}
 use Rattle.chain_core.specs.Plans.{IsSound}
 use Rattle.verb_specs.specs.Verbs.{AreSound, AreVerbs, IsVerb}
 use Rattle.chain_core.specs.declared.plan.Plan.{Plan}
@@ -29,8 +29,8 @@ use Rattle.mlr_event.specs.declared.refusal.Why.TheVariants.{BadNumber}
 use Rattle.verbs_seq.specs.Seq.{IsSoundSeq}
 use Rattle.verbs_state.specs.Gap.{IsSoundGap}
 use Rattle.verbs_state.specs.declared.gap.Gap.TheVariants.{Count, Groups}
-use Rattle.cli_verbs.specs.Choices.{count_in, count_of, count_or, names_after, own_word, separator_in_word}
-use Rattle.cli_verbs.specs.Names.{all_names}
+use Rattle.cli_choices.specs.Choices.{count_in, count_of, count_or, names_after, own_word, separator_in_word}
+use Rattle.cli_choices.specs.Names.{all_names}
 use Rattle.cli_verbs.specs.Seqgen.{seqgen_of}
 use Rattle.cli_verbs.specs.Clash.{clash_of, names_clash, option_clash}
 use Rattle.cli_verbs.specs.Verbs.{IsGoodNamed, IsGoodVerb, IsVerbNamed, IsVerbOf}
@@ -143,6 +143,9 @@ as-stream : (given : VerbWords) (flatsep : List ℕ) → 1 ≤ length flatsep �
     → (spec : VerbSpec) → IsVerbNamed name flatsep given spec → IsVerb spec
 as-stream given flatsep sep verb.Altkv fits clear other spec is = subst IsVerb (sym is) tt
 as-stream given flatsep sep verb.Cat fits clear other spec is = subst IsVerb (sym is) tt
+as-stream given flatsep sep verb.Count fits clear other spec is = subst IsVerb (sym is) tt
+as-stream given flatsep sep verb.CountDistinct fits clear other spec is = subst IsVerb (sym is) tt
+as-stream given flatsep sep verb.CountSimilar fits clear other spec is = subst IsVerb (sym is) tt
 as-stream given flatsep sep verb.Cut fits clear other spec is = subst IsVerb (sym is.1) tt
 as-stream given flatsep sep verb.Decimate fits clear other spec is =
     subst IsVerb (sym is) (count-positive 10 (omega arith) (row_of_verb verb.Decimate).options (codes "-n") refl given.options fits)
@@ -152,6 +155,8 @@ as-stream given flatsep sep verb.Flatten fits clear other spec is = subst IsVerb
 as-stream given flatsep sep verb.Gap fits clear other spec is =
     subst IsVerb (sym is) (gap-sound given (has (codes "-g") given.options) (λ _. count-positive 1 (omega arith) (row_of_verb verb.Gap).options (codes "-n") refl given.options fits))
 as-stream given flatsep sep verb.Grep fits clear other spec is = subst IsVerb (sym is.1) tt
+as-stream given flatsep sep verb.GroupBy fits clear other spec is = subst IsVerb (sym is) tt
+as-stream given flatsep sep verb.GroupLike fits clear other spec is = subst IsVerb (sym is) tt
 as-stream given flatsep sep verb.Gsub fits clear other spec is = subst IsVerb (sym is.1) tt
 as-stream given flatsep sep verb.HavingFields fits clear other spec is = subst IsVerb (sym is.1) tt
 as-stream given flatsep sep verb.Head fits clear other spec is = subst IsVerb (sym is) tt
@@ -159,6 +164,8 @@ as-stream given flatsep sep verb.JsonParse fits clear other spec is = subst IsVe
 as-stream given flatsep sep verb.JsonStringify fits clear other spec is = subst IsVerb (sym is) tt
 as-stream given flatsep sep verb.Label fits clear other spec is =
     subst IsVerb (sym is) (label-distinct given (option_clash given) (are_distinct (all_names (own_word 0 given))) refl clear)
+as-stream given flatsep sep verb.LeastFrequent fits clear other spec is = subst IsVerb (sym is) tt
+as-stream given flatsep sep verb.MostFrequent fits clear other spec is = subst IsVerb (sym is) tt
 as-stream given flatsep sep verb.Nothing fits clear other spec is = subst IsVerb (sym is) tt
 as-stream given flatsep sep verb.Regularize fits clear other spec is = subst IsVerb (sym is) tt
 as-stream given flatsep sep verb.Rename fits clear other spec is = subst IsVerb (sym is.1) tt
@@ -167,19 +174,27 @@ as-stream given flatsep sep verb.Repeat fits clear other spec is = subst IsVerb 
 as-stream given flatsep sep verb.Sec2Gmt fits clear other spec is = subst IsVerb (sym is) tt
 as-stream given flatsep sep verb.Sec2GmtDate fits clear other spec is = subst IsVerb (sym is) tt
 as-stream given flatsep sep verb.Seqgen fits clear other spec is = absurd (false≢true (sym other))
+as-stream given flatsep sep verb.Sort fits clear other spec is = subst IsVerb (sym is) tt
 as-stream given flatsep sep verb.SortWithinRecords fits clear other spec is = subst IsVerb (sym is) tt
 as-stream given flatsep sep verb.Sparsify fits clear other spec is = subst IsVerb (sym is) tt
 as-stream given flatsep sep verb.Ssub fits clear other spec is = subst IsVerb (sym is) tt
 as-stream given flatsep sep verb.Sub fits clear other spec is = subst IsVerb (sym is.1) tt
+as-stream given flatsep sep verb.Tac fits clear other spec is = subst IsVerb (sym is) tt
+as-stream given flatsep sep verb.Tail fits clear other spec is = subst IsVerb (sym is) tt
 as-stream given flatsep sep verb.Template fits clear other spec is = subst IsVerb (sym is) tt
 as-stream given flatsep sep verb.Unflatten fits clear other spec is = subst IsVerb (sym is) (separator-some flatsep sep (last (codes "-s") given.options))
+as-stream given flatsep sep verb.Uniq fits clear other spec is = subst IsVerb (sym is) tt
 as-stream given flatsep sep verb.Unspace fits clear other spec is = subst IsVerb (sym is) tt
+as-stream given flatsep sep verb.Unsparsify fits clear other spec is = subst IsVerb (sym is) tt
 
 -- the first verb may be a source, whose numbers were found sound
 first-is : (name : VerbName) (given : VerbWords) (flatsep : List ℕ) (spec : VerbSpec) → is_source name ≡ true → IsVerbNamed name flatsep given spec → spec ≡ Seq (seqgen_of given)
 first-is verb.Seqgen given flatsep spec source is = is
 first-is verb.Altkv given flatsep spec source is = absurd (false≢true source)
 first-is verb.Cat given flatsep spec source is = absurd (false≢true source)
+first-is verb.Count given flatsep spec source is = absurd (false≢true source)
+first-is verb.CountDistinct given flatsep spec source is = absurd (false≢true source)
+first-is verb.CountSimilar given flatsep spec source is = absurd (false≢true source)
 first-is verb.Cut given flatsep spec source is = absurd (false≢true source)
 first-is verb.Decimate given flatsep spec source is = absurd (false≢true source)
 first-is verb.FillDown given flatsep spec source is = absurd (false≢true source)
@@ -187,12 +202,16 @@ first-is verb.FillEmpty given flatsep spec source is = absurd (false≢true sour
 first-is verb.Flatten given flatsep spec source is = absurd (false≢true source)
 first-is verb.Gap given flatsep spec source is = absurd (false≢true source)
 first-is verb.Grep given flatsep spec source is = absurd (false≢true source)
+first-is verb.GroupBy given flatsep spec source is = absurd (false≢true source)
+first-is verb.GroupLike given flatsep spec source is = absurd (false≢true source)
 first-is verb.Gsub given flatsep spec source is = absurd (false≢true source)
 first-is verb.HavingFields given flatsep spec source is = absurd (false≢true source)
 first-is verb.Head given flatsep spec source is = absurd (false≢true source)
 first-is verb.JsonParse given flatsep spec source is = absurd (false≢true source)
 first-is verb.JsonStringify given flatsep spec source is = absurd (false≢true source)
 first-is verb.Label given flatsep spec source is = absurd (false≢true source)
+first-is verb.LeastFrequent given flatsep spec source is = absurd (false≢true source)
+first-is verb.MostFrequent given flatsep spec source is = absurd (false≢true source)
 first-is verb.Nothing given flatsep spec source is = absurd (false≢true source)
 first-is verb.Regularize given flatsep spec source is = absurd (false≢true source)
 first-is verb.Rename given flatsep spec source is = absurd (false≢true source)
@@ -200,18 +219,26 @@ first-is verb.Reorder given flatsep spec source is = absurd (false≢true source
 first-is verb.Repeat given flatsep spec source is = absurd (false≢true source)
 first-is verb.Sec2Gmt given flatsep spec source is = absurd (false≢true source)
 first-is verb.Sec2GmtDate given flatsep spec source is = absurd (false≢true source)
+first-is verb.Sort given flatsep spec source is = absurd (false≢true source)
 first-is verb.SortWithinRecords given flatsep spec source is = absurd (false≢true source)
 first-is verb.Sparsify given flatsep spec source is = absurd (false≢true source)
 first-is verb.Ssub given flatsep spec source is = absurd (false≢true source)
 first-is verb.Sub given flatsep spec source is = absurd (false≢true source)
+first-is verb.Tac given flatsep spec source is = absurd (false≢true source)
+first-is verb.Tail given flatsep spec source is = absurd (false≢true source)
 first-is verb.Template given flatsep spec source is = absurd (false≢true source)
 first-is verb.Unflatten given flatsep spec source is = absurd (false≢true source)
+first-is verb.Uniq given flatsep spec source is = absurd (false≢true source)
 first-is verb.Unspace given flatsep spec source is = absurd (false≢true source)
+first-is verb.Unsparsify given flatsep spec source is = absurd (false≢true source)
 
 source-good : (name : VerbName) (given : VerbWords) → is_source name ≡ true → IsGoodNamed name given → IsSoundSeq (seqgen_of given)
 source-good verb.Seqgen given source good = good
 source-good verb.Altkv given source good = absurd (false≢true source)
 source-good verb.Cat given source good = absurd (false≢true source)
+source-good verb.Count given source good = absurd (false≢true source)
+source-good verb.CountDistinct given source good = absurd (false≢true source)
+source-good verb.CountSimilar given source good = absurd (false≢true source)
 source-good verb.Cut given source good = absurd (false≢true source)
 source-good verb.Decimate given source good = absurd (false≢true source)
 source-good verb.FillDown given source good = absurd (false≢true source)
@@ -219,12 +246,16 @@ source-good verb.FillEmpty given source good = absurd (false≢true source)
 source-good verb.Flatten given source good = absurd (false≢true source)
 source-good verb.Gap given source good = absurd (false≢true source)
 source-good verb.Grep given source good = absurd (false≢true source)
+source-good verb.GroupBy given source good = absurd (false≢true source)
+source-good verb.GroupLike given source good = absurd (false≢true source)
 source-good verb.Gsub given source good = absurd (false≢true source)
 source-good verb.HavingFields given source good = absurd (false≢true source)
 source-good verb.Head given source good = absurd (false≢true source)
 source-good verb.JsonParse given source good = absurd (false≢true source)
 source-good verb.JsonStringify given source good = absurd (false≢true source)
 source-good verb.Label given source good = absurd (false≢true source)
+source-good verb.LeastFrequent given source good = absurd (false≢true source)
+source-good verb.MostFrequent given source good = absurd (false≢true source)
 source-good verb.Nothing given source good = absurd (false≢true source)
 source-good verb.Regularize given source good = absurd (false≢true source)
 source-good verb.Rename given source good = absurd (false≢true source)
@@ -232,13 +263,18 @@ source-good verb.Reorder given source good = absurd (false≢true source)
 source-good verb.Repeat given source good = absurd (false≢true source)
 source-good verb.Sec2Gmt given source good = absurd (false≢true source)
 source-good verb.Sec2GmtDate given source good = absurd (false≢true source)
+source-good verb.Sort given source good = absurd (false≢true source)
 source-good verb.SortWithinRecords given source good = absurd (false≢true source)
 source-good verb.Sparsify given source good = absurd (false≢true source)
 source-good verb.Ssub given source good = absurd (false≢true source)
 source-good verb.Sub given source good = absurd (false≢true source)
+source-good verb.Tac given source good = absurd (false≢true source)
+source-good verb.Tail given source good = absurd (false≢true source)
 source-good verb.Template given source good = absurd (false≢true source)
 source-good verb.Unflatten given source good = absurd (false≢true source)
+source-good verb.Uniq given source good = absurd (false≢true source)
 source-good verb.Unspace given source good = absurd (false≢true source)
+source-good verb.Unsparsify given source good = absurd (false≢true source)
 
 -- no verb clashes that comes after others
 clear-after : (given : VerbWords) (t : Bool) → is_source given.verb ≡ t → (if true && t then Some given.number else clash_of given) ≡ None → (is_source given.verb ≡ false) × (clash_of given ≡ None)
@@ -272,6 +308,7 @@ module _ (flatsep : List ℕ) (sep : 1 ≤ length flatsep) where
     where
       stream-first : (spec : VerbSpec) (specs : List VerbSpec) → IsVerb spec → AreVerbs specs → AreSound (spec ∷ specs)
       stream-first (Stream spec) specs is rest = (is, rest)
+      stream-first (Retain spec) specs is rest = (tt, rest)
       stream-first (Seq seq) specs is rest = absurd is
 
   pub verbs-sound : (verbs : List VerbWords) (specs : List VerbSpec) → list_all is_verb verbs ≡ true → AreGoodAfter 0 verbs → clash_among true verbs ≡ None → AreVerbsOf flatsep verbs specs → AreSound specs

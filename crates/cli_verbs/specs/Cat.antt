@@ -3,8 +3,8 @@ use Rattle.std.specs.Prelude.{Bool, ◌||◌, codes}
 use Rattle.cli_grammar.specs.Options.{has}
 use Rattle.cli_grammar.specs.declared.given.VerbWords.{VerbWords}
 use Rattle.verbs_state.specs.declared.cat.Cat.{Cat}
-use Rattle.cli_verbs.specs.Choices.{word_or}
-use Rattle.cli_verbs.specs.Names.{given_names}
+use Rattle.cli_choices.specs.Choices.{word_or}
+use Rattle.cli_choices.specs.Names.{given_names}
 
 -- whether each record gets its number: `-N` names the field, too
 abbrev pub is_numbered : VerbWords → Bool

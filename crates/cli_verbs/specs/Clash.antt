@@ -9,8 +9,8 @@ use Rattle.cli_grammar.specs.declared.verb_table.VerbName.{VerbName}
 use Rattle.cli_grammar.specs.declared.verb_table.VerbName.TheVariants as verb
 use Rattle.mlr_event.specs.Reading.{is_among}
 use Rattle.mlr_spec.specs.Pairs.{are_distinct}
-use Rattle.cli_verbs.specs.Choices.{own_word}
-use Rattle.cli_verbs.specs.Names.{all_names}
+use Rattle.cli_choices.specs.Choices.{own_word}
+use Rattle.cli_choices.specs.Names.{all_names}
 
 -- whether two names are options of a group
 abbrev pub are_in : List ℕ → List ℕ → List (List ℕ) × Bool → Bool
@@ -26,9 +26,14 @@ clash_after groups before [] = None
 clash_after groups before (given ∷ options) =
     if list_any (λ other. are_rivals groups given.name other.name) before then Some given.number else clash_after groups (before ++ given ∷ []) options
 
+-- groups of options of which at most one may be given; of `sort` every flag counts
+abbrev pub exclusive_groups : VerbName → List (List (List ℕ) × Bool)
+exclusive_groups verb.Sort = []
+exclusive_groups name = (row_of_verb name).groups
+
 -- the number of the first option that contradicts an earlier one
 abbrev pub option_clash : VerbWords → Option ℕ
-option_clash given = clash_after (row_of_verb given.verb).groups [] given.options
+option_clash given = clash_after (exclusive_groups given.verb) [] given.options
 
 -- whether a name repeats
 abbrev pub has_repeated : VerbWords → Bool

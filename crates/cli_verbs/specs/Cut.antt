@@ -6,7 +6,7 @@ use Rattle.mlr_pattern.specs.Several.{patterns_in}
 use Rattle.verbs_pattern.specs.declared.cut.Cut.{Cut}
 use Rattle.verbs_pattern.specs.declared.cut.CutFields.{CutFields}
 use Rattle.verbs_pattern.specs.declared.cut.CutFields.TheVariants.{Names, Patterns}
-use Rattle.cli_verbs.specs.Choices.{names_after, number_after}
+use Rattle.cli_choices.specs.Choices.{names_after, number_after}
 use Rattle.cli_verbs.specs.Compiled.{AreCompiled}
 use Rattle.cli_verbs.specs.PatternWords.{PatternWord, pattern_in}
 

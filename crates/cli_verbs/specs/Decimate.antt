@@ -3,8 +3,8 @@ use Rattle.std.specs.Prelude.{codes}
 use Rattle.cli_grammar.specs.Options.{has}
 use Rattle.cli_grammar.specs.declared.given.VerbWords.{VerbWords}
 use Rattle.verbs_state.specs.declared.decimate.Decimate.{Decimate}
-use Rattle.cli_verbs.specs.Choices.{count_or}
-use Rattle.cli_verbs.specs.Names.{given_names}
+use Rattle.cli_choices.specs.Choices.{count_or}
+use Rattle.cli_choices.specs.Names.{given_names}
 
 abbrev pub decimate_of : VerbWords → Decimate
 decimate_of given = record {

@@ -6,9 +6,9 @@ use Rattle.cli_grammar.specs.declared.given.Given.{Given}
 use Rattle.cli_grammar.specs.declared.given.VerbWords.{VerbWords}
 use Rattle.verbs_pattern.specs.declared.having_fields.HavingFields.{HavingFields}
 use Rattle.verbs_pattern.specs.declared.having_fields.HavingFields.TheVariants.{AtLeast, AtMost, WhichAre, AllDefined, AnyDefined, AllMatching, AnyMatching}
-use Rattle.cli_verbs.specs.Choices.{following}
+use Rattle.cli_choices.specs.Choices.{following}
 use Rattle.cli_verbs.specs.Compiled.{IsCompiled}
-use Rattle.cli_verbs.specs.Names.{names_in}
+use Rattle.cli_choices.specs.Names.{names_in}
 use Rattle.cli_verbs.specs.PatternWords.{PatternWord, pattern_in}
 
 -- whether the word after the option with this name is a pattern

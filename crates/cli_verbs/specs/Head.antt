@@ -2,8 +2,8 @@
 use Rattle.std.specs.Prelude.{codes}
 use Rattle.cli_grammar.specs.declared.given.VerbWords.{VerbWords}
 use Rattle.verbs_state.specs.declared.head.Head.{Head}
-use Rattle.cli_verbs.specs.Choices.{count_or}
-use Rattle.cli_verbs.specs.Names.{given_names}
+use Rattle.cli_choices.specs.Choices.{count_or}
+use Rattle.cli_choices.specs.Names.{given_names}
 
 abbrev pub head_of : VerbWords → Head
 head_of given = record {

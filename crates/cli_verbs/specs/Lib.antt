@@ -1,5 +1,4 @@
 pub mod Cat
-pub mod Choices
 pub mod Clash
 pub mod Compiled
 pub mod Cut
@@ -10,14 +9,12 @@ pub mod FillEmpty
 pub mod Flatten
 pub mod Gap
 pub mod Grep
-pub mod Growing
 pub mod Gsub
 pub mod HavingFields
 pub mod Head
 pub mod JsonParse
 pub mod JsonStringify
 pub mod Label
-pub mod Names
 pub mod OwnPattern
 pub mod PatternWords
 pub mod Rename

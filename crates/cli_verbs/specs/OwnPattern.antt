@@ -1,7 +1,7 @@
 -- The pattern in the first word of a verb's own.
 use Rattle.std.specs.Prelude.{Bool, false, List, [], ◌∷◌}
 use Rattle.cli_grammar.specs.declared.given.VerbWords.{VerbWords}
-use Rattle.cli_verbs.specs.Choices.{own_word}
+use Rattle.cli_choices.specs.Choices.{own_word}
 use Rattle.cli_verbs.specs.PatternWords.{PatternWord, pattern_in}
 
 -- the pattern in the first word of a verb's own

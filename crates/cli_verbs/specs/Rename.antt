@@ -10,9 +10,9 @@ use Rattle.mlr_pattern.specs.declared.which.Which.TheVariants.{First, All}
 use Rattle.verbs_fields.specs.declared.rename_names.Renaming.{Renaming}
 use Rattle.verbs_pattern.specs.declared.rename.Rename.{Rename}
 use Rattle.verbs_pattern.specs.declared.rename.Rename.TheVariants.{Names, Patterns}
-use Rattle.cli_verbs.specs.Choices.{own_word}
+use Rattle.cli_choices.specs.Choices.{own_word}
 use Rattle.cli_verbs.specs.Compiled.{IsCompiled}
-use Rattle.cli_verbs.specs.Names.{all_names}
+use Rattle.cli_choices.specs.Names.{all_names}
 use Rattle.cli_verbs.specs.PatternWords.{PatternWord, pattern_in}
 
 -- the renamings by these names, taken two by two; an odd last name is left out

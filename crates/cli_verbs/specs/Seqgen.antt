@@ -5,7 +5,7 @@ use Rattle.mlr_event.specs.declared.refusal.Refusal.{Refusal}
 use Rattle.mlr_event.specs.declared.refusal.Why.TheVariants.{BadNumber}
 use Rattle.verbs_seq.specs.Seq.{IsSoundSeq}
 use Rattle.verbs_seq.specs.declared.seq_spec.SeqSpec.{SeqSpec}
-use Rattle.cli_verbs.specs.Choices.{int_or, number_or, word_or}
+use Rattle.cli_choices.specs.Choices.{int_or, number_or, word_or}
 
 abbrev pub seqgen_of : VerbWords → SeqSpec
 seqgen_of given = record {

@@ -1,7 +1,7 @@
 -- The options of `ssub`.
 use Rattle.cli_grammar.specs.declared.given.VerbWords.{VerbWords}
 use Rattle.verbs_pattern.specs.declared.ssub.Ssub.{Ssub}
-use Rattle.cli_verbs.specs.Choices.{own_word}
+use Rattle.cli_choices.specs.Choices.{own_word}
 use Rattle.cli_verbs.specs.SubFields.{sub_fields_of}
 
 abbrev pub ssub_of : VerbWords → Ssub

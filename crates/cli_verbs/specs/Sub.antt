@@ -3,7 +3,7 @@ use Rattle.std.specs.Prelude.{◌≡◌, false}
 use Rattle.std.specs.Arc.{arc_value}
 use Rattle.cli_grammar.specs.declared.given.VerbWords.{VerbWords}
 use Rattle.verbs_pattern.specs.declared.sub.Sub.{Sub}
-use Rattle.cli_verbs.specs.Choices.{own_word}
+use Rattle.cli_choices.specs.Choices.{own_word}
 use Rattle.cli_verbs.specs.Compiled.{IsCompiled}
 use Rattle.cli_verbs.specs.OwnPattern.{own_pattern}
 use Rattle.cli_verbs.specs.SubFields.{sub_fields_of}

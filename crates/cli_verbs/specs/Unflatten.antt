@@ -2,8 +2,8 @@
 use Rattle.std.specs.Prelude.{ℕ, List, codes}
 use Rattle.cli_grammar.specs.declared.given.VerbWords.{VerbWords}
 use Rattle.verbs_values.specs.declared.unflatten.Unflatten.{Unflatten}
-use Rattle.cli_verbs.specs.Choices.{separator_or}
-use Rattle.cli_verbs.specs.Names.{given_names}
+use Rattle.cli_choices.specs.Choices.{separator_or}
+use Rattle.cli_choices.specs.Names.{given_names}
 
 abbrev pub unflatten_of : List ℕ → VerbWords → Unflatten
 unflatten_of flatsep given = record {

@@ -5,7 +5,7 @@ use Rattle.cli_grammar.specs.declared.given.VerbWords.{VerbWords}
 use Rattle.verbs_fields.specs.declared.unspace.Unspace.{Unspace}
 use Rattle.verbs_fields.specs.declared.unspace.UnspacePart.{UnspacePart}
 use Rattle.verbs_fields.specs.declared.unspace.UnspacePart.TheVariants.{Both, Keys, Values}
-use Rattle.cli_verbs.specs.Choices.{word_or}
+use Rattle.cli_choices.specs.Choices.{word_or}
 
 -- where spaces are replaced
 abbrev pub part_of : VerbWords → UnspacePart

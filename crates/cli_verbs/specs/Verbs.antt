@@ -1,7 +1,7 @@
 -- The verb that words give.
 use Rattle.std.specs.Prelude.{◌≡◌, ℕ, Bool, false, ◌==◌, if◌then◌else◌, List, [], ◌∷◌, length, codes}
 use Rattle.verb_specs.specs.declared.verb_spec.VerbSpec.{VerbSpec}
-use Rattle.verb_specs.specs.declared.verb_spec.VerbSpec.TheVariants.{Stream, Seq}
+use Rattle.verb_specs.specs.declared.verb_spec.VerbSpec.TheVariants.{Stream, Retain, Seq}
 use Rattle.cli_grammar.specs.Options.{has}
 use Rattle.cli_grammar.specs.declared.given.VerbWords.{VerbWords}
 use Rattle.cli_grammar.specs.declared.verb_table.VerbName.{VerbName}
@@ -14,7 +14,17 @@ use Rattle.verbs_pattern.specs.declared.having_fields.HavingFields.{HavingFields
 use Rattle.verbs_pattern.specs.declared.rename.Rename.{Rename}
 use Rattle.verbs_pattern.specs.declared.sub.Sub.{Sub}
 use Rattle.verbs_seq.specs.Seq.{IsSoundSeq}
+use Rattle.verbs_retain.specs.declared.spec.Spec.TheVariants as retain
 use Rattle.verbs_stream.specs.declared.spec.Spec.TheVariants as stream
+use Rattle.cli_retain.specs.Count.{count_of}
+use Rattle.cli_retain.specs.CountDistinct.{count_distinct_of}
+use Rattle.cli_retain.specs.CountSimilar.{count_similar_of}
+use Rattle.cli_retain.specs.GroupBy.{group_by_of}
+use Rattle.cli_retain.specs.Frequent.{frequent_of}
+use Rattle.cli_retain.specs.Sort.{sort_of}
+use Rattle.cli_retain.specs.Tail.{tail_of}
+use Rattle.cli_retain.specs.Uniq.{uniq_of}
+use Rattle.cli_retain.specs.Unsparsify.{unsparsify_of}
 use Rattle.cli_verbs.specs.PatternWords.{PatternWord, AreGoodPatterns, IsFirstRefused}
 use Rattle.cli_verbs.specs.Cat.{cat_of}
 use Rattle.cli_verbs.specs.Decimate.{decimate_of}
@@ -73,6 +83,9 @@ IsStreamSub given spec = (options : Sub) × (spec ≡ Stream (stream.Sub options
 abbrev pub IsVerbNamed : VerbName → List ℕ → VerbWords → VerbSpec → Type 0
 IsVerbNamed verb.Altkv flatsep given spec = spec ≡ Stream stream.Altkv
 IsVerbNamed verb.Cat flatsep given spec = spec ≡ Stream (stream.Cat (cat_of given))
+IsVerbNamed verb.Count flatsep given spec = spec ≡ Retain (retain.Count (count_of given))
+IsVerbNamed verb.CountDistinct flatsep given spec = spec ≡ Retain (retain.CountDistinct (count_distinct_of given))
+IsVerbNamed verb.CountSimilar flatsep given spec = spec ≡ Retain (retain.CountSimilar (count_similar_of given))
 IsVerbNamed verb.Cut flatsep given spec = IsStreamCut given spec
 IsVerbNamed verb.Decimate flatsep given spec = spec ≡ Stream (stream.Decimate (decimate_of given))
 IsVerbNamed verb.FillDown flatsep given spec = spec ≡ Stream (stream.FillDown (fill_down_of given))
@@ -80,12 +93,16 @@ IsVerbNamed verb.FillEmpty flatsep given spec = spec ≡ Stream (stream.FillEmpt
 IsVerbNamed verb.Flatten flatsep given spec = spec ≡ Stream (stream.Flatten (flatten_of flatsep given))
 IsVerbNamed verb.Gap flatsep given spec = spec ≡ Stream (stream.Gap (gap_of given))
 IsVerbNamed verb.Grep flatsep given spec = IsStreamGrep given spec
+IsVerbNamed verb.GroupBy flatsep given spec = spec ≡ Retain (retain.GroupBy (group_by_of given))
+IsVerbNamed verb.GroupLike flatsep given spec = spec ≡ Retain retain.GroupLike
 IsVerbNamed verb.Gsub flatsep given spec = IsStreamGsub given spec
 IsVerbNamed verb.HavingFields flatsep given spec = IsStreamHavingFields given spec
 IsVerbNamed verb.Head flatsep given spec = spec ≡ Stream (stream.Head (head_of given))
 IsVerbNamed verb.JsonParse flatsep given spec = spec ≡ Stream (stream.JsonParse (json_parse_of given))
 IsVerbNamed verb.JsonStringify flatsep given spec = spec ≡ Stream (stream.JsonStringify (json_stringify_of given))
 IsVerbNamed verb.Label flatsep given spec = spec ≡ Stream (stream.Label (label_of given))
+IsVerbNamed verb.LeastFrequent flatsep given spec = spec ≡ Retain (retain.LeastFrequent (frequent_of given))
+IsVerbNamed verb.MostFrequent flatsep given spec = spec ≡ Retain (retain.MostFrequent (frequent_of given))
 IsVerbNamed verb.Nothing flatsep given spec = spec ≡ Stream stream.Nothing
 IsVerbNamed verb.Regularize flatsep given spec = spec ≡ Stream stream.Regularize
 IsVerbNamed verb.Rename flatsep given spec = IsStreamRename given spec
@@ -94,13 +111,18 @@ IsVerbNamed verb.Repeat flatsep given spec = spec ≡ Stream (stream.Repeat (rep
 IsVerbNamed verb.Sec2Gmt flatsep given spec = spec ≡ Stream (stream.Sec2Gmt (sec2gmt_of given))
 IsVerbNamed verb.Sec2GmtDate flatsep given spec = spec ≡ Stream (stream.Sec2GmtDate (sec2gmtdate_of given))
 IsVerbNamed verb.Seqgen flatsep given spec = spec ≡ Seq (seqgen_of given)
+IsVerbNamed verb.Sort flatsep given spec = spec ≡ Retain (retain.Sort (sort_of given))
 IsVerbNamed verb.SortWithinRecords flatsep given spec = spec ≡ Stream (stream.SortWithinRecords (sort_within_records_of given))
 IsVerbNamed verb.Sparsify flatsep given spec = spec ≡ Stream (stream.Sparsify (sparsify_of given))
 IsVerbNamed verb.Ssub flatsep given spec = spec ≡ Stream (stream.Ssub (ssub_of given))
 IsVerbNamed verb.Sub flatsep given spec = IsStreamSub given spec
+IsVerbNamed verb.Tac flatsep given spec = spec ≡ Retain retain.Tac
+IsVerbNamed verb.Tail flatsep given spec = spec ≡ Retain (retain.Tail (tail_of given))
 IsVerbNamed verb.Template flatsep given spec = spec ≡ Stream (stream.Template (template_of given))
 IsVerbNamed verb.Unflatten flatsep given spec = spec ≡ Stream (stream.Unflatten (unflatten_of flatsep given))
+IsVerbNamed verb.Uniq flatsep given spec = spec ≡ Retain (retain.Uniq (uniq_of given))
 IsVerbNamed verb.Unspace flatsep given spec = spec ≡ Stream (stream.Unspace (unspace_of given))
+IsVerbNamed verb.Unsparsify flatsep given spec = spec ≡ Retain (retain.Unsparsify (unsparsify_of given))
 
 -- the verb is that which the words give, where names are flattened with this separator
 abbrev pub IsVerbOf : List ℕ → VerbWords → VerbSpec → Type 0

@@ -2,8 +2,7 @@
 ghost use Rattle.std.specs.Prelude.{◌≡◌, IfOk};
 ghost use Rattle.cli_verbs.specs.Cat.{cat_of, is_numbered};
 
-use crate::choice::text_or;
-use crate::names::given_names;
+use cli_choices::{given_names, text_or};
 use cli_grammar::VerbWords;
 use mlr_spec::NoMemory;
 use std::alloc::Global;

@@ -2,9 +2,9 @@
 ghost use Rattle.std.specs.Prelude.{◌≡◌, [], IfOk, map};
 ghost use Rattle.std.specs.List.{list_any};
 ghost use Rattle.mlr_event.specs.Reading.{is_among};
-ghost use Rattle.cli_verbs.specs.Clash.{are_rivals, clash_after, clash_of, has_repeated, is_odd_rename, names_clash, option_clash, are_in};
+ghost use Rattle.cli_verbs.specs.Clash.{are_rivals, clash_after, clash_of, exclusive_groups, has_repeated, is_odd_rename, names_clash, option_clash, are_in};
 
-use crate::names::all_names;
+use cli_choices::all_names;
 use cli_grammar::{Given, Group, VerbName, VerbWords};
 use mlr_record::split::count_parts;
 use mlr_spec::NoMemory;
@@ -25,7 +25,18 @@ pub fn clash_of(alloc: Global, given: &VerbWords) -> Result<Option<usize>, NoMem
 fn option_clash(given: &VerbWords) -> Option<usize>
     ensures { result ≡ option_clash given.now }
 {
-    first_clash(given.verb.row().groups, given.options.as_slice())
+    first_clash(exclusive_groups(given.verb), given.options.as_slice())
+}
+
+/// Groups of options of which at most one may be given. Of `sort` every flag counts.
+fn exclusive_groups(verb: VerbName) -> &'static [Group]
+    ensures { map (λ group. (map (λ name. name.now) group.0.now, group.1)) result.now
+        ≡ exclusive_groups verb }
+{
+    match verb {
+        VerbName::Sort => &[],
+        _ => verb.row().groups,
+    }
 }
 
 /// The number of the first of these options that contradicts an earlier one.

@@ -6,9 +6,9 @@ ghost use Rattle.cli_verbs.specs.Compiled.{AreCompiled};
 ghost use Rattle.cli_verbs.specs.Faults.{IfRefused};
 ghost use Rattle.cli_verbs.specs.PatternWords.{AreGoodPatterns, IsFirstRefused};
 
-use crate::choice::{names_after, number_after};
 use crate::fault::Fault;
 use crate::pattern::patterns_of_names;
+use cli_choices::{names_after, number_after};
 use cli_grammar::VerbWords;
 use mlr_pattern::Patterns;
 use std::alloc::Global;

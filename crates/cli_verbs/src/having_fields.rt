@@ -6,10 +6,9 @@ ghost use Rattle.cli_verbs.specs.Faults.{IfRefused};
 ghost use Rattle.cli_verbs.specs.HavingFields.{argument_of, having_names, having_patterns, is_pattern_option, pattern_given, patterns_among, patterns_given, IsHavingBy, IsHavingFieldsOf, IsHavingIn, IsMatchingBy};
 ghost use Rattle.cli_verbs.specs.PatternWords.{AreGoodPatterns, IsFirstRefused};
 
-use crate::choice::following;
 use crate::fault::Fault;
-use crate::names::names_in;
 use crate::pattern::pattern_of;
+use cli_choices::{following, names_in};
 use cli_grammar::{Given, VerbWords};
 use mlr_event::Names;
 use mlr_pattern::Pattern;

@@ -2,8 +2,7 @@
 ghost use Rattle.std.specs.Prelude.{◌≡◌, IfOk};
 ghost use Rattle.cli_verbs.specs.Head.{head_of};
 
-use crate::choice::count_or;
-use crate::names::given_names;
+use cli_choices::{count_or, given_names};
 use cli_grammar::VerbWords;
 use mlr_spec::NoMemory;
 use std::alloc::Global;

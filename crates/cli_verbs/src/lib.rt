@@ -2,7 +2,6 @@
 #![tactic(auto)]
 
 mod cat;
-mod choice;
 mod clash;
 mod cut;
 mod decimate;
@@ -18,7 +17,6 @@ mod head;
 mod json_parse;
 mod json_stringify;
 mod label;
-mod names;
 mod own_pattern;
 mod partial;
 mod pattern;

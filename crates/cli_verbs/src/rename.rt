@@ -6,8 +6,8 @@ ghost use Rattle.cli_verbs.specs.Rename.{old_words, renamings_of, rename_pattern
 ghost use Rattle.cli_verbs.specs.PatternWords.{pattern_in, AreGoodPatterns, IsFirstRefused, IsGoodPattern, IsRefusedPattern};
 
 use crate::fault::Fault;
-use crate::names::all_names;
 use crate::pattern::pattern_of;
+use cli_choices::all_names;
 use cli_grammar::VerbWords;
 use mlr_pattern::{Pattern, Which};
 use mlr_spec::NoMemory;

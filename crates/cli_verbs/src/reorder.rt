@@ -2,7 +2,7 @@
 ghost use Rattle.std.specs.Prelude.{◌≡◌, IfOk};
 ghost use Rattle.cli_verbs.specs.Reorder.{reorder_of};
 
-use crate::choice::names_after;
+use cli_choices::names_after;
 use cli_grammar::VerbWords;
 use mlr_spec::NoMemory;
 use std::alloc::Global;

@@ -2,7 +2,7 @@
 ghost use Rattle.std.specs.Prelude.{◌≡◌, IfOk};
 ghost use Rattle.cli_verbs.specs.Sec2GmtDate.{sec2gmtdate_of};
 
-use crate::names::names_in;
+use cli_choices::names_in;
 use cli_grammar::VerbWords;
 use mlr_spec::NoMemory;
 use std::alloc::Global;

@@ -4,9 +4,9 @@ ghost use Rattle.verbs_seq.specs.Seq.{IsSoundSeq};
 ghost use Rattle.cli_verbs.specs.Faults.{IfRefused};
 ghost use Rattle.cli_verbs.specs.Seqgen.{seqgen_of, stop_number, IsRefusedSeq};
 
-use crate::choice::{int_or, number_or, text_or};
 use crate::fault::Fault;
 use crate::pattern::refused;
+use cli_choices::{int_or, number_or, text_or};
 use cli_grammar::VerbWords;
 use mlr_event::Why;
 use mlr_spec::NoMemory;

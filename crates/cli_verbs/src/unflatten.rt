@@ -2,8 +2,7 @@
 ghost use Rattle.std.specs.Prelude.{◌≡◌, IfOk};
 ghost use Rattle.cli_verbs.specs.Unflatten.{unflatten_of};
 
-use crate::choice::separator_or;
-use crate::names::given_names;
+use cli_choices::{given_names, separator_or};
 use cli_grammar::VerbWords;
 use mlr_spec::NoMemory;
 use std::alloc::Global;

@@ -2,7 +2,7 @@
 ghost use Rattle.std.specs.Prelude.{◌≡◌, IfOk};
 ghost use Rattle.cli_verbs.specs.Unspace.{part_of, unspace_of};
 
-use crate::choice::text_or;
+use cli_choices::text_or;
 use cli_grammar::VerbWords;
 use mlr_spec::NoMemory;
 use std::alloc::Global;

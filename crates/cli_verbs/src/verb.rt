@@ -32,8 +32,12 @@ use crate::template::template;
 use crate::unflatten::unflatten;
 use crate::unspace::unspace;
 use cli_grammar::{VerbName, VerbWords};
+use cli_retain::{
+    count, count_distinct, count_similar, frequent, group_by, sort, tail, uniq, unsparsify,
+};
 use std::alloc::Global;
 use verb_specs::VerbSpec;
+use verbs_retain::Spec as RetainSpec;
 use verbs_stream::Spec;
 
 /// The verb that words give, with its options. Names are flattened with this separator by default.
@@ -45,6 +49,13 @@ pub fn verb_of(alloc: Global, flatsep: &[u8], given: &VerbWords) -> Result<VerbS
     let spec = match given.verb {
         VerbName::Altkv => Spec::Altkv,
         VerbName::Cat => Spec::Cat(cat(alloc, given)?),
+        VerbName::Count => return Ok(VerbSpec::Retain(RetainSpec::Count(count(alloc, given)?))),
+        VerbName::CountDistinct => return Ok(VerbSpec::Retain(RetainSpec::CountDistinct(
+            count_distinct(alloc, given)?,
+        ))),
+        VerbName::CountSimilar => return Ok(VerbSpec::Retain(RetainSpec::CountSimilar(count_similar(
+            alloc, given,
+        )?))),
         VerbName::Cut => Spec::Cut(cut(alloc, given)?),
         VerbName::Decimate => Spec::Decimate(decimate(alloc, given)?),
         VerbName::FillDown => Spec::FillDown(fill_down(alloc, given)?),
@@ -52,12 +63,22 @@ pub fn verb_of(alloc: Global, flatsep: &[u8], given: &VerbWords) -> Result<VerbS
         VerbName::Flatten => Spec::Flatten(flatten(alloc, flatsep, given)?),
         VerbName::Gap => Spec::Gap(gap(alloc, given)?),
         VerbName::Grep => Spec::Grep(grep(alloc, given)?),
+        VerbName::GroupBy => return Ok(VerbSpec::Retain(RetainSpec::GroupBy(group_by(
+            alloc, given,
+        )?))),
+        VerbName::GroupLike => return Ok(VerbSpec::Retain(RetainSpec::GroupLike)),
         VerbName::Gsub => Spec::Gsub(gsub(alloc, given)?),
         VerbName::HavingFields => Spec::HavingFields(having_fields(alloc, given)?),
         VerbName::Head => Spec::Head(head(alloc, given)?),
         VerbName::JsonParse => Spec::JsonParse(json_parse(alloc, given)?),
         VerbName::JsonStringify => Spec::JsonStringify(json_stringify(alloc, given)?),
         VerbName::Label => Spec::Label(label(alloc, given)?),
+        VerbName::LeastFrequent => return Ok(VerbSpec::Retain(RetainSpec::LeastFrequent(frequent(
+            alloc, given,
+        )?))),
+        VerbName::MostFrequent => return Ok(VerbSpec::Retain(RetainSpec::MostFrequent(frequent(
+            alloc, given,
+        )?))),
         VerbName::Nothing => Spec::Nothing,
         VerbName::Regularize => Spec::Regularize,
         VerbName::Rename => Spec::Rename(rename(alloc, given)?),
@@ -66,13 +87,20 @@ pub fn verb_of(alloc: Global, flatsep: &[u8], given: &VerbWords) -> Result<VerbS
         VerbName::Sec2Gmt => Spec::Sec2Gmt(sec2gmt(alloc, given)?),
         VerbName::Sec2GmtDate => Spec::Sec2GmtDate(sec2gmtdate(alloc, given)?),
         VerbName::Seqgen => return Ok(VerbSpec::Seq(seqgen(alloc, given)?)),
+        VerbName::Sort => return Ok(VerbSpec::Retain(RetainSpec::Sort(sort(alloc, given)?))),
         VerbName::SortWithinRecords => Spec::SortWithinRecords(sort_within_records(given)),
         VerbName::Sparsify => Spec::Sparsify(sparsify(alloc, given)?),
         VerbName::Ssub => Spec::Ssub(ssub(alloc, given)?),
         VerbName::Sub => Spec::Sub(sub(alloc, given)?),
+        VerbName::Tac => return Ok(VerbSpec::Retain(RetainSpec::Tac)),
+        VerbName::Tail => return Ok(VerbSpec::Retain(RetainSpec::Tail(tail(alloc, given)?))),
         VerbName::Template => Spec::Template(template(alloc, given)?),
         VerbName::Unflatten => Spec::Unflatten(unflatten(alloc, flatsep, given)?),
+        VerbName::Uniq => return Ok(VerbSpec::Retain(RetainSpec::Uniq(uniq(alloc, given)?))),
         VerbName::Unspace => Spec::Unspace(unspace(alloc, given)?),
+        VerbName::Unsparsify => return Ok(VerbSpec::Retain(RetainSpec::Unsparsify(unsparsify(
+            alloc, given,
+        )?))),
     };
     Ok(VerbSpec::Stream(spec))
 }

@@ -1,8 +1,8 @@
 //! Names and options copied, and events in their order.
 
-use crate::models::{Cat, give, take};
-use crate::rows::{TakenNames, is_comment, next_ctx, push_comment, push_text};
-use crate::{Comments, Ctx, Event, Events, Format, InputName, Names, ReadOpts, Step, Target};
+use mlr_event::models::{Cat, Tac};
+use mlr_event::rows::{TakenNames, is_comment, next_ctx, push_comment, push_text};
+use mlr_event::{Comments, Ctx, Event, Events, Format, InputName, Names, ReadOpts, Step, Target};
 use mlr_record::Record;
 use mlr_spec::{InferOpts, NoMemory};
 use mlr_value::{Bytes, Value};
@@ -65,12 +65,6 @@ fn first_misnamed(alloc: Global) -> Result<Option<usize>, NoMemory> {
         }
     }
     Ok(None)
-}
-
-#[test]
-fn copies_of_names_are_equal(rt: HostRuntime) -> Result<(), NoMemory> {
-    assert_eq!(rt; first_misnamed(rt.alloc())?, None);
-    Ok(())
 }
 
 /// Options with these separators.
@@ -151,17 +145,6 @@ fn are_streams(alloc: Global) -> Result<bool, NoMemory> {
     Ok(stdout.is(&Target::Stdout) && stderr.is(&Target::Stderr))
 }
 
-#[test]
-fn copies_of_names_and_options_are_equal(rt: HostRuntime) -> Result<(), NoMemory> {
-    let alloc = rt.alloc();
-    assert_eq!(rt; first_wrong_files(alloc)?, None);
-    assert!(rt; are_streams(alloc)?);
-    assert!(rt; are_copies_equal(alloc, "%")?);
-    assert!(rt; are_copies_equal(alloc, "-- a prefix of more bytes than lie inline")?);
-    assert!(rt; Comments::Keep.copy(alloc)? == Comments::Keep);
-    Ok(())
-}
-
 /// A record with one field, which was read from a text.
 fn one_text(alloc: Global) -> Result<Record, NoMemory> {
     let opts = options(alloc, ",", "=", false, Comments::Keep)?;
@@ -225,17 +208,15 @@ fn shown(alloc: Global, events: &Events) -> Result<Bytes, NoMemory> {
     Ok(text)
 }
 
-/// The events that `Tac` gives at the end for three records and a text.
+/// The events that `Tac` gives for three records, a text and the end.
 fn reversed(alloc: Global) -> Result<Bytes, NoMemory> {
-    let mut held = Vec::new(alloc);
+    let mut tac = Tac::new(alloc);
     let mut out = Events::new(alloc);
-    for nr in 1..4 {
-        let event = Event::Rec(Record::new(alloc)?, first_file(nr));
-        take(&mut held, event, &mut out)?;
-    }
-    let text = Event::Text(Bytes::copy_of(alloc, b"text")?);
-    take(&mut held, text, &mut out)?;
-    give(&mut held, &mut out)?;
+    tac.step(Event::Rec(Record::new(alloc)?, first_file(1)), &mut out)?;
+    tac.step(Event::Rec(Record::new(alloc)?, first_file(2)), &mut out)?;
+    tac.step(Event::Rec(Record::new(alloc)?, first_file(3)), &mut out)?;
+    tac.step(Event::Text(Bytes::copy_of(alloc, b"text")?), &mut out)?;
+    tac.step(Event::End(first_file(3)), &mut out)?;
     shown(alloc, &out)
 }
 
@@ -252,9 +233,8 @@ fn passed(alloc: Global) -> Result<Bytes, NoMemory> {
     shown(alloc, &out)
 }
 
-#[test]
-fn events_and_fields_come_in_their_order(rt: HostRuntime) -> Result<(), NoMemory> {
-    let alloc = rt.alloc();
+/// Whether the next record has the next numbers.
+fn is_next_numbered() -> bool {
     let second = Ctx {
         nr: 4,
         fnr: 0,
@@ -265,10 +245,22 @@ fn events_and_fields_come_in_their_order(rt: HostRuntime) -> Result<(), NoMemory
         fnr: 1,
         filenum: 2,
     };
-    assert_eq!(rt; next_ctx(second), next);
+    next_ctx(second) == next
+}
+
+#[test]
+fn copies_are_equal_and_events_come_in_their_order(rt: HostRuntime) -> Result<(), NoMemory> {
+    let alloc = rt.alloc();
+    assert_eq!(rt; first_misnamed(alloc)?, None);
+    assert_eq!(rt; first_wrong_files(alloc)?, None);
+    assert!(rt; are_streams(alloc)?);
+    assert!(rt; are_copies_equal(alloc, "%")?);
+    assert!(rt; are_copies_equal(alloc, "-- a prefix of more bytes than lie inline")?);
+    assert!(rt; Comments::Keep.copy(alloc)? == Comments::Keep);
+    assert!(rt; is_next_numbered());
     assert!(rt; is_text_pushed(alloc)?);
     assert!(rt; are_comments_known(alloc)? && are_comments_passed(alloc)?);
-    assert_eq!(rt; reversed(alloc)?.as_slice(), b"t321".as_slice());
+    assert_eq!(rt; reversed(alloc)?.as_slice(), b"t321e".as_slice());
     assert_eq!(rt; passed(alloc)?.as_slice(), b"1te".as_slice());
     Ok(())
 }

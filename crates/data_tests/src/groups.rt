@@ -1,7 +1,7 @@
 //! The keys of records, their groups and the counts in their groups, by tables.
 
-use crate::{Groups, KeyTable, Tallies, append_texts};
 use mlr_event::Names;
+use mlr_groups::{Groups, KeyTable, Tallies, append_texts};
 use mlr_record::Record;
 use mlr_spec::{InferOpts, NoMemory};
 use mlr_value::{ArrayValue, Bytes, IntValue, MapValue, Value, from_data};
@@ -92,17 +92,6 @@ fn many_groups(alloc: Global) -> Result<Groups, NoMemory> {
     Ok(groups)
 }
 
-#[test]
-fn records_are_in_the_group_of_their_texts(rt: HostRuntime) -> Result<(), NoMemory> {
-    let alloc = rt.alloc();
-    assert_eq!(rt; first_wrong_groups(alloc)?, None);
-    let mut groups = many_groups(alloc)?;
-    assert_eq!(rt; groups.enter(&row_of(alloc, b"a=m|m")?)?, Some(109));
-    assert_eq!(rt; groups.enter(&row_of(alloc, b"a=m|n")?)?, Some(256));
-    assert_eq!(rt; groups.len(), 257);
-    Ok(())
-}
-
 /// Names, records, and for each record the number of earlier ones in its group, where `-` is no group.
 const TALLIES: [(&str, &[u8], &[u8]); 3] = [
     ("a", b"a=x;a=y;a=x;b=x;a=x,b=1;a=y", b"001-21"),
@@ -132,12 +121,6 @@ fn first_wrong_tallies(alloc: Global) -> Result<Option<usize>, NoMemory> {
         }
     }
     Ok(None)
-}
-
-#[test]
-fn records_are_counted_by_group(rt: HostRuntime) -> Result<(), NoMemory> {
-    assert_eq!(rt; first_wrong_tallies(rt.alloc())?, None);
-    Ok(())
 }
 
 /// Names, a record, and the key of its texts.
@@ -231,8 +214,14 @@ fn first_wrong_entry(alloc: Global) -> Result<Result<usize, usize>, NoMemory> {
 }
 
 #[test]
-fn keys_are_made_of_texts_and_entered_once(rt: HostRuntime) -> Result<(), NoMemory> {
+fn records_are_grouped_and_counted_by_their_texts(rt: HostRuntime) -> Result<(), NoMemory> {
     let alloc = rt.alloc();
+    assert_eq!(rt; first_wrong_groups(alloc)?, None);
+    let mut groups = many_groups(alloc)?;
+    assert_eq!(rt; groups.enter(&row_of(alloc, b"a=m|m")?)?, Some(109));
+    assert_eq!(rt; groups.enter(&row_of(alloc, b"a=m|n")?)?, Some(256));
+    assert_eq!(rt; groups.len(), 257);
+    assert_eq!(rt; first_wrong_tallies(alloc)?, None);
     assert_eq!(rt; first_wrong_key(alloc)?, None);
     let want: &[u8] = b"{\"k\": \0\x01}\0\0[true]\0\0false\0\0\0\0(error)\0\0-12\0\0";
     assert_eq!(rt; key_of_made(alloc)?.as_slice(), want);

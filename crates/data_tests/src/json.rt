@@ -2,14 +2,13 @@
 
 mod texts;
 
-use crate::{
+use mlr_json::{
     JsonRead, append_json_field, append_json_string, append_json_value, json_text, read_json_value,
     word_value,
 };
 use mlr_spec::{InferOpts, JsonStyle, NoMemory};
 use mlr_value::{Bytes, IntValue, Value, from_data};
 use std::alloc::Global;
-use std::test::Fail;
 use texts::{
     BYTES, COLLECTIONS, FOLLOWING, IN_ARRAYS, IN_MAPS, IN_STRINGS, NESTED, Nested, ON_LINES,
     QUOTED, Row, STRINGS, VALUES, WORDS, WRITTEN,
@@ -62,23 +61,18 @@ fn first_nested_misread(alloc: Global) -> Result<Option<usize>, NoMemory> {
     Ok(None)
 }
 
-#[test]
-fn texts_are_read_as_their_values_or_have_a_fault(rt: HostRuntime) -> Result<(), Fail> {
-    let alloc = rt.alloc();
-    let single = JsonStyle::Single;
-    assert_eq!(rt; first_misread(alloc, &VALUES, single)?, None);
-    assert_eq!(rt; first_misread(alloc, &COLLECTIONS, single)?, None);
-    assert_eq!(rt; first_misread(alloc, &STRINGS, single)?, None);
-    assert_eq!(rt; first_misread(alloc, &WORDS, single)?, None);
-    assert_eq!(rt; first_misread(alloc, &BYTES, single)?, None);
-    assert_eq!(rt; first_misread(alloc, &FOLLOWING, single)?, None);
-    assert_eq!(rt; first_misread(alloc, &IN_ARRAYS, single)?, None);
-    assert_eq!(rt; first_misread(alloc, &IN_MAPS, single)?, None);
-    assert_eq!(rt; first_misread(alloc, &IN_STRINGS, single)?, None);
-    assert_eq!(rt; first_misread(alloc, &ON_LINES, JsonStyle::Stacked)?, None);
-    assert_eq!(rt; first_nested_misread(alloc)?, None);
-    Ok(())
-}
+/// The tables whose values are shown on one line.
+const ON_ONE_LINE: [&[Row]; 9] = [
+    &VALUES,
+    &COLLECTIONS,
+    &STRINGS,
+    &WORDS,
+    &BYTES,
+    &FOLLOWING,
+    &IN_ARRAYS,
+    &IN_MAPS,
+    &IN_STRINGS,
+];
 
 /// The first row whose text is quoted otherwise.
 fn first_misquoted(alloc: Global) -> Result<Option<usize>, NoMemory> {
@@ -117,37 +111,44 @@ fn others(alloc: Global) -> Result<Bytes, NoMemory> {
     Ok(json)
 }
 
+/// Whether words are inferred under the flags.
+fn are_words_inferred(alloc: Global) -> Result<bool, NoMemory> {
+    let octal = InferOpts {
+        none: false,
+        octal: true,
+    };
+    let strings = InferOpts {
+        none: true,
+        octal: true,
+    };
+    Ok(
+        matches!(word_value(alloc, b"010", octal)?, Some(Value::Int(int)) if int.n == 8)
+            && matches!(word_value(alloc, b"010", strings)?, Some(Value::Str(_)))
+            && matches!(
+                word_value(alloc, b"true", strings)?,
+                Some(Value::Bool(true))
+            ),
+    )
+}
+
 #[test]
-fn values_are_written_bare_or_in_quotes(rt: HostRuntime) -> Result<(), Fail> {
+fn texts_are_read_as_values_and_values_are_written(rt: HostRuntime) -> Result<(), NoMemory> {
     let alloc = rt.alloc();
+    for (i, rows) in ON_ONE_LINE.iter().enumerate() {
+        assert_eq!(rt;
+            first_misread(alloc, rows, JsonStyle::Single)?,
+            None,
+            "table {i}"
+        );
+    }
+    assert_eq!(rt; first_misread(alloc, &ON_LINES, JsonStyle::Stacked)?, None);
+    assert_eq!(rt; first_nested_misread(alloc)?, None);
     assert_eq!(rt; first_misquoted(alloc)?, None);
     assert_eq!(rt; first_miswritten(alloc)?, None);
     assert_eq!(rt;
         others(alloc)?.as_slice(),
         b"\"a\": -7false\"\"(error)".as_slice()
     );
-    Ok(())
-}
-
-#[test]
-fn words_are_inferred_under_the_flags(rt: HostRuntime) -> Result<(), Fail> {
-    let octal = InferOpts {
-        none: false,
-        octal: true,
-    };
-    let eight = word_value(rt.alloc(), b"010", octal)?.ok_or("no value")?;
-    assert!(rt; matches!(&eight, Value::Int(int) if int.n == 8));
-    let strings = InferOpts {
-        none: true,
-        octal: true,
-    };
-    let text = word_value(rt.alloc(), b"010", strings)?.ok_or("no value")?;
-    assert!(rt; matches!(text, Value::Str(_)));
-    assert!(rt;
-        matches!(
-            word_value(rt.alloc(), b"true", strings)?,
-            Some(Value::Bool(true))
-        )
-    );
+    assert!(rt; are_words_inferred(alloc)?);
     Ok(())
 }

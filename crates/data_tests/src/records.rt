@@ -1,12 +1,11 @@
 //! What the calls on a record leave, and the parts of texts, by tables.
 
-use crate::Record;
-use crate::split::{count_parts, next_part, separator_place};
 use itoa::Buffer;
+use mlr_record::Record;
+use mlr_record::split::{count_parts, next_part, separator_place};
 use mlr_spec::NoMemory;
 use mlr_value::{ArrayValue, Bytes, MapValue, Value, append_text};
 use std::alloc::Global;
-use std::test::Fail;
 
 /// A call on a record, with what it returns where that is a place or a boolean.
 enum Call {
@@ -315,52 +314,57 @@ const CALLS: [(&str, &[Call], &str); 40] = [
     ),
 ];
 
-#[test]
-fn a_record_has_these_fields_after_the_calls(rt: HostRuntime) -> Result<(), Fail> {
-    let alloc = rt.alloc();
-    for (i, (fields, calls, want)) in CALLS.iter().enumerate() {
-        let mut record = record_of(alloc, fields)?;
-        for (step, one) in calls.iter().enumerate() {
-            assert!(rt;
-                make(alloc, &mut record, one)?,
-                "call {step} at {i}: {fields}"
-            );
+/// The record after the calls, or the place of a call that returned something else.
+fn called(alloc: Global, fields: &str, calls: &[Call]) -> Result<Result<Record, usize>, NoMemory> {
+    let mut record = record_of(alloc, fields)?;
+    for (step, one) in calls.iter().enumerate() {
+        if !make(alloc, &mut record, one)? {
+            return Ok(Err(step));
         }
-        assert_eq!(rt;
-            shown(alloc, &record)?.as_slice(),
-            want.as_bytes(),
-            "at {i}: {fields}"
-        );
-        assert!(rt; record.at(record.len()).is_none(), "at {i}: {fields}");
     }
-    Ok(())
+    Ok(Ok(record))
 }
 
-#[test]
-fn records_of_maps_of_fields_and_copies_have_the_same_fields(rt: HostRuntime) -> Result<(), Fail> {
-    let alloc = rt.alloc();
+/// The first row whose record has other fields, and the place of the call that returned something else, or the
+/// number of calls.
+fn first_wrong_call(alloc: Global) -> Result<Option<(usize, usize)>, NoMemory> {
+    for (i, (fields, calls, want)) in CALLS.iter().enumerate() {
+        match called(alloc, *fields, *calls)? {
+            Err(step) => return Ok(Some((i, step))),
+            Ok(record) => {
+                let all = shown(alloc, &record)?;
+                if all.as_slice() != want.as_bytes() || record.at(record.len()).is_some() {
+                    return Ok(Some((i, calls.len())));
+                }
+            }
+        }
+    }
+    Ok(None)
+}
+
+/// The record of a map.
+fn of_map(alloc: Global) -> Result<Record, NoMemory> {
     let mut map = MapValue::new(alloc)?;
     map.put(b"a", text_value(alloc, "1")?)?;
     map.put(b"bc", text_value(alloc, "2")?)?;
-    let record = Record::of_map(alloc, map)?;
-    assert_eq!(rt; shown(alloc, &record)?.as_slice(), b"a=1,bc=2,".as_slice());
+    Record::of_map(alloc, map)
+}
 
+/// A copy of a record that is changed then.
+fn copied(alloc: Global) -> Result<Record, NoMemory> {
     let mut record = record_of(alloc, "a=1,b=2")?;
     let copy = record.copy()?;
     record.remove(b"b");
-    assert_eq!(rt; shown(alloc, &copy)?.as_slice(), b"a=1,b=2,".as_slice());
+    Ok(copy)
+}
 
+/// The record of the fields of a record.
+fn of_fields(alloc: Global) -> Result<Record, NoMemory> {
     let mut record = record_of(alloc, ABC)?;
-    assert!(rt; make(alloc, &mut record, &Empty(1))?);
-    assert_eq!(rt; record.fields().len(), record.len());
-    let fields = record.into_fields();
-    assert_eq!(rt; fields.len(), 3);
-    let record = Record::of_fields(alloc, fields);
-    assert_eq!(rt;
-        shown(alloc, &record)?.as_slice(),
-        b"a=1,b=,c=3,".as_slice()
-    );
-    Ok(())
+    if !make(alloc, &mut record, &Empty(1))? || record.fields().len() != record.len() {
+        return Record::new(alloc);
+    }
+    Ok(Record::of_fields(alloc, record.into_fields()))
 }
 
 struct Parts {
@@ -464,20 +468,34 @@ const PARTS: [Parts; 11] = [
     },
 ];
 
+/// Whether a text has these parts.
+fn is_parted(row: &Parts) -> bool {
+    !row.separator.is_empty()
+        && next_part(row.separator, row.text) == (row.part, row.rest)
+        && separator_place(row.separator, row.text) == row.place
+        && count_parts(row.separator, row.text) == row.count
+}
+
+fn first_wrong_parts() -> Option<usize> {
+    PARTS.iter().position(|row| !is_parted(row))
+}
+
 #[test]
-fn parts_lie_between_separators(rt: HostRuntime) {
-    for (i, row) in PARTS.iter().enumerate() {
-        if row.separator.is_empty() {
-            continue;
-        }
-        let (part, rest) = next_part(row.separator, row.text);
-        assert_eq!(rt; part, row.part, "at {i}");
-        assert_eq!(rt; rest, row.rest, "at {i}");
-        assert_eq!(rt;
-            separator_place(row.separator, row.text),
-            row.place,
-            "at {i}"
-        );
-        assert_eq!(rt; count_parts(row.separator, row.text), row.count, "at {i}");
-    }
+fn records_have_these_fields_and_texts_these_parts(rt: HostRuntime) -> Result<(), NoMemory> {
+    let alloc = rt.alloc();
+    assert_eq!(rt; first_wrong_call(alloc)?, None);
+    assert_eq!(rt;
+        shown(alloc, &of_map(alloc)?)?.as_slice(),
+        b"a=1,bc=2,".as_slice()
+    );
+    assert_eq!(rt;
+        shown(alloc, &copied(alloc)?)?.as_slice(),
+        b"a=1,b=2,".as_slice()
+    );
+    assert_eq!(rt;
+        shown(alloc, &of_fields(alloc)?)?.as_slice(),
+        b"a=1,b=,c=3,".as_slice()
+    );
+    assert_eq!(rt; first_wrong_parts(), None);
+    Ok(())
 }

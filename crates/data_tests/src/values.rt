@@ -3,11 +3,11 @@ ghost use Rattle.std.specs.Prelude.{◌≤◌, length};
 
 mod operands;
 
-use crate::{
-    ArrayValue, Bytes, IntValue, MapValue, Order, Value, append_text, arith, arith1, compare,
-    from_data, from_data_first, infer, text_of,
+use mlr_spec::{InferOpts, Kind, NoMemory, Order};
+use mlr_value::{
+    ArrayValue, Bytes, IntValue, MapValue, Value, append_text, arith, arith1, compare, from_data,
+    from_data_first, infer, text_of,
 };
-use mlr_spec::{InferOpts, Kind, NoMemory};
 use operands::{
     BY_FOLDED, BY_FOLDED_DOWN, BY_KIND, BY_NUMBER, BY_NUMBER_DOWN, BY_TEXT, BY_TEXT_DOWN, Binary,
     MIXED, OF_INTS, Ranked, UNARY,
@@ -256,32 +256,16 @@ fn first_unordered(
     Ok(None)
 }
 
-#[test]
-fn values_are_read_printed_computed_and_compared(rt: HostRuntime) -> Result<(), Fail> {
-    let alloc = rt.alloc();
-    assert_eq!(rt; first_misread(alloc)?, None);
-    assert_eq!(rt; first_misprinted(alloc)?, None);
-    assert_eq!(rt; first_wrong_result(alloc, &BY_KIND)?, None);
-    assert_eq!(rt; first_wrong_result(alloc, &OF_INTS)?, None);
-    assert_eq!(rt; first_wrong_unary(alloc)?, None);
-    assert_eq!(rt; first_unordered(alloc, Order::Text, &BY_TEXT)?, None);
-    assert_eq!(rt;
-        first_unordered(alloc, Order::TextDown, &BY_TEXT_DOWN)?,
-        None
-    );
-    assert_eq!(rt; first_unordered(alloc, Order::Folded, &BY_FOLDED)?, None);
-    assert_eq!(rt;
-        first_unordered(alloc, Order::FoldedDown, &BY_FOLDED_DOWN)?,
-        None
-    );
-    assert_eq!(rt; first_unordered(alloc, Order::Number, &BY_NUMBER)?, None);
-    assert_eq!(rt;
-        first_unordered(alloc, Order::NumberDown, &BY_NUMBER_DOWN)?,
-        None
-    );
-    assert_eq!(rt; first_unordered(alloc, Order::Mixed, &MIXED)?, None);
-    Ok(())
-}
+/// The values of an order by their ranks, for each order.
+const ORDERS: [(Order, &[Ranked]); 7] = [
+    (Order::Text, &BY_TEXT),
+    (Order::TextDown, &BY_TEXT_DOWN),
+    (Order::Folded, &BY_FOLDED),
+    (Order::FoldedDown, &BY_FOLDED_DOWN),
+    (Order::Number, &BY_NUMBER),
+    (Order::NumberDown, &BY_NUMBER_DOWN),
+    (Order::Mixed, &MIXED),
+];
 
 /// More than the 16 bytes that take no memory.
 const LONG: &[u8] = b"0123456789abcdefghijklmnopqrstuvwxyz+-*/";
@@ -377,42 +361,49 @@ fn is_line(alloc: Global, text: &[u8], len: usize) -> Result<bool, NoMemory>
     Ok(other && plain == (len == 0) && line == want && first.is(&first))
 }
 
-#[test]
-fn texts_are_compared_and_joined_at_each_length(rt: HostRuntime) -> Result<(), Fail> {
-    let alloc = rt.alloc();
+/// Whether two texts are compared and joined as a row says.
+fn are_joined(alloc: Global, pair: &Pair) -> Result<bool, NoMemory> {
+    let first = Bytes::copy_of(alloc, pair.first)?;
+    let second = Bytes::copy_of(alloc, pair.second)?;
+    let mut text = Bytes::new(alloc);
+    let was_empty = text.is_empty();
+    text.append(pair.first)?;
+    let same = text == first && (text == second) == pair.are_equal;
+    text.append(second.as_slice())?;
+    let len = pair.joined.len();
+    let joined = text.as_slice() == pair.joined
+        && text.len() == len
+        && text.is_empty() == (len == 0);
+    text.clear();
+    Ok(was_empty && same && joined && text.is_empty())
+}
+
+fn first_misjoined(alloc: Global) -> Result<Option<usize>, NoMemory> {
     for (i, pair) in PAIRS.iter().enumerate() {
-        let second = Bytes::copy_of(alloc, pair.second)?;
-        let mut text = Bytes::new(alloc);
-        assert!(rt; text.is_empty(), "at {i}");
-        text.append(pair.first)?;
-        assert_eq!(rt; text, Bytes::copy_of(alloc, pair.first)?, "at {i}");
-        assert_eq!(rt; text == second, pair.are_equal, "at {i}");
-        text.append(second.as_slice())?;
-        assert_eq!(rt; text.as_slice(), pair.joined, "at {i}");
-        let len = pair.joined.len();
-        assert!(rt;
-            text.len() == len && text.is_empty() == (len == 0),
-            "at {i}"
-        );
-        text.clear();
-        assert!(rt; text.is_empty(), "at {i}");
+        if !are_joined(alloc, pair)? {
+            return Ok(Some(i));
+        }
     }
+    Ok(None)
+}
+
+/// The first length at which the text `LONG` is cut, joined or pushed otherwise.
+fn first_wrong_length(alloc: Global) -> Result<Option<usize>, NoMemory> {
     let mut pushed = Bytes::new(alloc);
     for (len, byte) in LONG.iter().enumerate() {
         let mut text = Bytes::copy_of(alloc, &LONG[..len])?;
-        assert_eq!(rt; text.as_slice(), &LONG[..len], "at {len}");
+        let cut = text.as_slice() == &LONG[..len];
         text.append(&LONG[len..])?;
-        assert_eq!(rt; text.as_slice(), LONG, "at {len}");
         pushed.push(*byte)?;
-        assert_eq!(rt; pushed.as_slice(), &LONG[..len + 1], "at {len}");
-        assert!(rt; is_line(alloc, LONG, len)?, "at {len}");
+        if !cut
+            || text.as_slice() != LONG
+            || pushed.as_slice() != &LONG[..len + 1]
+            || !is_line(alloc, LONG, len)?
+        {
+            return Ok(Some(len));
+        }
     }
-    let bytes = Bytes::copy_of(alloc, &[b'a', 195, 169])?;
-    assert_eq!(rt;
-        format!(in alloc; "{bytes:?}")?.as_str(),
-        "\"a\u{c3}\u{a9}\""
-    );
-    Ok(())
+    Ok(None)
 }
 
 struct Collection {
@@ -491,35 +482,65 @@ fn append_items(array: &ArrayValue, text: &mut Bytes) -> Result<(), NoMemory> {
     Ok(())
 }
 
-#[test]
-fn collections_and_their_copies_have_the_same_items(rt: HostRuntime) -> Result<(), Fail> {
-    let alloc = rt.alloc();
-    for (i, row) in COLLECTIONS.iter().enumerate() {
-        let mut map = MapValue::new(alloc)?;
-        let mut array = ArrayValue::new(alloc);
-        for (key, b) in row.appends {
-            map.put(key.as_bytes(), Value::Bool(*b))?;
-            array.push(Value::Bool(*b))?;
-        }
-        let removed = row.removed.as_bytes();
-        assert_eq!(rt; map.get(removed).is_some(), row.was_there, "at {i}");
-        assert_eq!(rt; map.remove(removed), row.was_there, "at {i}");
-        let mut arrays = ArrayValue::new(alloc);
-        arrays.push(Value::Array(array))?;
-        let mut outer = MapValue::new(alloc)?;
-        outer.put(b"map", Value::Map(map))?;
-        outer.put(b"arrays", Value::Array(arrays))?;
-        let copy = outer.copy(alloc)?;
-        outer.remove(b"map");
-        let mut shown = Bytes::new(alloc);
-        if let Some(Value::Map(map)) = copy.get(b"map")
-            && let Some(Value::Array(arrays)) = copy.get(b"arrays")
-            && let Some(Value::Array(array)) = arrays.at(0)
-        {
-            append_pairs(map, &mut shown)?;
-            append_items(array, &mut shown)?;
-        }
-        assert_eq!(rt; shown.as_slice(), row.shown.as_bytes(), "at {i}");
+/// What a copy of a map and an array shows after the map itself has lost its key, or None where the key was there
+/// otherwise than the row says.
+fn shown_copy(alloc: Global, row: &Collection) -> Result<Option<Bytes>, NoMemory> {
+    let mut map = MapValue::new(alloc)?;
+    let mut array = ArrayValue::new(alloc);
+    for (key, b) in row.appends {
+        map.put(key.as_bytes(), Value::Bool(*b))?;
+        array.push(Value::Bool(*b))?;
     }
+    let removed = row.removed.as_bytes();
+    if map.get(removed).is_some() != row.was_there || map.remove(removed) != row.was_there {
+        return Ok(None);
+    }
+    let mut arrays = ArrayValue::new(alloc);
+    arrays.push(Value::Array(array))?;
+    let mut outer = MapValue::new(alloc)?;
+    outer.put(b"map", Value::Map(map))?;
+    outer.put(b"arrays", Value::Array(arrays))?;
+    let copy = outer.copy(alloc)?;
+    outer.remove(b"map");
+    let mut shown = Bytes::new(alloc);
+    if let Some(Value::Map(map)) = copy.get(b"map")
+        && let Some(Value::Array(arrays)) = copy.get(b"arrays")
+        && let Some(Value::Array(array)) = arrays.at(0)
+    {
+        append_pairs(map, &mut shown)?;
+        append_items(array, &mut shown)?;
+    }
+    Ok(Some(shown))
+}
+
+fn first_wrong_collection(alloc: Global) -> Result<Option<usize>, NoMemory> {
+    for (i, row) in COLLECTIONS.iter().enumerate() {
+        let shown = shown_copy(alloc, row)?;
+        if shown.is_none_or(|shown| shown.as_slice() != row.shown.as_bytes()) {
+            return Ok(Some(i));
+        }
+    }
+    Ok(None)
+}
+
+#[test]
+fn values_are_read_printed_computed_compared_and_collected(rt: HostRuntime) -> Result<(), Fail> {
+    let alloc = rt.alloc();
+    assert_eq!(rt; first_misread(alloc)?, None);
+    assert_eq!(rt; first_misprinted(alloc)?, None);
+    assert_eq!(rt; first_wrong_result(alloc, &BY_KIND)?, None);
+    assert_eq!(rt; first_wrong_result(alloc, &OF_INTS)?, None);
+    assert_eq!(rt; first_wrong_unary(alloc)?, None);
+    for (order, rows) in ORDERS.iter() {
+        assert_eq!(rt; first_unordered(alloc, *order, rows)?, None, "{order:?}");
+    }
+    assert_eq!(rt; first_misjoined(alloc)?, None);
+    assert_eq!(rt; first_wrong_length(alloc)?, None);
+    let bytes = Bytes::copy_of(alloc, &[b'a', 195, 169])?;
+    assert_eq!(rt;
+        format!(in alloc; "{bytes:?}")?.as_str(),
+        "\"a\u{c3}\u{a9}\""
+    );
+    assert_eq!(rt; first_wrong_collection(alloc)?, None);
     Ok(())
 }

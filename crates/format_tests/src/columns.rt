@@ -1,31 +1,12 @@
 //! Blocks and lines, and what is written of them.
 ghost use Rattle.std.specs.Prelude.{◌≡◌, [], IfOk};
 
-use crate::{Block, append_xtab};
+use crate::fields::record_of;
 use mlr_record::Record;
-use mlr_spec::{InferOpts, NoMemory};
-use mlr_value::{Bytes, Value, from_data};
+use mlr_spec::NoMemory;
+use mlr_value::{Bytes, Value};
 use std::alloc::Global;
-
-/// Sets a field, of a key before `=` and a value.
-fn put_field(alloc: Global, part: &[u8], record: &mut Record) -> Result<(), NoMemory> {
-    match part.iter().position(|b| *b == b'=') {
-        Some(place) => record.put(
-            &part[..place],
-            from_data(alloc, &part[place + 1..], InferOpts::plain())?,
-        ),
-        None => Ok(()),
-    }
-}
-
-/// The fields between `|`.
-fn record_of(alloc: Global, text: &[u8]) -> Result<Record, NoMemory> {
-    let mut record = Record::new(alloc)?;
-    for part in text.split(|b| *b == b'|') {
-        put_field(alloc, part, &mut record)?;
-    }
-    Ok(record)
-}
+use text_columns::{Block, append_xtab};
 
 /// A way of writing records.
 #[derive(Clone, Copy)]
@@ -137,17 +118,6 @@ const CASES: [(Form, &[u8], &[u8]); 9] = [
     (Form::Xtab, b"", b""),
 ];
 
-#[test]
-fn cases_written(rt: HostRuntime) -> Result<(), NoMemory> {
-    let alloc = rt.alloc();
-    for (i, case) in CASES.iter().enumerate() {
-        let (form, lines, text) = *case;
-        let out = written(alloc, form, lines)?;
-        assert_eq!(rt; out.as_slice(), text, "at {i}");
-    }
-    Ok(())
-}
-
 /// A byte, so many times.
 fn repeated(alloc: Global, byte: u8, times: usize) -> Result<Bytes, NoMemory> {
     let mut text = Bytes::new(alloc);
@@ -161,32 +131,54 @@ fn repeated(alloc: Global, byte: u8, times: usize) -> Result<Bytes, NoMemory> {
 /// chunk, and a row that is longer than a chunk.
 const SIZES: [(usize, usize); 5] = [(254, 2), (255, 2), (256, 2), (300, 1000), (100_000, 3)];
 
-#[test]
-fn long_cells_written(rt: HostRuntime) -> Result<(), NoMemory> {
-    let alloc = rt.alloc();
+/// Whether a block has a cell of this length in so many rows.
+fn is_long_written(alloc: Global, length: usize, count: usize) -> Result<bool, NoMemory> {
+    let mut record = Record::new(alloc)?;
+    let cell = repeated(alloc, b'x', length)?;
+    record.put(b"a", Value::Str(cell.copy()?))?;
+    record.put(b"b", Value::Empty)?;
+    let mut block = used_block(alloc)?;
+    block.push_keys(&record)?;
+    let mut want = Bytes::new(alloc);
+    want.append(b"a")?;
+    want.append(repeated(alloc, b' ', length)?.as_slice())?;
+    want.append(b"b\n")?;
+    for _ in 0..count {
+        block.push_values(&record)?;
+        want.append(cell.as_slice())?;
+        want.append(b" -\n")?;
+    }
+    let mut out = Bytes::new(alloc);
+    block.append_to(false, false, &mut out)?;
+    Ok(out == want)
+}
+
+/// The first case that is written otherwise.
+fn first_wrong_case(alloc: Global) -> Result<Option<usize>, NoMemory> {
+    for (i, case) in CASES.iter().enumerate() {
+        let (form, lines, text) = *case;
+        if written(alloc, form, lines)?.as_slice() != text {
+            return Ok(Some(i));
+        }
+    }
+    Ok(None)
+}
+
+/// The length of the first cell that is written otherwise.
+fn first_wrong_cell(alloc: Global) -> Result<Option<usize>, NoMemory> {
     for size in SIZES {
         let (length, count) = size;
-        let mut record = Record::new(alloc)?;
-        let cell = repeated(alloc, b'x', length)?;
-        record.put(b"a", Value::Str(cell.copy()?))?;
-        record.put(b"b", Value::Empty)?;
-        let mut block = used_block(alloc)?;
-        block.push_keys(&record)?;
-        let mut want = Bytes::new(alloc);
-        want.append(b"a")?;
-        want.append(repeated(alloc, b' ', length)?.as_slice())?;
-        want.append(b"b\n")?;
-        for _ in 0..count {
-            block.push_values(&record)?;
-            want.append(cell.as_slice())?;
-            want.append(b" -\n")?;
+        if !is_long_written(alloc, length, count)? {
+            return Ok(Some(length));
         }
-        let mut out = Bytes::new(alloc);
-        block.append_to(false, false, &mut out)?;
-        assert!(rt;
-            out.as_slice() == want.as_slice(),
-            "a cell of {length} bytes"
-        );
     }
+    Ok(None)
+}
+
+#[test]
+fn cases_and_long_cells_are_written(rt: HostRuntime) -> Result<(), NoMemory> {
+    let alloc = rt.alloc();
+    assert_eq!(rt; first_wrong_case(alloc)?, None);
+    assert_eq!(rt; first_wrong_cell(alloc)?, None);
     Ok(())
 }

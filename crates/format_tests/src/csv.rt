@@ -1,176 +1,47 @@
-//! Files read whole and cut at each byte, and the events that they give, written out.
+//! Files of CSV and TSV that are read wherever they are cut, with each byte at each place, and long ones.
 
-use crate::test_files::{File, GROUPS, Opt};
-use crate::{CsvReader, can_read};
+use crate::csv_files::GROUPS;
+use crate::pieces::{
+    AnyByte, FIRST, LATER, Opt, Reads, check_any_byte, check_cuts, counts_on, events_of, options,
+};
 use itoa::Buffer;
-use mlr_event::{Comments, Ctx, Event, Events, Fault, FileRef, Format, ReadOpts};
-use mlr_record::Record;
+use mlr_event::{FileRef, Format, ReadOpts};
 use mlr_spec::NoMemory;
-use mlr_value::{Bytes, Value, append_text};
+use mlr_value::Bytes;
+use read_csv::{CsvReader, can_read};
 use std::alloc::Global;
 use std::process::Abort;
 
-/// The options of plain CSV, changed by these.
-fn options(alloc: Global, changes: &[Opt]) -> Result<ReadOpts, NoMemory> {
-    let mut opts = ReadOpts::of(alloc, Format::Csv)?;
-    for change in changes {
-        match change {
-            Opt::Tsv => {
-                opts.format = Format::Tsv;
-                opts.ifs = Bytes::copy_of(alloc, b"\t")?;
-            }
-            Opt::Dkvp => opts.format = Format::Dkvp,
-            Opt::Separator(text) => opts.ifs = Bytes::copy_of(alloc, text)?,
-            Opt::Implicit => opts.implicit = true,
-            Opt::Ragged => opts.ragged = true,
-            Opt::Repeats => opts.dedupe = false,
-            Opt::Skip(prefix) => opts.comments = Comments::Skip(Bytes::copy_of(alloc, prefix)?),
-            Opt::Pass(prefix) => opts.comments = Comments::Pass(Bytes::copy_of(alloc, prefix)?),
+/// The reader of CSV and TSV.
+#[derive(Drop)]
+struct Csv<'o> {
+    opts: &'o ReadOpts,
+}
+
+impl Reads for Csv<'_> {
+    fn events(&self, alloc: Global, prefix: &[u8], rest: &[u8]) -> Result<Bytes, NoMemory> {
+        if !can_read(self.opts) {
+            return Ok(Bytes::new(alloc));
         }
-    }
-    Ok(opts)
-}
-
-/// A record as its number and its fields, with `#` before a whole number: `2:a=#1;b=x;`.
-fn append_record(record: &Record, at: Ctx, into: &mut Bytes) -> Result<(), NoMemory> {
-    into.append(&[b'0' + (at.nr % 10) as u8, b':'])?;
-    for place in 0..record.len() {
-        let (name, value) = record.entry(place);
-        into.append(name)?;
-        into.append(if let Value::Int(_) = value {
-            b"=#"
-        } else {
-            b"="
-        })?;
-        append_text(value, into)?;
-        into.append(b";")?;
-    }
-    Ok(())
-}
-
-/// A fault as its line, and what it wanted and had: `!3!2!1`.
-fn append_fault(numbers: &[u64], into: &mut Bytes) -> Result<(), NoMemory> {
-    for number in numbers {
-        into.append(&[b'!', b'0' + (*number % 10) as u8])?;
-    }
-    Ok(())
-}
-
-fn append_event(event: &Event, into: &mut Bytes) -> Result<(), NoMemory> {
-    match event {
-        Event::Rec(record, at) => append_record(record, *at, into),
-        Event::Text(text) => into.append(text.as_slice()),
-        Event::Fault(
-            Fault::Length {
-                line,
-                want,
-                have,
-                ..
-            },
-        ) => append_fault(&[*line, *want, *have], into),
-        Event::Fault(Fault::Quote { line, .. }) => append_fault(&[*line], into),
-        _ => into.append(b"~"),
+        let reader = CsvReader::new(alloc, self.opts, FileRef::Main(1), FIRST)?;
+        events_of(alloc, reader, prefix, rest, true)
     }
 }
 
-/// The events, each followed by a space.
-fn shown(alloc: Global, events: &Events) -> Result<Bytes, NoMemory> {
-    let mut all = Bytes::new(alloc);
-    for place in 0..events.len() {
-        if let Some(event) = events.at(place) {
-            append_event(event, &mut all)?;
-            all.append(b" ")?;
-        }
+/// Whether the numbers of records go on from file to file.
+fn are_counted_on(alloc: Global) -> Result<bool, NoMemory> {
+    let opts = ReadOpts::of(alloc, Format::Csv)?;
+    if !can_read(&opts) {
+        return Ok(false);
     }
-    Ok(all)
-}
-
-/// The events of a file that is read in two pieces.
-fn read(alloc: Global, opts: &ReadOpts, prefix: &[u8], rest: &[u8]) -> Result<Bytes, NoMemory> {
-    let mut out = Events::new(alloc);
-    let start = Ctx {
-        nr: 0,
-        fnr: 0,
-        filenum: 1,
-    };
-    let small = prefix.len() < 1 << 40 && rest.len() < 1 << 40;
-    if small && can_read(opts) {
-        let mut reader = CsvReader::new(alloc, opts, FileRef::Main(1), start)?;
-        reader.feed(prefix, &mut out)?;
-        reader.feed(rest, &mut out)?;
-        reader.end(&mut out)?;
-    }
-    shown(alloc, &out)
-}
-
-/// Checks the events of each file, wherever it is cut.
-fn check_files(
-    rt: &impl Abort,
-    alloc: Global,
-    name: &str,
-    opts: &ReadOpts,
-    files: &[File],
-) -> Result<(), NoMemory> {
-    for (i, row) in files.iter().enumerate() {
-        let (file, want) = *row;
-        for cut in 0..file.len() + 1 {
-            let shown = read(alloc, opts, &file[..cut], &file[cut..])?;
-            assert_eq!(rt; shown.as_slice(), want, "{name} at {i}, cut at {cut}");
-        }
-    }
-    Ok(())
-}
-
-#[test]
-fn files_give_these_events_wherever_they_are_cut(rt: HostRuntime) -> Result<(), NoMemory> {
-    for row in GROUPS.iter() {
-        let (name, changes, files) = *row;
-        let opts = options(rt.alloc(), changes)?;
-        assert_eq!(rt; can_read(&opts), !files.is_empty(), "{name}");
-        check_files(&rt, rt.alloc(), name, &opts, files)?;
-    }
-    Ok(())
-}
-
-#[test]
-fn numbers_of_records_go_on_from_file_to_file(rt: HostRuntime) -> Result<(), NoMemory> {
-    let opts = options(rt.alloc(), &[])?;
-    let mut out = Events::new(rt.alloc());
-    let start = Ctx {
-        nr: 5,
-        fnr: 0,
-        filenum: 2,
-    };
-    if can_read(&opts) {
-        let mut reader = CsvReader::new(rt.alloc(), &opts, FileRef::Main(2), start)?;
-        assert_eq!(rt; reader.ctx(), start);
-        reader.feed(b"a\n1\n2", &mut out)?;
-        assert_eq!(rt;
-            reader.ctx(),
-            Ctx {
-                nr: 6,
-                fnr: 1,
-                ..start
-            }
-        );
-        reader.end(&mut out)?;
-        assert_eq!(rt;
-            reader.ctx(),
-            Ctx {
-                nr: 7,
-                fnr: 2,
-                ..start
-            }
-        );
-        assert!(rt; !reader.is_broken());
-    }
-    Ok(())
+    let reader = CsvReader::new(alloc, &opts, FileRef::Main(3), LATER)?;
+    counts_on(alloc, reader, &(b"a\n1\n2", b"8:a=#1; 9:a=#2; "))
 }
 
 /// Files in which each byte in turn takes each place.
-const CHANGED: [(&[Opt], &[u8]); 2] = [
-    (&[Opt::Pass(b"#")], b"a,b\r\n\"1\n\"\"\",2\n"),
-    (&[Opt::Tsv, Opt::Ragged], b"a\tb\n\\t\t2\r\n"),
+const ANY_BYTE: [AnyByte; 2] = [
+    (Format::Csv, &[Opt::Pass(b"#")], b"a,b\r\n\"1\n\"\"\",2\n"),
+    (Format::Tsv, &[Opt::Ragged], b"a\tb\n\\t\t2\r\n"),
 ];
 
 /// A text as a start, a part that is repeated, in which `%` represents the number of the part, and an end.
@@ -227,61 +98,47 @@ fn text_of(alloc: Global, parts: &Parts, times: usize) -> Result<Bytes, NoMemory
     Ok(text)
 }
 
-/// The text with another byte at this place.
-fn changed(alloc: Global, text: &[u8], place: usize, byte: u8) -> Result<Bytes, NoMemory> {
-    let mut made = Bytes::new(alloc);
-    for (i, old) in text.iter().enumerate() {
-        made.append(&[if i == place { byte } else { *old }])?;
+/// The first long file that gives other events.
+fn first_wrong_long(alloc: Global) -> Result<Option<usize>, NoMemory> {
+    for (i, row) in LONG.iter().enumerate() {
+        let opts = options(alloc, Format::Csv, row.opts)?;
+        let text = text_of(alloc, &row.file, row.times)?;
+        let (prefix, rest) = text.as_slice().split_at(text.len() / 2);
+        let events = Csv { opts: &opts }.events(alloc, prefix, rest)?;
+        if events != text_of(alloc, &row.events, row.times)? {
+            return Ok(Some(i));
+        }
     }
-    Ok(made)
+    Ok(None)
 }
 
-/// Checks that a text with each byte in turn at this place gives the same events wherever it is cut.
-fn check_place(
-    rt: &impl Abort,
-    alloc: Global,
-    opts: &ReadOpts,
-    text: &[u8],
-    place: usize,
-) -> Result<(), NoMemory> {
-    for byte in 0..=255 {
-        let made = changed(alloc, text, place, byte)?;
-        let other = made.as_slice();
-        let whole = read(alloc, opts, other, b"")?;
-        for cut in 0..other.len() {
-            let shown = read(alloc, opts, &other[..cut], &other[cut..])?;
-            assert!(rt; shown == whole, "byte {byte} at {place}, cut at {cut}");
-        }
+/// Checks each group of texts, wherever they are cut.
+fn check_groups(rt: &impl Abort, alloc: Global) -> Result<(), NoMemory> {
+    for group in GROUPS.iter() {
+        let (name, format, changes, texts) = *group;
+        let opts = options(alloc, format, changes)?;
+        assert_eq!(rt; can_read(&opts), !texts.is_empty(), "{name}");
+        check_cuts(rt, alloc, name, &Csv { opts: &opts }, texts)?;
     }
     Ok(())
 }
 
-/// `rt try` reaches its time limit on the long files, since each name is compared with those before it;
-/// built, it takes a moment.
+/// Checks each file with each byte at each place.
+fn check_bytes(rt: &impl Abort, alloc: Global) -> Result<(), NoMemory> {
+    for row in ANY_BYTE.iter() {
+        let (format, changes, text) = *row;
+        let opts = options(alloc, format, changes)?;
+        check_any_byte(rt, alloc, &Csv { opts: &opts }, text)?;
+    }
+    Ok(())
+}
+
 #[test]
-fn unlikely_files_give_the_same_events_as_whole(rt: HostRuntime) -> Result<(), NoMemory> {
+fn files_give_these_events_wherever_they_are_cut(rt: HostRuntime) -> Result<(), NoMemory> {
     let alloc = rt.alloc();
-    for row in CHANGED.iter() {
-        let (changes, text) = *row;
-        let opts = options(alloc, changes)?;
-        for place in 0..text.len() {
-            check_place(&rt, alloc, &opts, text, place)?;
-        }
-    }
-    for (i, row) in LONG.iter().enumerate() {
-        let opts = options(alloc, row.opts)?;
-        let text = text_of(alloc, &row.file, row.times)?;
-        let half = text.len() / 2;
-        let shown = read(
-            alloc,
-            &opts,
-            &text.as_slice()[..half],
-            &text.as_slice()[half..],
-        )?;
-        assert!(rt;
-            shown == text_of(alloc, &row.events, row.times)?,
-            "long file {i}"
-        );
-    }
+    check_groups(&rt, alloc)?;
+    check_bytes(&rt, alloc)?;
+    assert!(rt; are_counted_on(alloc)?);
+    assert_eq!(rt; first_wrong_long(alloc)?, None);
     Ok(())
 }

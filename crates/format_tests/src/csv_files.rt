@@ -1,22 +1,10 @@
 //! Files of CSV and TSV, and the events that each gives.
 
-/// An option that differs from the options of plain CSV.
-pub(crate) enum Opt {
-    Tsv,
-    Dkvp,
-    Separator(&'static [u8]),
-    Implicit,
-    Ragged,
-    Repeats,
-    Skip(&'static [u8]),
-    Pass(&'static [u8]),
-}
-
-/// A file, and its events.
-pub(crate) type File = (&'static [u8], &'static [u8]);
+use crate::pieces::{Group, Opt, Text};
+use mlr_event::Format;
 
 /// The examples of RFC 4180, alone and under a header.
-const RFC: [File; 9] = [
+const RFC: [Text; 9] = [
     (
         b"aaa,bbb,ccc\r\nzzz,yyy,xxx\r\n",
         b"1:aaa=zzz;bbb=yyy;ccc=xxx; ",
@@ -50,7 +38,7 @@ const RFC: [File; 9] = [
 ];
 
 /// Quotes in fields: alone, doubled, followed by more bytes, and over several lines.
-const QUOTES: [File; 23] = [
+const QUOTES: [Text; 23] = [
     (b"a\nx\"y\"z\n", b"1:a=x\"y\"z; "),
     (b"a,b\nx\"y,z\"w\n", b"1:a=x\"y;b=z\"w; "),
     (b"a\n \"x\"\n", b"1:a= \"x\"; "),
@@ -86,7 +74,7 @@ const QUOTES: [File; 23] = [
 ];
 
 /// Empty lines, carriage returns, kinds of values, and names that repeat.
-const LINES: [File; 27] = [
+const LINES: [Text; 27] = [
     (b"", b""),
     (b"\n\r\n\n", b""),
     (b"a,b", b""),
@@ -117,7 +105,7 @@ const LINES: [File; 27] = [
 ];
 
 /// A byte order mark is dropped only at the start of a file.
-const MARKS: [File; 10] = [
+const MARKS: [Text; 10] = [
     (b"\xef\xbb\xbf", b""),
     (b"\xef\xbb\xbfa\n1\n", b"1:a=#1; "),
     (b"\xef\xbb\xbf\"a\"\n1\n", b"1:a=#1; "),
@@ -131,7 +119,7 @@ const MARKS: [File; 10] = [
 ];
 
 /// A fault names the line on which its row begins.
-const FAULTS: [File; 18] = [
+const FAULTS: [Text; 18] = [
     (b"a,b\n1\n", b"!2!2!1 "),
     (b"a\n1,2\n", b"!2!1!2 "),
     (b"a,b\n1,2,3\n", b"!2!2!3 "),
@@ -156,7 +144,7 @@ const FAULTS: [File; 18] = [
 ];
 
 /// In TSV, tabs, newlines and backslashes are escaped, and quotes are plain bytes.
-const TSV: [File; 20] = [
+const TSV: [Text; 20] = [
     (b"", b""),
     (b"a\tb", b""),
     (b"a\tb\n1\tx\n", b"1:a=#1;b=x; "),
@@ -183,7 +171,7 @@ const TSV: [File; 20] = [
 ];
 
 /// Without a header, the names are positions.
-const IMPLICIT: [File; 6] = [
+const IMPLICIT: [Text; 6] = [
     (b"", b""),
     (b"x", b"1:1=x; "),
     (b"\n\r\nx,y\n\n1,2", b"1:1=x;2=y; 2:1=#1;2=#2; "),
@@ -193,7 +181,7 @@ const IMPLICIT: [File; 6] = [
 ];
 
 /// Without a header, each ragged row has as many fields as it has values.
-const RAGGED: [File; 4] = [
+const RAGGED: [Text; 4] = [
     (
         b"x,y\n1\n\"2\",3,4\n",
         b"1:1=x;2=y; 2:1=#1; 3:1=2;2=#3;3=#4; ",
@@ -204,7 +192,7 @@ const RAGGED: [File; 4] = [
 ];
 
 /// Under a header, a ragged row leaves out names, or names its surplus values by position.
-const SURPLUS: [File; 4] = [
+const SURPLUS: [Text; 4] = [
     (b"a,b\n1\n2,3,4,5\n", b"1:a=#1; 2:a=#2;b=#3;3=#4;4=#5; "),
     (b"3,b\n1,2,3\n", b"1:3=#1;b=#2;3_2=#3; "),
     (b"a,a\n1,2,3\n", b"1:a=#1;a_2=#2;3=#3; "),
@@ -212,7 +200,7 @@ const SURPLUS: [File; 4] = [
 ];
 
 /// Of fields whose names repeat, the last value remains.
-const REPEATED: [File; 4] = [
+const REPEATED: [Text; 4] = [
     (b"a,b,a\n1,2,3\n4,5,6\n", b"1:a=#3;b=#2; 2:a=#6;b=#5; "),
     (b"a,b\n1,2\n", b"1:a=#1;b=#2; "),
     (b"a,a\n\"x\ny\",\n", b"1:a=; "),
@@ -220,13 +208,13 @@ const REPEATED: [File; 4] = [
 ];
 
 /// Of surplus values whose positions repeat names, the last value remains.
-const BOTH: [File; 2] = [
+const BOTH: [Text; 2] = [
     (b"a,3\n1,2,5\n", b"1:a=#1;3=#5; "),
     (b"a,a,b\n1\n1,2,3,4\n", b"1:a=#1; 2:a=#2;b=#3;4=#4; "),
 ];
 
 /// A separator of two bytes is found whole.
-const SEPARATORS: [File; 6] = [
+const SEPARATORS: [Text; 6] = [
     (b"a::b\n1:::2\n", b"1:a=#1;b=:2; "),
     (b"a::b\n1:2::3:\n", b"1:a=1:2;b=3:; "),
     (b"a::b\n\"x\":\"y\"::z\n", b"1:a=x:\"y\";b=z; "),
@@ -236,7 +224,7 @@ const SEPARATORS: [File; 6] = [
 ];
 
 /// Comments are skipped where a row may begin.
-const SKIP: [File; 10] = [
+const SKIP: [Text; 10] = [
     (b"#x\na\n#y\n1\n#z", b"1:a=#1; "),
     (b"\n#x\r\n\na\r\n#y\r\n1\r\n", b"1:a=#1; "),
     (b"a\n\"#x\n#y\"\n", b"1:a=#x\n#y; "),
@@ -250,7 +238,7 @@ const SKIP: [File; 10] = [
 ];
 
 /// Comments are events of their own where a row may begin.
-const PASS: [File; 7] = [
+const PASS: [Text; 7] = [
     (b"#x\na\n#y\r\n1\n#z", b"#x\n #y\n 1:a=#1; #z\n "),
     (b"#", b"#\n "),
     (b"#\r", b"#\r\n "),
@@ -261,13 +249,13 @@ const PASS: [File; 7] = [
 ];
 
 /// A prefix of two bytes is found whole.
-const LONG_PREFIX: [File; 2] = [
+const LONG_PREFIX: [Text; 2] = [
     (b"// x\na\n/1\n//", b"1:a=/1; "),
     (b"/\n//\n/\"\n", b"1:/=/\"; "),
 ];
 
 /// A separator and a prefix of two bytes each.
-const LONG_BOTH: [File; 3] = [
+const LONG_BOTH: [Text; 3] = [
     (
         b"%% x\r\na::b:c\n%%y\n1::\"2::3\"\n\"\n%%\"::%%\n",
         b"%% x\n %%y\n 1:a=#1;b:c=2::3; 2:a=\n%%;b:c=%%; ",
@@ -277,39 +265,51 @@ const LONG_BOTH: [File; 3] = [
 ];
 
 /// Comments in TSV.
-const TSV_PASS: [File; 1] = [(b"#x\na\tb\n#\t\"\n1\t#2\n", b"#x\n #\t\"\n 1:a=#1;b=#2; ")];
+const TSV_PASS: [Text; 1] = [(b"#x\na\tb\n#\t\"\n1\t#2\n", b"#x\n #\t\"\n 1:a=#1;b=#2; ")];
 
 /// Ragged rows in TSV.
-const TSV_RAGGED: [File; 1] = [(b"a\tb\n1\n2\t3\t\\t\n", b"1:a=#1; 2:a=#2;b=#3;3=\t; ")];
+const TSV_RAGGED: [Text; 1] = [(b"a\tb\n1\n2\t3\t\\t\n", b"1:a=#1; 2:a=#2;b=#3;3=\t; ")];
 
-/// The options under which each table of files is read; a table without files says that no file can be read.
-pub(crate) const GROUPS: [(&str, &[Opt], &[File]); 20] = [
-    ("standard", &[], &RFC),
-    ("quotes", &[], &QUOTES),
-    ("lines", &[], &LINES),
-    ("marks", &[], &MARKS),
-    ("faults", &[], &FAULTS),
-    ("tsv", &[Opt::Tsv], &TSV),
-    ("no separator", &[Opt::Separator(b"")], &[]),
-    ("other format", &[Opt::Dkvp], &[]),
-    ("implicit", &[Opt::Implicit], &IMPLICIT),
+/// The options under which each table of files is read.
+pub(crate) const GROUPS: [Group; 20] = [
+    ("standard", Format::Csv, &[], &RFC),
+    ("quotes", Format::Csv, &[], &QUOTES),
+    ("lines", Format::Csv, &[], &LINES),
+    ("marks", Format::Csv, &[], &MARKS),
+    ("faults", Format::Csv, &[], &FAULTS),
+    ("tsv", Format::Tsv, &[], &TSV),
+    ("no separator", Format::Csv, &[Opt::Ifs(b"")], &[]),
+    ("other format", Format::Dkvp, &[], &[]),
+    ("implicit", Format::Csv, &[Opt::Implicit], &IMPLICIT),
     (
         "implicit and ragged",
+        Format::Csv,
         &[Opt::Implicit, Opt::Ragged],
         &RAGGED,
     ),
-    ("ragged", &[Opt::Ragged], &SURPLUS),
-    ("repeated", &[Opt::Repeats], &REPEATED),
-    ("ragged and repeated", &[Opt::Ragged, Opt::Repeats], &BOTH),
-    ("separators", &[Opt::Separator(b"::")], &SEPARATORS),
-    ("skip", &[Opt::Skip(b"#")], &SKIP),
-    ("pass", &[Opt::Pass(b"#")], &PASS),
-    ("long prefix", &[Opt::Skip(b"//")], &LONG_PREFIX),
+    ("ragged", Format::Csv, &[Opt::Ragged], &SURPLUS),
+    ("repeated", Format::Csv, &[Opt::Repeats], &REPEATED),
+    (
+        "ragged and repeated",
+        Format::Csv,
+        &[Opt::Ragged, Opt::Repeats],
+        &BOTH,
+    ),
+    ("separators", Format::Csv, &[Opt::Ifs(b"::")], &SEPARATORS),
+    ("skip", Format::Csv, &[Opt::Skip(b"#")], &SKIP),
+    ("pass", Format::Csv, &[Opt::Pass(b"#")], &PASS),
+    (
+        "long prefix",
+        Format::Csv,
+        &[Opt::Skip(b"//")],
+        &LONG_PREFIX,
+    ),
     (
         "long prefix and separator",
-        &[Opt::Separator(b"::"), Opt::Pass(b"%%")],
+        Format::Csv,
+        &[Opt::Ifs(b"::"), Opt::Pass(b"%%")],
         &LONG_BOTH,
     ),
-    ("tsv, pass", &[Opt::Tsv, Opt::Pass(b"#")], &TSV_PASS),
-    ("tsv, ragged", &[Opt::Tsv, Opt::Ragged], &TSV_RAGGED),
+    ("tsv, pass", Format::Tsv, &[Opt::Pass(b"#")], &TSV_PASS),
+    ("tsv, ragged", Format::Tsv, &[Opt::Ragged], &TSV_RAGGED),
 ];

@@ -3,61 +3,14 @@
 ghost use Rattle.std.specs.Prelude.{◌≡◌, ◌+◌, ◌^◌, ◌<◌, ◌≤◌, length, IfOk, OnOk};
 ghost use Rattle.read_json_lines.specs.Represents.{CanTake, IsOpen, used};
 
-use crate::{JsonReader, can_read};
-use itoa::Buffer;
-use mlr_event::{Ctx, Event, Events, Fault, FileRef, Format, ReadOpts};
-use mlr_json::append_json_value;
+use crate::pieces::{FIRST, Reads, Text, Values, check_cuts, shown};
+use mlr_event::{Ctx, Event, Events, FileRef, Format, ReadOpts};
 use mlr_record::Record;
-use mlr_spec::{InferOpts, JsonStyle, NoMemory};
+use mlr_spec::{InferOpts, NoMemory};
 use mlr_value::{Bytes, Value};
+use read_json_lines::{JsonReader, can_read};
 use std::alloc::Global;
 use std::process::Abort;
-
-fn append_number(number: u64, into: &mut Bytes) -> Result<(), NoMemory> {
-    into.append(Buffer::new().format(number).as_bytes())
-}
-
-/// A record as its number and its fields, with the JSON text of each value: `2:a=1;b="x";`.
-fn append_record(record: &Record, at: Ctx, into: &mut Bytes) -> Result<(), NoMemory> {
-    append_number(at.nr, into)?;
-    into.append(b":")?;
-    for place in 0..record.len() {
-        let (name, value) = record.entry(place);
-        into.append(name)?;
-        into.append(b"=")?;
-        append_json_value(value, JsonStyle::Single, into)?;
-        into.append(b";")?;
-    }
-    Ok(())
-}
-
-/// A fault as a letter and its byte: `S7`.
-fn append_fault(letter: &[u8], byte: u64, into: &mut Bytes) -> Result<(), NoMemory> {
-    into.append(letter)?;
-    append_number(byte, into)
-}
-
-fn append_event(event: &Event, into: &mut Bytes) -> Result<(), NoMemory> {
-    match event {
-        Event::Rec(record, at) => append_record(record, *at, into),
-        Event::Fault(Fault::JsonSyntax { byte, .. }) => append_fault(b"S", *byte, into),
-        Event::Fault(Fault::JsonDeep { byte, .. }) => append_fault(b"D", *byte, into),
-        Event::Fault(Fault::JsonKind { byte, .. }) => append_fault(b"K", *byte, into),
-        _ => into.append(b"~"),
-    }
-}
-
-/// The events, each followed by a space.
-fn shown(alloc: Global, events: &Events) -> Result<Bytes, NoMemory> {
-    let mut all = Bytes::new(alloc);
-    for place in 0..events.len() {
-        if let Some(event) = events.at(place) {
-            append_event(event, &mut all)?;
-            all.append(b" ")?;
-        }
-    }
-    Ok(all)
-}
 
 /// A reader at the start of a file.
 fn reader(alloc: Global, infer: InferOpts) -> Result<JsonReader, NoMemory>
@@ -66,12 +19,7 @@ fn reader(alloc: Global, infer: InferOpts) -> Result<JsonReader, NoMemory>
 {
     let mut opts = ReadOpts::of(alloc, Format::Jsonl)?;
     opts.infer = infer;
-    let start = Ctx {
-        nr: 0,
-        fnr: 0,
-        filenum: 1,
-    };
-    JsonReader::new(alloc, &opts, FileRef::Main(1), start)
+    JsonReader::new(alloc, &opts, FileRef::Main(1), FIRST)
 }
 
 /// Reads a text in pieces of this size.
@@ -134,9 +82,6 @@ const STRINGS_ALONE: How = How {
     },
     ..WHOLE
 };
-
-/// A text, and its events.
-type Text = (&'static [u8], &'static [u8]);
 
 /// Records one after another and in lists, after a byte order mark too.
 const RECORDS: [Text; 12] = [
@@ -283,46 +228,19 @@ const GROUPS: [(&str, How, &[Text]); 11] = [
     ("prefixes", PREFIX, &PREFIXES),
 ];
 
-/// The events of a text whose prefix is read at once, and the rest in pieces.
-fn events_of(alloc: Global, how: How, prefix: &[u8], rest: &[u8]) -> Result<Bytes, NoMemory> {
-    let mut out = Events::new(alloc);
-    let mut reader = reader(alloc, how.infer)?;
-    if how.size > 0 && prefix.len() < 1 << 40 && rest.len() < 1 << 40 {
-        reader.feed(prefix, &mut out)?;
-        feed_pieces(&mut reader, rest, how.size, &mut out)?;
-        if how.ends {
-            reader.end(&mut out)?;
+impl Reads for How {
+    fn events(&self, alloc: Global, prefix: &[u8], rest: &[u8]) -> Result<Bytes, NoMemory> {
+        let mut out = Events::new(alloc);
+        let mut reader = reader(alloc, self.infer)?;
+        if self.size > 0 && prefix.len() < 1 << 40 && rest.len() < 1 << 40 {
+            reader.feed(prefix, &mut out)?;
+            feed_pieces(&mut reader, rest, self.size, &mut out)?;
+            if self.ends {
+                reader.end(&mut out)?;
+            }
         }
+        shown(alloc, Values::Json, &out)
     }
-    shown(alloc, &out)
-}
-
-/// Checks the events of each text, cut in two at each byte.
-fn check_cuts(
-    rt: &impl Abort,
-    alloc: Global,
-    name: &str,
-    how: How,
-    texts: &[Text],
-) -> Result<(), NoMemory> {
-    for (i, row) in texts.iter().enumerate() {
-        let (text, want) = *row;
-        for cut in 0..text.len() + 1 {
-            let shown = events_of(alloc, how, &text[..cut], &text[cut..])?;
-            assert_eq!(rt; shown.as_slice(), want, "{name} at {i}, cut at {cut}");
-        }
-    }
-    Ok(())
-}
-
-#[test]
-fn texts_give_these_events_cut_in_two_and_byte_by_byte(rt: HostRuntime) -> Result<(), NoMemory> {
-    for row in GROUPS.iter() {
-        let (name, how, texts) = *row;
-        check_cuts(&rt, rt.alloc(), name, how, texts)?;
-        check_cuts(&rt, rt.alloc(), name, How { size: 1, ..how }, texts)?;
-    }
-    Ok(())
 }
 
 /// Texts, each repeated a number of times, one after another.
@@ -432,19 +350,23 @@ fn check_long(
     Ok(())
 }
 
-#[test]
-fn deep_and_long_texts_are_read(rt: HostRuntime) -> Result<(), NoMemory> {
-    let alloc = rt.alloc();
+/// Checks prefixes of many levels.
+fn check_levels(rt: &impl Abort, alloc: Global) -> Result<(), NoMemory> {
     for (i, row) in LEVELS.iter().enumerate() {
         let (parts, want) = *row;
         let text = joined(alloc, parts)?;
-        let shown = events_of(alloc, PREFIX, text.as_slice(), b"")?;
-        assert_eq!(rt; shown.as_slice(), want, "levels at {i}");
+        let events = PREFIX.events(alloc, text.as_slice(), b"")?;
+        assert_eq!(rt; events.as_slice(), want, "levels at {i}");
     }
+    Ok(())
+}
+
+/// Checks long texts, read in pieces of each of their sizes.
+fn check_sizes(rt: &impl Abort, alloc: Global) -> Result<(), NoMemory> {
     for row in LONG.iter() {
         let text = joined(alloc, row.parts)?;
         for size in row.sizes {
-            check_long(&rt, alloc, row, text.as_slice(), *size)?;
+            check_long(rt, alloc, row, text.as_slice(), *size)?;
         }
     }
     Ok(())
@@ -457,27 +379,49 @@ const FORMATS: [(Format, bool); 3] = [
     (Format::Csv, false),
 ];
 
-#[test]
-fn json_alone_is_read_and_records_count_on(rt: HostRuntime) -> Result<(), NoMemory> {
+/// The first format that can be read otherwise than it says.
+fn first_wrong_format(alloc: Global) -> Result<Option<usize>, NoMemory> {
     for (i, row) in FORMATS.iter().enumerate() {
         let (format, want) = *row;
-        assert_eq!(rt;
-            can_read(&ReadOpts::of(rt.alloc(), format)?),
-            want,
-            "at {i}"
-        );
+        if can_read(&ReadOpts::of(alloc, format)?) != want {
+            return Ok(Some(i));
+        }
     }
-    let opts = ReadOpts::of(rt.alloc(), Format::Json)?;
+    Ok(None)
+}
+
+/// Whether the numbers of records go on from file to file.
+fn are_counted_on(alloc: Global) -> Result<bool, NoMemory> {
+    let opts = ReadOpts::of(alloc, Format::Json)?;
     let start = Ctx {
         nr: 7,
         fnr: 0,
         filenum: 2,
     };
-    let mut out = Events::new(rt.alloc());
-    let mut reader = JsonReader::new(rt.alloc(), &opts, FileRef::Main(2), start)?;
+    let mut out = Events::new(alloc);
+    let mut reader = JsonReader::new(alloc, &opts, FileRef::Main(2), start)?;
     reader.feed(b"{}{}", &mut out)?;
     let last = reader.ctx();
-    assert_eq!(rt; (last.nr, last.fnr, last.filenum), (9, 2, 2));
-    assert!(rt; !reader.is_broken());
+    Ok((last.nr, last.fnr, last.filenum) == (9, 2, 2) && !reader.is_broken())
+}
+
+/// Checks each group of texts, cut in two at each byte, the rest in one piece and byte by byte.
+fn check_groups(rt: &impl Abort, alloc: Global) -> Result<(), NoMemory> {
+    for row in GROUPS.iter() {
+        let (name, how, texts) = *row;
+        check_cuts(rt, alloc, name, &how, texts)?;
+        check_cuts(rt, alloc, name, &How { size: 1, ..how }, texts)?;
+    }
+    Ok(())
+}
+
+#[test]
+fn texts_give_these_events_in_pieces_of_each_size(rt: HostRuntime) -> Result<(), NoMemory> {
+    let alloc = rt.alloc();
+    check_groups(&rt, alloc)?;
+    check_levels(&rt, alloc)?;
+    check_sizes(&rt, alloc)?;
+    assert_eq!(rt; first_wrong_format(alloc)?, None);
+    assert!(rt; are_counted_on(alloc)?);
     Ok(())
 }

@@ -1,12 +1,11 @@
 //! Records and texts written in each format.
 
-use crate::{WriteOpts, Writer, growth_law};
+use crate::fields::record_of;
 use mlr_event::{Body, Format};
-use mlr_json::{JsonRead, read_json_value};
-use mlr_record::Record;
-use mlr_spec::{InferOpts, NoMemory};
-use mlr_value::{Bytes, Value, from_data};
+use mlr_spec::NoMemory;
+use mlr_value::Bytes;
 use std::alloc::Global;
+use writers::{WriteOpts, Writer, growth_law};
 
 /// A flag of the command line.
 #[derive(Clone, Copy)]
@@ -37,35 +36,6 @@ fn set(opts: &mut WriteOpts, flag: Flag) {
         Flag::Flatten => opts.flatten = true,
         Flag::Unflatten => opts.unflatten = true,
     }
-}
-
-/// A value: of JSON, where the text begins with a brace.
-fn value_of(alloc: Global, text: &[u8]) -> Result<Value, NoMemory> {
-    if text.starts_with(b"{") {
-        match read_json_value(alloc, text) {
-            JsonRead::Ok(value) => Ok(value),
-            _ => Ok(Value::Error),
-        }
-    } else {
-        from_data(alloc, text, InferOpts::plain())
-    }
-}
-
-/// Sets a field, of a key before `=` and a value.
-fn put_field(alloc: Global, part: &[u8], record: &mut Record) -> Result<(), NoMemory> {
-    match part.iter().position(|b| *b == b'=') {
-        Some(place) => record.put(&part[..place], value_of(alloc, &part[place + 1..])?),
-        None => Ok(()),
-    }
-}
-
-/// The fields between `|`.
-fn record_of(alloc: Global, text: &[u8]) -> Result<Record, NoMemory> {
-    let mut record = Record::new(alloc)?;
-    for part in text.split(|b| *b == b'|') {
-        put_field(alloc, part, &mut record)?;
-    }
-    Ok(record)
 }
 
 /// A line that begins with `#` is a text, each other one a record.
@@ -280,38 +250,46 @@ const CASES: [(Format, &[Flag], &[u8], &[u8], &[u8]); 34] = [
     ),
 ];
 
-#[test]
-fn cases_written(rt: HostRuntime) -> Result<(), NoMemory> {
-    let alloc = rt.alloc();
-    for (i, case) in CASES.iter().enumerate() {
-        let (format, flags, lines, fixed, end) = *case;
-        let mut opts = plain(alloc, format)?;
-        for flag in flags {
-            set(&mut opts, *flag);
-        }
-        let open = written(alloc, &opts, lines, false)?;
-        assert_eq!(rt; open.as_slice(), fixed, "open at {i}");
-        let mut want = open;
-        want.append(end)?;
-        let whole = written(alloc, &opts, lines, true)?;
-        assert_eq!(rt; whole.as_slice(), want.as_slice(), "at {i}");
+/// What is written of a case before the end, and in all.
+fn both_written(
+    alloc: Global,
+    format: Format,
+    flags: &[Flag],
+    lines: &[u8],
+) -> Result<(Bytes, Bytes), NoMemory> {
+    let mut opts = plain(alloc, format)?;
+    for flag in flags {
+        set(&mut opts, *flag);
     }
-    Ok(())
+    let open = written(alloc, &opts, lines, false)?;
+    let whole = written(alloc, &opts, lines, true)?;
+    Ok((open, whole))
 }
 
-#[test]
-fn writer_broken_never_with_memory(rt: HostRuntime) -> Result<(), NoMemory> {
-    let alloc = rt.alloc();
+/// Whether a writer with a copy of its options is never broken while there is memory.
+fn is_never_broken(alloc: Global) -> Result<bool, NoMemory> {
     let opts = plain(alloc, Format::Dkvp)?;
-    growth_law();
     let copy = opts.copy(alloc)?;
-    assert!(rt; copy == opts);
     let mut out = Bytes::new(alloc);
     let mut writer = Writer::new(alloc, &copy)?;
     writer.take(Body::Text(Bytes::copy_of(alloc, b"text")?), &mut out)?;
-    assert!(rt; !writer.is_broken());
+    let broken = writer.is_broken();
     writer.end(&mut out)?;
-    assert!(rt; !writer.is_broken());
-    assert_eq!(rt; out.as_slice(), b"text".as_slice());
+    Ok(copy == opts && !broken && !writer.is_broken() && out.as_slice() == b"text".as_slice())
+}
+
+#[test]
+fn cases_are_written(rt: HostRuntime) -> Result<(), NoMemory> {
+    let alloc = rt.alloc();
+    growth_law();
+    for (i, case) in CASES.iter().enumerate() {
+        let (format, flags, lines, fixed, end) = *case;
+        let (open, whole) = both_written(alloc, format, flags, lines)?;
+        assert_eq!(rt; open.as_slice(), fixed, "open at {i}");
+        let mut want = open;
+        want.append(end)?;
+        assert_eq!(rt; whole.as_slice(), want.as_slice(), "at {i}");
+    }
+    assert!(rt; is_never_broken(alloc)?);
     Ok(())
 }

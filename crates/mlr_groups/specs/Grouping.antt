@@ -1,12 +1,14 @@
--- Records in groups, by the texts of some of their fields.
+-- Records in groups.
 use Rattle.std.specs.Prelude.{◌≡◌, ℕ, Bool, false, not, List, [], ◌∷◌, map, Option, Some, None, MatchOption, slice_get}
-use Rattle.std.specs.List.{filter, filter_map}
+use Rattle.std.specs.List.{filter, filter_map, flat_map}
 use Rattle.std.specs.Option.{option_map}
 use Rattle.std.specs.Str.{bytes_eq}
 use Rattle.std.specs.Cmp.Lexicographic.{pointwise}
 use Rattle.mlr_spec.specs.Tree.{Tree}
-use Rattle.mlr_spec.specs.Pairs.{value_at}
+use Rattle.mlr_spec.specs.Pairs.{keys_of, value_at}
 use Rattle.text_forms.specs.Shown.{shown}
+use Rattle.mlr_groups.specs.declared.group_by.GroupBy.{GroupBy}
+use Rattle.mlr_groups.specs.declared.group_by.GroupBy.TheVariants as group
 
 -- a record
 abbrev pub Fields : Type 0
@@ -28,13 +30,19 @@ texts_of names fields = map (λ name. elim (value_at name fields) [ Some value �
 abbrev pub texts_eq : List (List ℕ) → List (List ℕ) → Bool
 texts_eq texts other = pointwise bytes_eq texts other
 
+-- the texts that a record has in common with the others of its group, if it is in one
+abbrev pub common_in : GroupBy → Fields → Option (List (List ℕ))
+common_in (group.Texts names) fields = group_of names fields
+common_in group.Keys fields = Some (keys_of fields)
+common_in group.Fields fields = Some (flat_map (λ field. field.0 ∷ shown field.1 ∷ []) fields)
+
 -- whether a record is in the group of these texts
-abbrev pub is_in : List (List ℕ) → List (List ℕ) → Fields → Bool
-is_in names texts fields = elim (group_of names fields) [ Some own ↦ texts_eq texts own | None ↦ false ]
+abbrev pub is_in : GroupBy → List (List ℕ) → Fields → Bool
+is_in by texts fields = elim (common_in by fields) [ Some own ↦ texts_eq texts own | None ↦ false ]
 
 -- the records in a group
-abbrev pub members : List (List ℕ) → List (List ℕ) → List Fields → List Fields
-members names texts records = filter (is_in names texts) records
+abbrev pub members : GroupBy → List (List ℕ) → List Fields → List Fields
+members by texts records = filter (is_in by texts) records
 
 -- each element once, at its first place
 abbrev pub each_once : {A : Type 0} → (A → A → Bool) → List A → List A
@@ -42,11 +50,11 @@ each_once eq [] = []
 each_once eq (x ∷ xs) = x ∷ filter (λ other. not (eq x other)) (each_once eq xs)
 
 -- the groups of records, in the order in which they come first
-abbrev pub groups_in : List (List ℕ) → List Fields → List (List (List ℕ))
-groups_in names records = each_once texts_eq (filter_map (group_of names) records)
+abbrev pub groups_in : GroupBy → List Fields → List (List (List ℕ))
+groups_in by records = each_once texts_eq (filter_map (common_in by) records)
 
--- The place of a record's group among the groups of some records. A record without one of the named fields is
--- in no group.
-abbrev pub IsGroupPlace : List (List ℕ) → List Fields → Fields → Option ℕ → Type 0
-IsGroupPlace names records fields place =
-    MatchOption place (group_of names fields ≡ None) (λ p. (texts : List (List ℕ)) × (group_of names fields ≡ Some texts) × (slice_get (groups_in names records) p ≡ Some texts))
+-- The place of a record's group among the groups of some records. A record in no group
+-- has none.
+abbrev pub IsGroupPlace : GroupBy → List Fields → Fields → Option ℕ → Type 0
+IsGroupPlace by records fields place =
+    MatchOption place (common_in by fields ≡ None) (λ p. (texts : List (List ℕ)) × (common_in by fields ≡ Some texts) × (slice_get (groups_in by records) p ≡ Some texts))

@@ -1,13 +1,15 @@
 //! Keys: one text for each list of texts, and a table of keys.
 ghost use Rattle.std.specs.Prelude.{◌≡◌, ◌++◌, ◌∷◌, [], false, true, length, if◌then◌else◌, is_ok, IfOk, IsOk, OnOk, Some, None, slice_get};
 ghost use Rattle.std.specs.Option.{option_map};
-ghost use Rattle.mlr_spec.specs.Pairs.{are_distinct};
+ghost use Rattle.std.specs.List.{flat_map};
+ghost use Rattle.mlr_spec.specs.Pairs.{are_distinct, keys_of};
 ghost use Rattle.mlr_value.specs.Value.{tree_of};
 ghost use Rattle.mlr_event.specs.Reading.{is_among};
 ghost use Rattle.text_forms.specs.Shown.{shown};
-ghost use Rattle.mlr_groups.specs.Grouping.{group_of, texts_of};
+ghost use Rattle.mlr_groups.specs.Grouping.{common_in, group_of, texts_of};
 ghost use Rattle.mlr_groups.specs.Keys.{entered, escaped, key_of};
 
+use crate::group_by::GroupBy;
 use indexmap::IndexSet;
 use memchr::memchr;
 use mlr_event::Names;
@@ -56,6 +58,52 @@ pub(crate) fn append_group(
         append_value(alloc, value, key)?;
     }
     Ok(true)
+}
+
+/// Appends to `key` the key of what a record has in common with its group, and returns whether the record is in a
+/// group. If it isn't, the appended bytes aren't a key.
+pub(crate) fn append_common(
+    alloc: Global,
+    by: &GroupBy,
+    fields: &Record,
+    key: &mut Bytes,
+) -> Result<bool, NoMemory>
+    ensures { IfOk result (λ has. option_map (λ texts. key.old ++ key_of texts)
+        (common_in by.now fields.now) ≡ (if has then Some key.new else None)) }
+{
+    match by {
+        GroupBy::Texts(names) => append_group(alloc, names, fields, key),
+        GroupBy::Keys => {
+            append_names(fields, key)?;
+            Ok(true)
+        }
+        GroupBy::Fields => {
+            append_fields(alloc, fields, key)?;
+            Ok(true)
+        }
+    }
+}
+
+/// Appends to `key` the key of the names of a record's fields.
+fn append_names(fields: &Record, key: &mut Bytes) -> Result<(), NoMemory>
+    ensures { OnOk result (key.new ≡ key.old ++ key_of (keys_of fields.now)) }
+{
+    for field in fields.fields() {
+        append_text(field.name.as_slice(), key)?;
+    }
+    Ok(())
+}
+
+/// Appends to `key` the key of the names and the texts of a record's fields.
+fn append_fields(alloc: Global, fields: &Record, key: &mut Bytes) -> Result<(), NoMemory>
+    ensures { OnOk result (key.new ≡ key.old ++ key_of
+        (flat_map (λ field. field.0 ∷ shown field.1 ∷ []) fields.now)) }
+{
+    for field in fields.fields() {
+        append_text(field.name.as_slice(), key)?;
+        append_value(alloc, &field.value, key)?;
+    }
+    Ok(())
 }
 
 /// The end of each text in a key. It occurs in no text, since each byte 0 of a text is followed by a 1.

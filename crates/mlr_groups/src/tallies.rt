@@ -3,9 +3,10 @@ ghost use Rattle.std.specs.Prelude.{◌≡◌, ◌++◌, ◌∷◌, ◌+◌, [],
 ghost use Rattle.mlr_groups.specs.Grouping.{Fields};
 ghost use Rattle.mlr_groups.specs.Represents.{TalliesOf};
 ghost use Rattle.mlr_groups.specs.Tallying.{capped, tally};
+ghost use Rattle.mlr_groups.specs.declared.group_by.GroupBy.{GroupBy as SpecGroupBy};
 
+use crate::group_by::GroupBy;
 use crate::groups::Groups;
-use mlr_event::Names;
 use mlr_record::Record;
 use mlr_spec::NoMemory;
 use std::alloc::Global;
@@ -19,24 +20,24 @@ pub struct Tallies {
 
 impl Tallies {
     /// No records yet. It doesn't allocate.
-    pub fn new(alloc: Global, names: Names) -> Self
-        ensures { TalliesOf names [] result }
+    pub fn new(alloc: Global, by: GroupBy) -> Self
+        ensures { TalliesOf by [] result }
     {
         Tallies {
-            groups: Groups::new(alloc, names),
+            groups: Groups::new(alloc, by),
             counts: Vec::new(alloc),
         }
     }
 
-    /// Counts a record, and returns the number of earlier records of its group. A record without one of the
-    /// named fields is in no group. It allocates for a new group, and for a key that is longer than those
+    /// Counts a record, and returns the number of earlier records of its group. A record may be in no
+    /// group. It allocates for a new group, and for a key that is longer than those
     /// before.
     pub fn count(&mut self, fields: &Record) -> Result<Option<u64>, NoMemory>
-        ensures represents { OnOk result ((names : List (List ℕ)) (before : List Fields)
-            → TalliesOf names before self.old
-            → TalliesOf names (before ++ fields.now ∷ []) self.new) }
-        ensures count { IfOk result (λ count. (names : List (List ℕ)) (before : List Fields)
-            → TalliesOf names before self.old → count ≡ tally names before fields.now) }
+        ensures represents { OnOk result ((by : SpecGroupBy) (before : List Fields)
+            → TalliesOf by before self.old
+            → TalliesOf by (before ++ fields.now ∷ []) self.new) }
+        ensures count { IfOk result (λ count. (by : SpecGroupBy) (before : List Fields)
+            → TalliesOf by before self.old → count ≡ tally by before fields.now) }
     {
         let Some(place) = self.groups.enter(fields)? else {
             return Ok(None);

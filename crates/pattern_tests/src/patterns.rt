@@ -1,6 +1,6 @@
 //! Tables of words and texts that are patterns, and of texts before and after matches are replaced.
 
-use crate::{
+use mlr_pattern::{
     Pattern, PatternFault, Patterns, Which, append_replaced, is_heavy, matches, pattern_word,
     read_pattern, replaced, ssub_value, sub_value,
 };
@@ -112,14 +112,6 @@ fn first_misread(alloc: Global) -> Result<Option<usize>, NoMemory> {
         }
     }
     Ok(None)
-}
-
-#[test]
-fn words_are_read_as_patterns_or_refused(rt: HostRuntime) -> Result<(), Fail> {
-    assert_eq!(rt; first_wrong_word(), None);
-    assert_eq!(rt; first_wrong_weight(), None);
-    assert_eq!(rt; first_misread(rt.alloc())?, None);
-    Ok(())
 }
 
 /// A pattern, a text, a replacement, and the text with the first match and with all matches replaced.
@@ -241,22 +233,28 @@ fn two_patterns(alloc: Global) -> Result<(Patterns, usize), Fail> {
     Ok((copy, patterns.into_vec().len()))
 }
 
-#[test]
-fn matches_are_replaced(rt: HostRuntime) -> Result<(), Fail> {
-    let alloc = rt.alloc();
-    assert_eq!(rt; first_wrong_text(alloc)?, None);
+/// Whether one pattern, with one matcher and by itself, is found in texts and replaced.
+fn is_found(alloc: Global) -> Result<bool, Fail> {
     let pattern = pattern_of(alloc, b"([a-z])[0-9]", true)?;
-    assert_eq!(rt;
-        three_replaced(alloc, &pattern)?.as_slice(),
-        b"=aBcd4none".as_slice()
-    );
-    assert!(rt; matches(alloc, &pattern, b"xE5")? && !matches(alloc, &pattern, b"5x")?);
+    Ok(
+        three_replaced(alloc, &pattern)?.as_slice() == b"=aBcd4none".as_slice()
+            && matches(alloc, &pattern, b"xE5")?
+            && !matches(alloc, &pattern, b"5x")?,
+    )
+}
+
+/// Whether a copy of two patterns has both, and the first is found in texts.
+fn are_copied(alloc: Global) -> Result<bool, Fail> {
     let (copy, count) = two_patterns(alloc)?;
-    assert!(rt; count == 2 && copy.len() == 2 && copy.as_slice().len() == 2);
-    assert!(rt; copy.at(2).is_none());
     let first = copy.at(0).ok_or("no pattern")?;
-    assert!(rt; matches(alloc, first, b"ab")? && !matches(alloc, first, b"ba")?);
-    Ok(())
+    Ok(
+        count == 2
+            && copy.len() == 2
+            && copy.as_slice().len() == 2
+            && copy.at(2).is_none()
+            && matches(alloc, first, b"ab")?
+            && !matches(alloc, first, b"ba")?,
+    )
 }
 
 /// The kinds of values that a change of texts gives.
@@ -402,8 +400,14 @@ fn first_wrong_other(alloc: Global) -> Result<Option<usize>, Fail> {
 }
 
 #[test]
-fn values_are_changed_as_their_texts(rt: HostRuntime) -> Result<(), Fail> {
+fn patterns_are_read_and_matches_are_replaced(rt: HostRuntime) -> Result<(), Fail> {
     let alloc = rt.alloc();
+    assert_eq!(rt; first_wrong_word(), None);
+    assert_eq!(rt; first_wrong_weight(), None);
+    assert_eq!(rt; first_misread(alloc)?, None);
+    assert_eq!(rt; first_wrong_text(alloc)?, None);
+    assert!(rt; is_found(alloc)?);
+    assert!(rt; are_copied(alloc)?);
     assert_eq!(rt; first_wrong_value(alloc)?, None);
     assert_eq!(rt; first_wrong_plain(alloc)?, None);
     assert_eq!(rt; first_wrong_other(alloc)?, None);

@@ -11,6 +11,8 @@ use verbs_stream::Spec;
 pub enum VerbSpec {
     /// A streaming verb.
     Stream(Spec),
+    /// A retaining verb.
+    Retain(verbs_retain::Spec),
     /// The source `seqgen`.
     Seq(SeqSpec),
 }
@@ -20,6 +22,7 @@ impl Drop for VerbSpec {
     fn drop(self) {
         match self {
             VerbSpec::Stream(spec) => drop(spec),
+            VerbSpec::Retain(spec) => drop(spec),
             VerbSpec::Seq(seq) => drop(seq),
         }
     }
@@ -33,6 +36,7 @@ impl VerbSpec {
     {
         match self {
             VerbSpec::Stream(spec) => Ok(VerbSpec::Stream(spec.copy(alloc)?)),
+            VerbSpec::Retain(spec) => Ok(VerbSpec::Retain(spec.copy(alloc)?)),
             VerbSpec::Seq(seq) => Ok(VerbSpec::Seq(seq.copy(alloc)?)),
         }
     }

@@ -3,7 +3,7 @@ ghost use Rattle.std.specs.Prelude.{◌≡◌, [], IfOk};
 ghost use Rattle.verbs_state.specs.Counted.{AreCounted};
 
 use mlr_event::Names;
-use mlr_groups::Tallies;
+use mlr_groups::{GroupBy, Tallies};
 use mlr_spec::NoMemory;
 use std::alloc::Global;
 
@@ -15,5 +15,5 @@ pub(crate) fn no_tallies(alloc: Global, groups: &Option<Names>) -> Result<Tallie
         Some(names) => names.copy()?,
         None => Names::new(alloc),
     };
-    Ok(Tallies::new(alloc, names))
+    Ok(Tallies::new(alloc, GroupBy::Texts(names)))
 }

@@ -1,7 +1,7 @@
 use Rattle.std.proofs.Common.{[], ap, refl, ◌∙◌}
 use Rattle.std.specs.Prelude.{length}
 use Rattle.chain_core.proofs.New.{no-lefts-many}
-use Rattle.chain_core.proofs.tests.makes_of_three.Goals as goal
+use Rattle.chain_tests.proofs.plan_parts.makes_of_three.Goals as goal
 
 pub new-requires-clause-lefts : goal.new-requires-clause-lefts
 new-requires-clause-lefts c = ap length c.in_ok-no_lefts.ensures ∙ no-lefts-many c.in_ok-plan.plan.verbs

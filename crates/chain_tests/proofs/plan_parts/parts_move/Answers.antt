@@ -1,6 +1,6 @@
 use denote.Param.Send.{sendable}
 use Rattle.chain_core.proofs.Crosses.{Reader-send, Verb-send}
-use Rattle.chain_core.proofs.tests.parts_move.Goals as goal
+use Rattle.chain_tests.proofs.plan_parts.parts_move.Goals as goal
 
 pub move_into_thread-requires-send-T : goal.move_into_thread-requires-send-T
 move_into_thread-requires-send-T g c κs within = search (Reader-send, sendable) depth 20

@@ -4,7 +4,7 @@ use Rattle.verbs_stream.specs.Meaning.{IsSound}
 use Rattle.verb_specs.specs.declared.verb_spec.VerbSpec.{VerbSpec}
 use Rattle.verb_specs.specs.declared.verb_spec.VerbSpec.TheVariants.{Stream, Seq}
 use Rattle.verb_specs.specs.Verbs.{AreSound, AreVerbs}
-use Rattle.chain_core.proofs.tests.push.Goals as goal
+use Rattle.chain_tests.proofs.plan_parts.push.Goals as goal
 
 verbs-append : (specs : List VerbSpec) (spec : Spec) → AreVerbs specs → IsSound spec → AreVerbs (specs ++ Stream spec ∷ [])
 verbs-append [] spec are sound = (sound, tt)

@@ -1,7 +1,7 @@
 use Rattle.std.proofs.Common.{[], refl, sym, subst}
 use Rattle.read_files.specs.Takes.{After}
 use Rattle.serial_core.proofs.Running.{following-none}
-use Rattle.chain_core.proofs.tests.read_twice.Goals as goal
+use Rattle.chain_tests.proofs.plan_parts.read_twice.Goals as goal
 
 pub turn-requires : goal.turn-requires
 turn-requires g c = (c.args.plan.now, g.I.Inputs.taken c.args.inputs.now, [], [], c.in_ok-reader.ensures, following-none _ _ _)

@@ -2,7 +2,7 @@ use Rattle.std.proofs.Common.{[], sym, subst}
 use Rattle.read_files.specs.Takes.{After}
 use Rattle.serial_core.proofs.Running.{following-none}
 use Rattle.chain_core.proofs.Runs.{command-of}
-use Rattle.chain_core.proofs.tests.run_twice.Goals as goal
+use Rattle.chain_tests.proofs.plan_parts.run_twice.Goals as goal
 
 pub turn-requires : goal.turn-requires
 turn-requires g c =

@@ -1,5 +1,5 @@
 use Rattle.chain_core.proofs.Meanings.{record-open}
-use Rattle.chain_core.proofs.tests.take_three.Goals as goal
+use Rattle.chain_tests.proofs.plan_parts.take_three.Goals as goal
 
 pub loop-nr-preserved : goal.loop-nr-preserved
 loop-nr-preserved c =

@@ -1,5 +1,5 @@
 use Rattle.verb_specs.specs.Verbs.{AreSound}
-use Rattle.chain_core.proofs.tests.verbs_of.Given as goal
+use Rattle.chain_tests.proofs.plan_parts.verbs_of.Given as goal
 
 -- verbs that may be run
 abbrev pub invariant-loop-verb : goal.invariant-loop-verb

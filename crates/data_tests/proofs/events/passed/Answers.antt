@@ -1,5 +1,5 @@
 use Rattle.std.proofs.Common.{[], refl}
-use Rattle.mlr_event.proofs.tests.passed.Goals as goal
+use Rattle.data_tests.proofs.events.passed.Goals as goal
 
 pub step-requires-2 : goal.step-requires-2
 step-requires-2 c = ([], c.in_ok-step.ensures.represents [] c.new-cat.ensures refl, refl)

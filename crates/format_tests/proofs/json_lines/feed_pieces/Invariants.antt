@@ -1,6 +1,6 @@
 use Rattle.std.proofs.Common.{◌+◌, ◌≤◌, length}
 use Rattle.read_json_lines.specs.Represents.{IsOpen, used}
-use Rattle.read_json_lines.proofs.tests.feed_pieces.Given as goal
+use Rattle.format_tests.proofs.json_lines.feed_pieces.Given as goal
 
 -- the reader is open, and has room for the rest of the text
 abbrev pub invariant-loop-left : goal.invariant-loop-left

@@ -1,6 +1,6 @@
 use Rattle.std.proofs.Common.{◌≡◌}
 use Rattle.writers.specs.Represents.{IsOpen}
-use Rattle.writers.proofs.tests.written.Given as goal
+use Rattle.format_tests.proofs.written.written.Given as goal
 
 abbrev pub invariant-loop-line : goal.invariant-loop-line
 invariant-loop-line l =

@@ -6,55 +6,55 @@ use Rattle.mlr_groups.proofs.Counts.{count-known, counts-known, counts-new, coun
 use Rattle.mlr_groups.proofs.tallies.Tallies.count.Goals as goal
 
 pub returns-in_default-clause-represents : goal.returns-in_default-clause-represents
-returns-in_default-clause-represents c = λ names before represents. (
+returns-in_default-clause-represents c = λ by before represents. (
     let fields = c.args.fields.now in
-    let none = subst (λ place. IsGroupPlace names (before ++ fields ∷ []) fields place) c.in_default.is (c.in_ok-place.ensures.place names before represents.0) in (
-      c.in_ok-place.ensures.represents names before represents.0,
-      counts-none names before fields c.args.self.now.counts.items represents.1 none,
+    let none = subst (λ place. IsGroupPlace by (before ++ fields ∷ []) fields place) c.in_default.is (c.in_ok-place.ensures.place by before represents.0) in (
+      c.in_ok-place.ensures.represents by before represents.0,
+      counts-none by before fields c.args.self.now.counts.items represents.1 none,
     )
     )
 
 pub returns-then-place-len-clause-represents : goal.returns-then-place-len-clause-represents
-returns-then-place-len-clause-represents c = λ names before represents. (
+returns-then-place-len-clause-represents c = λ by before represents. (
     let fields = c.args.fields.now in
     let counts = c.args.self.now.counts.items in
     let p = c.in-Some.place in
-    let at = subst (λ place. IsGroupPlace names (before ++ fields ∷ []) fields place) c.in-Some.is (c.in_ok-place.ensures.place names before represents.0) in
+    let at = subst (λ place. IsGroupPlace by (before ++ fields ∷ []) fields place) c.in-Some.is (c.in_ok-place.ensures.place by before represents.0) in
     let below : p < length counts = omega (arith, c.len.ensures, c.if-place-len.true) in (
-      c.in_ok-place.ensures.represents names before represents.0,
-      counts-known names before fields counts represents.1 p at below c.next_count.result
-          (c.next_count.ensures.counted (length (members names at.0 before)) (c.index-count.ensures ∙ count-known names before fields counts represents.1 p at below c.index-count.result.now)),
+      c.in_ok-place.ensures.represents by before represents.0,
+      counts-known by before fields counts represents.1 p at below c.next_count.result
+          (c.next_count.ensures.counted (length (members by at.0 before)) (c.index-count.ensures ∙ count-known by before fields counts represents.1 p at below c.index-count.result.now)),
     )
     )
 
 pub returns-then-place-len-clause-count : goal.returns-then-place-len-clause-count
-returns-then-place-len-clause-count c = λ names before represents. (
+returns-then-place-len-clause-count c = λ by before represents. (
     let fields = c.args.fields.now in
     let counts = c.args.self.now.counts.items in
     let p = c.in-Some.place in
-    let at = subst (λ place. IsGroupPlace names (before ++ fields ∷ []) fields place) c.in-Some.is (c.in_ok-place.ensures.place names before represents.0) in
+    let at = subst (λ place. IsGroupPlace by (before ++ fields ∷ []) fields place) c.in-Some.is (c.in_ok-place.ensures.place by before represents.0) in
     let below : p < length counts = omega (arith, c.len.ensures, c.if-place-len.true) in
-    ap Some (c.index-count.ensures ∙ count-known names before fields counts represents.1 p at below c.index-count.result.now) ∙ sym (ap (option_map (count_in names before)) at.1)
+    ap Some (c.index-count.ensures ∙ count-known by before fields counts represents.1 p at below c.index-count.result.now) ∙ sym (ap (option_map (count_in by before)) at.1)
     )
 
 pub returns-in_ok-push-clause-represents : goal.returns-in_ok-push-clause-represents
-returns-in_ok-push-clause-represents c = λ names before represents. (
+returns-in_ok-push-clause-represents c = λ by before represents. (
     let fields = c.args.fields.now in
     let counts = c.args.self.now.counts.items in
     let p = c.in-Some.place in
-    let at = subst (λ place. IsGroupPlace names (before ++ fields ∷ []) fields place) c.in-Some.is (c.in_ok-place.ensures.place names before represents.0) in
+    let at = subst (λ place. IsGroupPlace by (before ++ fields ∷ []) fields place) c.in-Some.is (c.in_ok-place.ensures.place by before represents.0) in
     let following : length counts ≤ p = omega (arith, c.len.ensures, c.if-place-len.false) in (
-      c.in_ok-place.ensures.represents names before represents.0,
-      c.in_ok-push.ensures.items ∙ counts-new names before fields counts represents.1 p at following,
+      c.in_ok-place.ensures.represents by before represents.0,
+      c.in_ok-push.ensures.items ∙ counts-new by before fields counts represents.1 p at following,
     )
     )
 
 pub returns-in_ok-push-clause-count : goal.returns-in_ok-push-clause-count
-returns-in_ok-push-clause-count c = λ names before represents. (
+returns-in_ok-push-clause-count c = λ by before represents. (
     let fields = c.args.fields.now in
     let counts = c.args.self.now.counts.items in
     let p = c.in-Some.place in
-    let at = subst (λ place. IsGroupPlace names (before ++ fields ∷ []) fields place) c.in-Some.is (c.in_ok-place.ensures.place names before represents.0) in
+    let at = subst (λ place. IsGroupPlace by (before ++ fields ∷ []) fields place) c.in-Some.is (c.in_ok-place.ensures.place by before represents.0) in
     let following : length counts ≤ p = omega (arith, c.len.ensures, c.if-place-len.false) in
-    sym (tally-new names before fields counts represents.1 p at following)
+    sym (tally-new by before fields counts represents.1 p at following)
     )

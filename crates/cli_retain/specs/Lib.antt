@@ -1,0 +1,9 @@
+pub mod Count
+pub mod CountDistinct
+pub mod CountSimilar
+pub mod Frequent
+pub mod GroupBy
+pub mod Sort
+pub mod Tail
+pub mod Uniq
+pub mod Unsparsify

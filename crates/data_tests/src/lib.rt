@@ -1,0 +1,13 @@
+//! Tests of the crates of data: values, JSON texts, records, events and groups.
+#![tactic(auto)]
+
+#[cfg(test)]
+mod events;
+#[cfg(test)]
+mod groups;
+#[cfg(test)]
+mod json;
+#[cfg(test)]
+mod records;
+#[cfg(test)]
+mod values;

@@ -1,0 +1,4 @@
+pub mod AtEnd
+pub mod Counts
+pub mod Grouped
+pub mod Represents

@@ -1,0 +1,13 @@
+//! Verbs that hold records back until the end: what they give of all records (`AtEnd`, `OfAll`), and what they give of
+//! each group (`OfGroups`).
+#![tactic(auto)]
+
+mod at_end;
+mod count_value;
+mod group_states;
+mod of_groups;
+
+pub use at_end::{AtEnd, OfAll, OfGroup};
+pub use count_value::count_value;
+pub use group_states::GroupStates;
+pub use of_groups::OfGroups;

@@ -1,0 +1,5 @@
+//! Tests of patterns: the words and texts that are patterns, and what is replaced by them.
+#![tactic(auto)]
+
+#[cfg(test)]
+mod patterns;

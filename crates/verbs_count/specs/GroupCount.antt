@@ -1,0 +1,24 @@
+-- The number of records of each group, which `count` and `count-distinct` give.
+use Rattle.std.specs.Prelude.{ℕ, List, [], ◌∷◌, length, Option, Some, None}
+use Rattle.std.specs.Option.{unwrap_or}
+use Rattle.mlr_spec.specs.Pairs.{put_at}
+use Rattle.mlr_groups.specs.declared.group_by.GroupBy.TheVariants.{Texts}
+use Rattle.verbs_base.specs.Choosing.{picked}
+use Rattle.verbs_base.specs.Records.{Fields, RecordVerb, Row}
+use Rattle.group_state.specs.AtEnd.{by_groups}
+use Rattle.group_state.specs.Counts.{count_value}
+use Rattle.verbs_count.specs.declared.group_count.Counting.{Counting}
+
+-- the named fields of the first record of a group
+abbrev pub first_of : List (List ℕ) → List Row → Option Fields
+first_of names [] = None
+first_of names (row ∷ rows) = Some (picked names row.0)
+
+-- the grouping fields of a group, with the number of its records if that is given
+abbrev pub counted_group : Counting → List Row → Fields
+counted_group options group =
+    let fields = unwrap_or (first_of options.groups group) [] in
+    elim options.output [ Some name ↦ put_at name (count_value (length group)) fields | None ↦ fields ]
+
+abbrev pub group_count : Counting → RecordVerb
+group_count options = by_groups (Texts options.groups) (λ group ctx. (counted_group options group, ctx) ∷ [])

@@ -1,0 +1,6 @@
+//! The verb `sort`.
+#![tactic(auto)]
+
+mod sort;
+
+pub use sort::{Sort, SortFlag, SortRows};
