@@ -1,4 +1,5 @@
 //! Names and options copied, and events in their order.
+ghost use Rattle.std.specs.Prelude.{[]};
 
 use mlr_event::models::{Cat, Tac};
 use mlr_event::rows::{TakenNames, is_comment, next_ctx, push_comment, push_text};
@@ -208,15 +209,17 @@ fn shown(alloc: Global, events: &Events) -> Result<Bytes, NoMemory> {
     Ok(text)
 }
 
-/// The events that `Tac` gives for three records, a text and the end.
-fn reversed(alloc: Global) -> Result<Bytes, NoMemory> {
-    let mut tac = Tac::new(alloc);
+/// The events that a verb gives for three records, a text and the end.
+fn made_of_three<S: Step + Drop>(alloc: Global, verb: S) -> Result<Bytes, NoMemory>
+    requires { S.represents verb [] }
+{
+    let mut verb = verb;
     let mut out = Events::new(alloc);
-    tac.step(Event::Rec(Record::new(alloc)?, first_file(1)), &mut out)?;
-    tac.step(Event::Rec(Record::new(alloc)?, first_file(2)), &mut out)?;
-    tac.step(Event::Rec(Record::new(alloc)?, first_file(3)), &mut out)?;
-    tac.step(Event::Text(Bytes::copy_of(alloc, b"text")?), &mut out)?;
-    tac.step(Event::End(first_file(3)), &mut out)?;
+    verb.step(Event::Rec(Record::new(alloc)?, first_file(1)), &mut out)?;
+    verb.step(Event::Rec(Record::new(alloc)?, first_file(2)), &mut out)?;
+    verb.step(Event::Rec(Record::new(alloc)?, first_file(3)), &mut out)?;
+    verb.step(Event::Text(Bytes::copy_of(alloc, b"text")?), &mut out)?;
+    verb.step(Event::End(first_file(3)), &mut out)?;
     shown(alloc, &out)
 }
 
@@ -260,7 +263,8 @@ fn copies_are_equal_and_events_come_in_their_order(rt: HostRuntime) -> Result<()
     assert!(rt; is_next_numbered());
     assert!(rt; is_text_pushed(alloc)?);
     assert!(rt; are_comments_known(alloc)? && are_comments_passed(alloc)?);
-    assert_eq!(rt; reversed(alloc)?.as_slice(), b"t321e".as_slice());
+    let reversed = made_of_three(alloc, Tac::new(alloc))?;
+    assert_eq!(rt; reversed.as_slice(), b"t321e".as_slice());
     assert_eq!(rt; passed(alloc)?.as_slice(), b"1te".as_slice());
     Ok(())
 }

@@ -1,7 +1,7 @@
 //! The keys of records, their groups and the counts in their groups, by tables.
 
 use mlr_event::Names;
-use mlr_groups::{Groups, KeyTable, Tallies, append_texts};
+use mlr_groups::{GroupBy, Groups, KeyTable, Tallies, append_texts};
 use mlr_record::Record;
 use mlr_spec::{InferOpts, NoMemory};
 use mlr_value::{ArrayValue, Bytes, IntValue, MapValue, Value, from_data};
@@ -64,7 +64,7 @@ const GROUPS: [(&str, &[u8], &[u8], usize); 7] = [
 /// Whether records are in these groups of these names.
 fn are_grouped(alloc: Global, row: &(&str, &[u8], &[u8], usize)) -> Result<bool, NoMemory> {
     let (by, records, want, count) = *row;
-    let mut groups = Groups::new(alloc, names(alloc, by)?);
+    let mut groups = Groups::new(alloc, GroupBy::Texts(names(alloc, by)?));
     let mut places = Bytes::new(alloc);
     for text in records.split(|byte| *byte == b';') {
         let place = groups.enter(&row_of(alloc, text)?)?;
@@ -84,7 +84,7 @@ fn first_wrong_groups(alloc: Global) -> Result<Option<usize>, NoMemory> {
 
 /// The groups of the field `a` of 256 records, whose texts differ.
 fn many_groups(alloc: Global) -> Result<Groups, NoMemory> {
-    let mut groups = Groups::new(alloc, names(alloc, "a")?);
+    let mut groups = Groups::new(alloc, GroupBy::Texts(names(alloc, "a")?));
     for number in 0..=255u8 {
         let text = [b'a', b'=', number, b'|', number];
         groups.enter(&row_of(alloc, &text)?)?;
@@ -106,7 +106,7 @@ const TALLIES: [(&str, &[u8], &[u8]); 3] = [
 /// Whether records have these numbers of earlier ones in their groups.
 fn are_counted(alloc: Global, row: &(&str, &[u8], &[u8])) -> Result<bool, NoMemory> {
     let (by, records, want) = *row;
-    let mut tallies = Tallies::new(alloc, names(alloc, by)?);
+    let mut tallies = Tallies::new(alloc, GroupBy::Texts(names(alloc, by)?));
     let mut counts = Bytes::new(alloc);
     for text in records.split(|byte| *byte == b';') {
         counts.push(digit(tallies.count(&row_of(alloc, text)?)?))?;

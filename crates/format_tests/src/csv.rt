@@ -35,7 +35,7 @@ fn are_counted_on(alloc: Global) -> Result<bool, NoMemory> {
         return Ok(false);
     }
     let reader = CsvReader::new(alloc, &opts, FileRef::Main(3), LATER)?;
-    counts_on(alloc, reader, &(b"a\n1\n2", b"8:a=#1; 9:a=#2; "))
+    counts_on(alloc, reader, b"a\n1\n2", b"8:a=#1; 9:a=#2; ")
 }
 
 /// Files in which each byte in turn takes each place.

@@ -138,7 +138,7 @@ fn are_counted_on(alloc: Global) -> Result<bool, NoMemory> {
         return Ok(false);
     }
     let reader = LineReader::new(alloc, &opts, FileRef::Main(3), LATER)?;
-    counts_on(alloc, reader, &(b"a=1\nb=2", b"8:a=#1; 9:b=#2; "))
+    counts_on(alloc, reader, b"a=1\nb=2", b"8:a=#1; 9:b=#2; ")
 }
 
 /// Files in which each byte in turn takes each place.

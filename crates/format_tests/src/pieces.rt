@@ -189,18 +189,19 @@ pub(crate) fn events_of<F: LineFormat + Drop>(
 pub(crate) fn counts_on<F: LineFormat + Drop>(
     alloc: Global,
     reader: Reader<F>,
-    text: &Text,
+    text: &[u8],
+    want: &[u8],
 ) -> Result<bool, NoMemory>
     requires open { IsOpen reader }
     requires room { used F.count reader ≤ 2 ^ 62 }
 {
     let mut reader = reader;
     let mut out = Events::new(alloc);
-    if text.0.len() >= 1 << 40 {
+    if text.len() >= 1 << 40 {
         return Ok(false);
     }
     let first = reader.ctx();
-    reader.feed(text.0, &mut out)?;
+    reader.feed(text, &mut out)?;
     let second = reader.ctx();
     reader.end(&mut out)?;
     let third = reader.ctx();
@@ -210,7 +211,7 @@ pub(crate) fn counts_on<F: LineFormat + Drop>(
             && (second.nr, second.fnr, second.filenum) == (8, 1, 3)
             && (third.nr, third.fnr, third.filenum) == (9, 2, 3)
             && !reader.is_broken()
-            && passed.as_slice() == text.1,
+            && passed.as_slice() == want,
     )
 }
 

@@ -137,7 +137,7 @@ fn are_counted_on(alloc: Global) -> Result<bool, NoMemory> {
         return Ok(false);
     }
     let reader = BlockReader::new(alloc, &opts, FileRef::Main(3), LATER)?;
-    counts_on(alloc, reader, &(b"a 1\n\nb 2\n", b"8:a=#1; 9:b=#2; "))
+    counts_on(alloc, reader, b"a 1\n\nb 2\n", b"8:a=#1; 9:b=#2; ")
 }
 
 /// Files in which each byte in turn takes each place.

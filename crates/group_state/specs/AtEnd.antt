@@ -16,5 +16,5 @@ abbrev pub by_groups : GroupBy → (List Row → Ctx → List Row) → RecordVer
 by_groups by late = at_end (λ rows ctx. flat_map (λ group. late group ctx) (grouped by rows))
 
 -- The end was taken, and what the records come to was appended.
-pub record GivesAtEnd (gives : List Row → Ctx → List Row) (holds : List Row → Type 0) (ctx : Ctx) (out out' : List Event) : Type 0 where
-  pub gives : (rows : List Row) → holds rows → out' ≡ out ++ events_of (gives rows ctx)
+pub record GivesAtEnd (late : List Row → Ctx → List Row) (holds : List Row → Type 0) (ctx : Ctx) (out out' : List Event) : Type 0 where
+  pub gives : (rows : List Row) → holds rows → out' ≡ out ++ events_of (late rows ctx)

@@ -1,5 +1,5 @@
 -- What is kept of each group.
-use Rattle.std.specs.Prelude.{◌≡◌, List, [], ◌∷◌, ⊥, Unit}
+use Rattle.std.specs.Prelude.{◌≡◌, List, [], ◌∷◌}
 use Rattle.mlr_event.specs.declared.event.Ctx.{Ctx}
 use Rattle.mlr_groups.specs.declared.group_by.GroupBy.{GroupBy}
 use Rattle.mlr_groups.specs.Represents.{GroupsOf}

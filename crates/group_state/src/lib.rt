@@ -3,11 +3,11 @@
 #![tactic(auto)]
 
 mod at_end;
-mod count_value;
+mod counts;
 mod group_states;
 mod of_groups;
 
 pub use at_end::{AtEnd, OfAll, OfGroup};
-pub use count_value::count_value;
+pub use counts::count_value;
 pub use group_states::GroupStates;
 pub use of_groups::OfGroups;

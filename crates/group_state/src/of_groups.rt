@@ -54,7 +54,7 @@ impl<S: OfGroup + Drop> Stateful for OfGroups<S> {
 
     fn finish(&mut self, ctx: Ctx, out: &mut Events) -> Result<(), NoMemory> {
         let mut states = self.groups.take_states(self.alloc);
-        for state in &mut states {
+        for state in states.iter_mut() {
             state.finish(self.alloc, ctx, out)?;
         }
         Ok(())

@@ -7,9 +7,13 @@ use Rattle.mlr_groups.specs.Grouping.{Fields, groups_in}
 use Rattle.mlr_groups.specs.Keys.{key_of}
 use Rattle.mlr_groups.specs.Tallying.{count_in}
 
+-- what the records of a group have in common
+abbrev pub common_of : Groups → GroupBy
+common_of groups = groups.by
+
 -- the groups of the earlier records
 abbrev pub GroupsOf : GroupBy → List Fields → Groups → Type 0
-GroupsOf by before groups = (groups.by ≡ by) × (groups.table ≡ map key_of (groups_in by before))
+GroupsOf by before groups = (common_of groups ≡ by) × (groups.table ≡ map key_of (groups_in by before))
 
 -- the groups of the earlier records, and the number of records in each
 abbrev pub TalliesOf : GroupBy → List Fields → Tallies → Type 0

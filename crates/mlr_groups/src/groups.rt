@@ -1,7 +1,7 @@
 //! The groups of the records so far, and the place of a record's group.
 ghost use Rattle.std.specs.Prelude.{◌≡◌, ◌++◌, ◌∷◌, [], List, length, IfOk, OnOk};
 ghost use Rattle.mlr_groups.specs.Grouping.{Fields, IsGroupPlace, groups_in};
-ghost use Rattle.mlr_groups.specs.Represents.{GroupsOf};
+ghost use Rattle.mlr_groups.specs.Represents.{GroupsOf, common_of};
 ghost use Rattle.mlr_groups.specs.declared.group_by.GroupBy.{GroupBy as SpecGroupBy};
 
 use crate::group_by::GroupBy;
@@ -49,6 +49,7 @@ impl Groups {
         ensures represents { OnOk result ((by : SpecGroupBy) (before : List Fields)
             → GroupsOf by before self.old
             → GroupsOf by (before ++ fields.now ∷ []) self.new) }
+        ensures common { common_of self.new ≡ common_of self.old }
         ensures place { IfOk result (λ place. (by : SpecGroupBy) (before : List Fields)
             → GroupsOf by before self.old
             → IsGroupPlace by (before ++ fields.now ∷ []) fields.now place) }

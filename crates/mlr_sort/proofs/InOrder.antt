@@ -6,7 +6,7 @@ use Rattle.std.specs.Cmp.{IsStrictWeakOrder, IsTotalOrder}
 use Rattle.std.specs.Ordering.{is_lt}
 use Rattle.std.specs.declared.cmp.Ordering.{Ordering}
 use Rattle.std.proofs.lemmas.Bool.{and_parts, cond_both, not-true, true≢false}
-use Rattle.std.proofs.lemmas.List.Sorted.{ranks_by, IsPermutation-cons, IsPermutation-middle, IsPermutation-refl, IsPermutation-sym, IsPermutation-trans}
+use Rattle.std.proofs.lemmas.List.Sorted.{ranks_by, IsPermutation-cons, IsPermutation-middle, IsPermutation-refl, IsPermutation-trans}
 use Rattle.mlr_sort.specs.InOrder.{IsInOrder, in_order, insert_first}
 use Rattle.mlr_sort.proofs.Ascends.{AllAfter, Ascends, ascends-sorted, same-ascending, sorted-ascends}
 

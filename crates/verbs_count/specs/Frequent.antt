@@ -13,11 +13,15 @@ use Rattle.group_state.specs.AtEnd.{at_end}
 use Rattle.group_state.specs.Grouped.{grouped}
 use Rattle.verbs_count.specs.GroupCount.{counted_group}
 use Rattle.verbs_count.specs.declared.frequent.Frequent.{Frequent}
+use Rattle.verbs_count.specs.declared.group_counts.Counting.{Counting}
+
+-- how two counts compare: the greater comes first, or the less
+abbrev pub by_count : Bool → ℕ → ℕ → Ordering
+by_count least n other = if least then nat_cmp n other else nat_cmp other n
 
 -- how two groups compare: the one of the greater number of records comes first, or of the less
 abbrev pub by_number : Bool → List Row → List Row → Ordering
-by_number least group other =
-    if least then nat_cmp (capped (length group)) (capped (length other)) else nat_cmp (capped (length other)) (capped (length group))
+by_number least group other = by_count least (capped (length group)) (capped (length other))
 
 -- what the first groups in that order give
 abbrev pub frequent_rows : Bool → ℕ → GroupBy → (List Row → Ctx → List Row) → List Row → Ctx → List Row
@@ -25,5 +29,5 @@ frequent_rows least count by late rows ctx = flat_map (λ group. late group ctx)
 
 abbrev pub frequent : Bool → Frequent → RecordVerb
 frequent least options =
-    let counting = record { groups = options.names; output = if options.brief then None else Some options.output } in
+    let counting : Counting = record { groups = options.names; output = if options.brief then None else Some options.output } in
     at_end (frequent_rows least options.count (Texts options.names) (λ group ctx. (counted_group counting group, ctx) ∷ []))

@@ -1,8 +1,14 @@
 //! `most-frequent` and `least-frequent`: the groups of the greatest or the least number of records.
-ghost use Rattle.std.specs.Prelude.{◌≡◌, [], IfOk};
-ghost use Rattle.verbs_count.specs.Frequent.{frequent};
+ghost use Rattle.std.specs.Prelude.{◌≡◌, ◌++◌, [], List, IfOk, OnOk};
+ghost use Rattle.std.specs.List.{flat_map};
+ghost use Rattle.mlr_event.specs.declared.event.Ctx.{Ctx as SpecCtx};
+ghost use Rattle.mlr_sort.specs.InOrder.{in_order};
+ghost use Rattle.verbs_base.specs.Records.{Row, events_of};
+ghost use Rattle.group_state.specs.Represents.{EachHolds};
+ghost use Rattle.verbs_count.specs.Frequent.{by_count, frequent};
+ghost use Rattle.verbs_count.specs.GroupCount.{GroupHolds, group_gives};
 
-use crate::group_count::{Counting, GroupCount};
+use crate::group_counts::{Counting, GroupCount};
 use group_state::{AtEnd, GroupStates, OfAll};
 use mlr_event::{Ctx, Events, Names};
 use mlr_groups::GroupBy;
@@ -81,13 +87,13 @@ pub struct FrequentGroups {
 impl AtEnd for FrequentGroups {
     ghost use Rattle.group_state.specs.Represents.{HoldGroups, common_of, none_of};
     ghost use Rattle.verbs_count.specs.Frequent.{frequent_rows};
+    ghost use Rattle.verbs_count.specs.GroupCount.{GroupHolds, group_gives};
 
     ghost gives = { λ s. frequent_rows s.least s.count (common_of s.groups)
-        (⟦<GroupCount as AtEnd>⟧.gives (none_of s.groups)) };
+        (group_gives (none_of s.groups)) };
 
-    ghost holds = { λ s rows. HoldGroups ⟦<GroupCount as AtEnd>⟧.gives
-        ⟦<GroupCount as AtEnd>⟧.holds (common_of s.groups)
-        (⟦<GroupCount as AtEnd>⟧.gives (none_of s.groups)) rows s.groups };
+    ghost holds = { λ s rows. HoldGroups group_gives GroupHolds (common_of s.groups)
+        (group_gives (none_of s.groups)) rows s.groups };
 
     fn add(&mut self, alloc: Global, fields: Record, ctx: Ctx) -> Result<(), NoMemory> {
         self.groups.add(alloc, fields, ctx)
@@ -96,14 +102,28 @@ impl AtEnd for FrequentGroups {
     fn finish(&mut self, alloc: Global, ctx: Ctx, out: &mut Events) -> Result<(), NoMemory> {
         let mut states = self.groups.take_states(alloc);
         let least = self.least;
-        sort_in_order(&mut states, |state, other| compare(least, state, other))?;
-        give_first(alloc, self.count, states, ctx, out)
+        sort_groups(least, &mut states)?;
+        states.truncate(self.count as usize);
+        give_each(alloc, states, ctx, out)
     }
+}
+
+/// Sorts the groups, where those that tie keep their order.
+fn sort_groups(least: bool, states: &mut Vec<GroupCount>) -> Result<(), NoMemory>
+    ensures { OnOk result (states.new.items
+        ≡ in_order (λ state other. by_count least state.count other.count) states.old.items) }
+{
+    sort_in_order(
+        states,
+        |state: &GroupCount, other: &GroupCount| -> Ordering
+            ensures { result ≡ by_count least state.now.count other.now.count }
+        { compare(least, state, other) },
+    )
 }
 
 /// How two groups compare: the one of the greater count comes first, or of the less.
 fn compare(least: bool, state: &GroupCount, other: &GroupCount) -> Ordering
-    ensures { result ≡ by_count least state.now other.now }
+    ensures { result ≡ by_count least state.now.count other.now.count }
 {
     if least {
         state.count().cmp(&other.count())
@@ -112,19 +132,21 @@ fn compare(least: bool, state: &GroupCount, other: &GroupCount) -> Ordering
     }
 }
 
-/// Appends what the first groups give.
-fn give_first(
+/// Appends what each group gives.
+fn give_each(
     alloc: Global,
-    count: u64,
     states: Vec<GroupCount>,
     ctx: Ctx,
     out: &mut Events,
-) -> Result<(), NoMemory> {
-    let mut states = states;
-    for (place, state) in states.iter_mut().enumerate() {
-        if place as u64 >= count {
-            return Ok(());
-        }
+) -> Result<(), NoMemory>
+    requires { (late : List Row → SpecCtx → List Row) × (groups : List (List Row))
+        × EachHolds group_gives GroupHolds late states.items groups }
+    ensures { OnOk result ((late : List Row → SpecCtx → List Row) (groups : List (List Row))
+        → EachHolds group_gives GroupHolds late states.items groups
+        → out.new ≡ out.old ++ events_of (flat_map (λ group. late group ctx) groups)) }
+{
+    for state in states {
+        let mut state = state;
         state.finish(alloc, ctx, out)?;
     }
     Ok(())

@@ -78,10 +78,13 @@ impl Stateful for UniqFirstVerb {
 
     fn take(&mut self, fields: Record, ctx: Ctx, out: &mut Events) -> Result<(), NoMemory> {
         let known = self.groups.len();
-        match self.groups.enter(&fields)? {
-            Some(place) if place >= known => out.push(Event::Rec(fields, ctx)),
-            _ => Ok(()),
+        let Some(place) = self.groups.enter(&fields)? else {
+            return Ok(());
+        };
+        if place < known {
+            return Ok(());
         }
+        out.push(Event::Rec(fields, ctx))
     }
 
     fn finish(&mut self, _: Ctx, _: &mut Events) -> Result<(), NoMemory> {

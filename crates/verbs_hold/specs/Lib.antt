@@ -1,3 +1,4 @@
+pub mod Counted
 pub mod CountSimilar
 pub mod GroupBy
 pub mod GroupLike
@@ -5,3 +6,4 @@ pub mod Tac
 pub mod Tail
 pub mod Unsparsify
 pub mod UnsparsifyFields
+pub mod WithFields

@@ -1,8 +1,7 @@
 //! `count-similar`: the records group by group, each with the number of records of its group.
-ghost use Rattle.std.specs.Prelude.{◌≡◌, [], IfOk};
-ghost use Rattle.mlr_event.specs.declared.event.Event.TheVariants.{Rec};
-ghost use Rattle.verbs_base.specs.Records.{Row};
+ghost use Rattle.std.specs.Prelude.{◌≡◌, ◌++◌, [], length, map, IfOk, OnOk};
 ghost use Rattle.verbs_hold.specs.CountSimilar.{count_similar, with_count};
+ghost use Rattle.verbs_hold.specs.WithFields.{with_fields};
 
 use group_state::{AtEnd, OfGroup, OfGroups, count_value};
 use mlr_event::{Ctx, Event, Events, Names};
@@ -11,6 +10,7 @@ use mlr_record::Record;
 use mlr_spec::NoMemory;
 use mlr_value::Bytes;
 use std::alloc::Global;
+use std::mem::replace;
 use verbs_base::Stateful;
 
 /// The options of `count-similar`.
@@ -71,11 +71,8 @@ impl AtEnd for SimilarRows {
     }
 
     fn finish(&mut self, alloc: Global, _: Ctx, out: &mut Events) -> Result<(), NoMemory> {
-        let count = self.rows.len() as u64;
-        while let Some(event) = self.rows.pop_first() {
-            out.push(counted(alloc, self.output.as_slice(), count, event)?)?;
-        }
-        Ok(())
+        let rows = replace(&mut self.rows, Events::new(alloc));
+        push_counted(alloc, self.output.as_slice(), rows, out)
     }
 }
 
@@ -88,10 +85,26 @@ impl OfGroup for SimilarRows {
     }
 }
 
+/// Appends these records, each with their number.
+fn push_counted(
+    alloc: Global,
+    output: &[u8],
+    rows: Events,
+    out: &mut Events,
+) -> Result<(), NoMemory>
+    ensures { OnOk result (out.new ≡ out.old
+        ++ map (with_fields (with_count output.now (length rows))) rows) }
+{
+    let count = rows.len() as u64;
+    for event in rows.into_vec() {
+        out.push(counted(alloc, output, count, event)?)?;
+    }
+    Ok(())
+}
+
 /// The record in an event with the count; another event as it is.
 fn counted(alloc: Global, output: &[u8], count: u64, event: Event) -> Result<Event, NoMemory>
-    ensures { IfOk result (λ made. (row : Row) → event ≡ Rec row.0 row.1
-        → made ≡ Rec (with_count output.now count row.0) row.1) }
+    ensures { IfOk result (λ made. made ≡ with_fields (with_count output.now count) event) }
 {
     match event {
         Event::Rec(fields, ctx) => {

@@ -1,5 +1,5 @@
 //! `tac`: the records backwards.
-ghost use Rattle.std.specs.Prelude.{◌≡◌, []};
+ghost use Rattle.std.specs.Prelude.{◌≡◌, ◌++◌, [], reverse, OnOk};
 ghost use Rattle.verbs_hold.specs.Tac.{tac};
 
 use group_state::{AtEnd, OfAll};
@@ -45,9 +45,16 @@ impl AtEnd for TacRows {
     }
 
     fn finish(&mut self, _: Global, _: Ctx, out: &mut Events) -> Result<(), NoMemory> {
-        while let Some(event) = self.rows.pop_last() {
-            out.push(event)?;
-        }
-        Ok(())
+        push_backwards(&mut self.rows, out)
     }
+}
+
+/// Appends these events backwards.
+fn push_backwards(rows: &mut Events, out: &mut Events) -> Result<(), NoMemory>
+    ensures { OnOk result (out.new ≡ out.old ++ reverse rows.old) }
+{
+    while let Some(event) = rows.pop_last() {
+        out.push(event)?;
+    }
+    Ok(())
 }

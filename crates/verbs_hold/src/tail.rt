@@ -38,15 +38,13 @@ impl Tail {
         ensures meaning { ⟦<TailVerb as Stateful>⟧.meaning result ≡ tail self }
         ensures represents { ⟦<TailVerb as Stateful>⟧.represents result [] }
     {
-        let names = match self.groups {
+        let Tail { count, groups } = self;
+        let names = match groups {
             Some(names) => names,
             None => Names::new(alloc),
         };
-        let none = LastRows {
-            count: self.count,
-            rows: Events::new(alloc),
-        };
-        OfGroups::new(alloc, GroupBy::Texts(names), none)
+        let rows = Events::new(alloc);
+        OfGroups::new(alloc, GroupBy::Texts(names), LastRows { count, rows })
     }
 }
 

@@ -1,20 +1,23 @@
 //! `unsparsify`: each record with the fields of all.
-ghost use Rattle.std.specs.Prelude.{◌≡◌, ◌++◌, ◌∷◌, [], ℕ, List, map, IfOk, OnOk};
-ghost use Rattle.mlr_event.specs.declared.event.Event.TheVariants.{Rec};
-ghost use Rattle.mlr_spec.specs.Pairs.{are_distinct, keys_of};
+ghost use Rattle.std.specs.Prelude.{◌≡◌, ◌++◌, [], true, map, IfOk, OnOk};
+ghost use Rattle.std.specs.List.{fold};
+ghost use Rattle.std.specs.Option.{unwrap_or};
+ghost use Rattle.mlr_spec.specs.JsonGrammar.{text_value};
+ghost use Rattle.mlr_spec.specs.Pairs.{are_distinct, keys_of, remove_at, value_at};
+ghost use Rattle.mlr_groups.specs.Keys.{entered};
 ghost use Rattle.mlr_record.specs.Fields.{pairs_of};
-ghost use Rattle.verbs_base.specs.Choosing.{once};
-ghost use Rattle.verbs_base.specs.Records.{Row};
-ghost use Rattle.verbs_fields.specs.Template.{field_or};
-ghost use Rattle.verbs_hold.specs.Unsparsify.{unsparsify_rows};
+ghost use Rattle.mlr_value.specs.Value.{tree_of};
+ghost use Rattle.verbs_hold.specs.Unsparsify.{filled, unsparsify_rows};
+ghost use Rattle.verbs_hold.specs.WithFields.{with_fields};
 
 use group_state::{AtEnd, OfAll};
 use mlr_event::{Ctx, Event, Events, Names};
 use mlr_groups::KeyTable;
 use mlr_record::{Field, Record};
 use mlr_spec::NoMemory;
-use mlr_value::Bytes;
+use mlr_value::{Bytes, Value};
 use std::alloc::Global;
+use std::mem::replace;
 use verbs_base::{Stateful, string_of, take_field};
 
 /// The options of `unsparsify`.
@@ -77,15 +80,31 @@ impl AtEnd for UnsparsifyRows {
 
     fn add(&mut self, alloc: Global, fields: Record, ctx: Ctx) -> Result<(), NoMemory> {
         add_names(alloc, &fields, &mut self.seen, &mut self.names)?;
-        self.rows.push(Event::Rec(fields, ctx))
+        self.rows.push(Event::Rec(fields, ctx))?;
+        Ok(())
     }
 
     fn finish(&mut self, alloc: Global, _: Ctx, out: &mut Events) -> Result<(), NoMemory> {
-        while let Some(event) = self.rows.pop_first() {
-            out.push(filled(alloc, self.fill.as_slice(), &self.names, event)?)?;
-        }
-        Ok(())
+        let rows = replace(&mut self.rows, Events::new(alloc));
+        push_filled(alloc, self.fill.as_slice(), &self.names, rows, out)
     }
+}
+
+/// Appends these records, each with all these fields.
+fn push_filled(
+    alloc: Global,
+    fill: &[u8],
+    names: &Names,
+    rows: Events,
+    out: &mut Events,
+) -> Result<(), NoMemory>
+    requires { are_distinct names.now ≡ true }
+    ensures { OnOk result (out.new ≡ out.old ++ map (with_fields (filled fill.now names.now)) rows) }
+{
+    for event in rows.into_vec() {
+        out.push(filled(alloc, fill, names, event)?)?;
+    }
+    Ok(())
 }
 
 /// Adds the names of a record's fields to those that were seen.
@@ -95,53 +114,60 @@ fn add_names(
     seen: &mut KeyTable,
     names: &mut Names,
 ) -> Result<(), NoMemory>
-    requires { (before : List (List ℕ)) × (seen.old ≡ once before) × (names.old ≡ once before) }
-    ensures seen { OnOk result ((before : List (List ℕ)) → seen.old ≡ once before
-        → seen.new ≡ once (before ++ keys_of fields.now)) }
-    ensures names { OnOk result ((before : List (List ℕ)) → names.old ≡ once before
-        → names.new ≡ once (before ++ keys_of fields.now)) }
+    requires { seen.old ≡ names.old }
+    ensures seen { OnOk result (seen.new ≡ fold entered seen.old (keys_of fields.now)) }
+    ensures names { OnOk result (names.new ≡ seen.new) }
 {
-    if are_names(names, fields) {
-        return Ok(());
-    }
     for field in fields.fields() {
-        let name = field.name.as_slice();
-        if seen.enter(name)? >= names.len() {
-            names.push(Bytes::copy_of(alloc, name)?)?;
-        }
+        add_name(alloc, field.name.as_slice(), seen, names)?;
     }
     Ok(())
 }
 
-/// Whether these are the names of the record's fields, in their order.
-fn are_names(names: &Names, fields: &Record) -> bool
-    ensures { result ≡ true → keys_of fields.now ≡ names.now }
+/// Adds a name to those that were seen, unless it is among them.
+fn add_name(
+    alloc: Global,
+    name: &[u8],
+    seen: &mut KeyTable,
+    names: &mut Names,
+) -> Result<(), NoMemory>
+    requires { seen.old ≡ names.old }
+    ensures seen { OnOk result (seen.new ≡ entered seen.old name.now) }
+    ensures names { OnOk result (names.new ≡ seen.new) }
 {
-    let fields = fields.fields();
-    let names = names.as_slice();
-    fields.len() == names.len()
-        && fields
-            .iter()
-            .zip(names)
-            .all(|(field, name)| field.name.is(name))
+    let count = seen.len();
+    seen.enter(name)?;
+    if seen.len() > count {
+        names.push(Bytes::copy_of(alloc, name)?)?;
+    }
+    Ok(())
 }
 
 /// The record in an event with all these fields; another event as it is.
 fn filled(alloc: Global, fill: &[u8], names: &Names, event: Event) -> Result<Event, NoMemory>
     requires { are_distinct names.now ≡ true }
-    ensures { IfOk result (λ made. (row : Row) → event ≡ Rec row.0 row.1
-        → made ≡ Rec (map (field_or fill.now row.0) names.now) row.1) }
+    ensures { IfOk result (λ made. made ≡ with_fields (filled fill.now names.now) event) }
 {
     match event {
-        Event::Rec(fields, ctx) if are_names(names, &fields) => Ok(Event::Rec(fields, ctx)),
-        Event::Rec(fields, ctx) => {
-            let mut left = fields.into_fields();
-            let mut made = Record::new(alloc)?;
-            fill_each(alloc, fill, names.as_slice(), &mut left, &mut made)?;
-            Ok(Event::Rec(made, ctx))
-        }
+        Event::Rec(fields, ctx) => Ok(Event::Rec(filled_record(alloc, fill, names, fields)?, ctx)),
         other => Ok(other),
     }
+}
+
+/// A record with all these fields, of which those that it lacks have the text as their value.
+fn filled_record(
+    alloc: Global,
+    fill: &[u8],
+    names: &Names,
+    fields: Record,
+) -> Result<Record, NoMemory>
+    requires { are_distinct names.now ≡ true }
+    ensures { IfOk result (λ made. made ≡ filled fill.now names.now fields) }
+{
+    let mut left = fields.into_fields();
+    let mut made = Record::new(alloc)?;
+    fill_each(alloc, fill, names.as_slice(), &mut left, &mut made)?;
+    Ok(made)
 }
 
 /// Appends a field for each name to a record without fields.
@@ -153,16 +179,29 @@ fn fill_each(
     made: &mut Record,
 ) -> Result<(), NoMemory>
     requires empty { made.old ≡ [] }
-    requires distinct { are_distinct (map (λ name. name.now) names.now) ≡ true }
-    ensures { OnOk result (made.new
-        ≡ map (field_or fill.now (pairs_of left.old.items)) (map (λ name. name.now) names.now)) }
+    requires distinct { are_distinct names.now ≡ true }
+    ensures { OnOk result (made.new ≡ filled fill.now names.now (pairs_of left.old.items)) }
 {
     for name in names {
-        let value = match take_field(left, name) {
-            Some(field) => field.value,
-            None => string_of(Bytes::copy_of(alloc, fill)?),
-        };
+        let value = value_or(alloc, fill, left, name)?;
         made.push(name.as_slice(), value)?;
     }
     Ok(())
+}
+
+/// The value of the field with this name, which is taken out; or the text as a string, if there is none.
+fn value_or(
+    alloc: Global,
+    fill: &[u8],
+    left: &mut Vec<Field>,
+    name: &Bytes,
+) -> Result<Value, NoMemory>
+    ensures value { IfOk result (λ made. tree_of made
+        ≡ unwrap_or (value_at name.now (pairs_of left.old.items)) (text_value fill.now)) }
+    ensures left { pairs_of left.new.items ≡ remove_at name.now (pairs_of left.old.items) }
+{
+    match take_field(left, name) {
+        Some(field) => Ok(field.value),
+        None => Ok(string_of(Bytes::copy_of(alloc, fill)?)),
+    }
 }

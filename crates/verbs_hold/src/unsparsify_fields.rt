@@ -1,6 +1,6 @@
 //! `unsparsify -f`: missing fields are filled in at once.
 ghost use Rattle.std.specs.Prelude.{◌≡◌, OnOk};
-ghost use Rattle.verbs_hold.specs.UnsparsifyFields.{fill_missing};
+ghost use Rattle.verbs_hold.specs.UnsparsifyFields.{fill_missing, unsparsify_fields};
 
 use mlr_event::Names;
 use mlr_record::Record;
@@ -27,11 +27,19 @@ impl PerRecord for UnsparsifyFields {
 
     fn made(&mut self, alloc: Global, fields: Record) -> Result<Option<Record>, NoMemory> {
         let mut made = fields;
-        for name in self.names.as_slice() {
-            fill_missing(alloc, self.fill.as_slice(), name.as_slice(), &mut made)?;
-        }
+        fill_each(alloc, self.fill.as_slice(), &self.names, &mut made)?;
         Ok(Some(made))
     }
+}
+
+/// Appends the fields of these names that the record lacks.
+fn fill_each(alloc: Global, fill: &[u8], names: &Names, fields: &mut Record) -> Result<(), NoMemory>
+    ensures { OnOk result (fields.new ≡ unsparsify_fields fill.now names.now fields.old) }
+{
+    for name in names.as_slice() {
+        fill_missing(alloc, fill, name.as_slice(), fields)?;
+    }
+    Ok(())
 }
 
 /// Appends a field of this name, if the record has none.

@@ -1,5 +1,5 @@
 -- What each verb means, and which options are short.
-use Rattle.std.specs.Prelude.{◌≡◌, true, false, None}
+use Rattle.std.specs.Prelude.{true, false}
 use Rattle.verbs_base.specs.Records.{RecordVerb}
 use Rattle.verbs_count.specs.Count.{count}
 use Rattle.verbs_count.specs.CountDistinct.{count_distinct}
@@ -30,9 +30,8 @@ meaning_of (verb.Tail options) = tail options
 meaning_of (verb.Uniq options) = uniq options
 meaning_of (verb.Unsparsify options) = unsparsify options
 
--- options without a list and without a text
+-- verbs without options
 abbrev pub IsShort : Spec → Type 0
 IsShort verb.GroupLike = Unit {0}
 IsShort verb.Tac = Unit {0}
-IsShort (verb.Tail tail) = tail.groups ≡ None
 IsShort _ = ⊥

@@ -9,7 +9,6 @@ use Rattle.mlr_spec.specs.Order.{order_of}
 use Rattle.mlr_spec.specs.Pairs.{value_at}
 use Rattle.mlr_spec.specs.Tree.{absent}
 use Rattle.mlr_spec.specs.declared.arith.Order.{Order}
-use Rattle.mlr_event.specs.declared.event.Ctx.{Ctx}
 use Rattle.mlr_sort.specs.InOrder.{in_order}
 use Rattle.verbs_base.specs.Records.{Fields, RecordVerb, Row}
 use Rattle.group_state.specs.AtEnd.{at_end}

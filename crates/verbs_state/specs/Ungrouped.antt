@@ -6,6 +6,7 @@ use Rattle.std.proofs.lemmas.List.{length-append}
 use Rattle.mlr_spec.specs.Tree.{int}
 use Rattle.mlr_spec.specs.Pairs.{remove_at}
 use Rattle.mlr_groups.specs.Grouping.{members}
+use Rattle.mlr_groups.specs.declared.group_by.GroupBy.TheVariants.{Texts}
 use Rattle.mlr_groups.specs.Tallying.{capped}
 use Rattle.verbs_base.specs.Laws.{shuts-early}
 use Rattle.verbs_base.specs.Records.{Fields, StaysShut}
@@ -15,7 +16,7 @@ use Rattle.verbs_state.specs.Cat.{cat_gives, is_plain, numbered}
 use Rattle.verbs_state.specs.Counted.{earlier}
 use Rattle.verbs_state.specs.Head.{head, head_closed, head_gives}
 
-pub one-group : (records : List Fields) → members [] [] records ≡ records
+pub one-group : (records : List Fields) → members (Texts []) [] records ≡ records
 one-group [] = refl
 one-group (fields ∷ records) = ap (λ more. fields ∷ more) (one-group records)
 
@@ -27,7 +28,7 @@ no-names (Some names) is = absurd (let e : false ≡ true = is in cc)
 pub plain-gives : (options : Cat) → is_plain options ≡ true → (before : List Fields) (fields : Fields) → cat_gives options before fields ≡ fields ∷ []
 plain-gives options is before fields =
     let parts = and_parts (not options.number) (is_none options.groups) is in
-    let n = capped (length (members [] [] before)) in
+    let n = capped (length (members (Texts []) [] before)) in
     ap (λ groups. elim (earlier groups before fields) [ Some earlier ↦ numbered options earlier fields ∷ [] | None ↦ [] ]) (no-names options.groups parts.1)
     ∙ ap (λ b. (if b then (options.name, int (pos (capped (n + 1))) []) ∷ remove_at options.name fields else fields) ∷ []) (not-true options.number parts.0)
 

@@ -1,7 +1,5 @@
 //! The number of records of each group, which `count` and `count-distinct` give.
-ghost use Rattle.std.specs.Prelude.{◌≡◌, ◌∷◌, [], List, length, IfOk};
-ghost use Rattle.mlr_groups.specs.Tallying.{capped};
-ghost use Rattle.verbs_base.specs.Records.{Row};
+ghost use Rattle.std.specs.Prelude.{◌≡◌, ◌∷◌, [], IfOk};
 ghost use Rattle.verbs_count.specs.GroupCount.{counted_group, group_count};
 
 use group_state::{AtEnd, OfGroup, OfGroups, count_value};
@@ -74,23 +72,18 @@ impl GroupCount {
 
     /// How many records there are.
     pub(crate) fn count(&self) -> u64
-        ensures { (rows : List Row) → ⟦<GroupCount as AtEnd>⟧.holds self.now rows
-            → result ≡ capped (length rows) }
+        ensures { result ≡ self.now.count }
     {
         self.count
     }
 }
 
 impl AtEnd for GroupCount {
-    ghost use Rattle.std.specs.Prelude.{◌≡◌, ◌∷◌, [], length};
-    ghost use Rattle.std.specs.Arc.{arc_value};
-    ghost use Rattle.mlr_groups.specs.Tallying.{capped};
-    ghost use Rattle.verbs_count.specs.GroupCount.{counted_group, first_of};
+    ghost use Rattle.verbs_count.specs.GroupCount.{GroupHolds, group_gives};
 
-    ghost gives = { λ s rows ctx. (counted_group (arc_value s.options) rows, ctx) ∷ [] };
+    ghost gives = { group_gives };
 
-    ghost holds = { λ s rows. (s.count ≡ capped (length rows))
-        × (s.first ≡ first_of (arc_value s.options).groups rows) };
+    ghost holds = { GroupHolds };
 
     fn add(&mut self, _: Global, fields: Record, _: Ctx) -> Result<(), NoMemory> {
         if self.first.is_none() {

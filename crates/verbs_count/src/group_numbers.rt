@@ -2,7 +2,7 @@
 ghost use Rattle.std.specs.Prelude.{◌≡◌, []};
 ghost use Rattle.verbs_count.specs.GroupNumber.{group_number};
 
-use crate::record_count::record_of_count;
+use crate::record_counts::record_of_count;
 use group_state::{AtEnd, OfAll};
 use mlr_event::{Ctx, Event, Events};
 use mlr_groups::{GroupBy, Groups};

@@ -1,0 +1,4 @@
+mod Rows
+mod Holding
+mod Adding
+pub mod Crosses

@@ -1,0 +1,4 @@
+pub mod Crosses
+pub mod Entering
+mod GroupOnce
+pub mod Sorting
