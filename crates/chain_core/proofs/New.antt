@@ -5,6 +5,10 @@ use Rattle.std.proofs.lemmas.List.{append-nil, drop_all}
 use Rattle.mlr_event.specs.declared.event.Event.{Event}
 use Rattle.mlr_event.specs.Verb as meaning
 use Rattle.chain_core.specs.declared.verb.Verb.{Verb}
+use Rattle.verbs_base.specs.Records.{verb_of}
+use Rattle.verbs_retain.specs.Meaning as retain
+use Rattle.verbs_seq.specs.declared.seq_spec.SeqSpec.{SeqSpec}
+use Rattle.verbs_stream.specs.Meaning as stream
 use Rattle.verb_specs.specs.declared.verb_spec.VerbSpec.{VerbSpec}
 use Rattle.verb_specs.specs.declared.verb_spec.VerbSpec.TheVariants.{Stream, Retain, Seq}
 use Rattle.verb_specs.specs.Verbs.{AreSound, AreVerbs, IsVerbOrSource, no_lefts, verb_with, verbs_of, verbs_with}
@@ -25,6 +29,12 @@ sound-too [] are = tt
 sound-too (Stream spec ∷ specs) are = (are.0, verbs-too specs are.1)
 sound-too (Retain spec ∷ specs) are = (tt, verbs-too specs are)
 sound-too (Seq seq ∷ specs) are = (tt, verbs-too specs are.1)
+
+-- a verb that is no source is one verb
+pub one-verb : (spec : VerbSpec) (left : List Event) → ((seq : SeqSpec) → spec ≡ Seq seq → ⊥) → (verb : meaning.Verb) × (verb_with spec left ≡ verb ∷ [])
+one-verb (Stream spec) left isnt = (verb_of (stream.meaning_of spec), refl)
+one-verb (Retain spec) left isnt = (verb_of (retain.meaning_of spec), refl)
+one-verb (Seq seq) left isnt = absurd (isnt seq refl)
 
 -- one more verb is new
 pub new-following : (verbs : List meaning.Verb) (made : List Verb) (verb : meaning.Verb) (one : Verb) → AreNew verbs made → IsNew verb one → AreNew (verbs ++ verb ∷ []) (made ++ one ∷ [])

@@ -1,6 +1,6 @@
 -- The grammar of a command line: main flags, then verbs with their options and words, each but the last before `then`,
 -- then file names.
-use Rattle.std.specs.Prelude.{◌≡◌, ℕ, ◌+◌, ◌==◌, ◌≤◌, ◌<◌, Bool, true, false, not, ◌&&◌, ◌||◌, if◌then◌else◌, is_none, List, [], ◌∷◌, ◌++◌, length, take, codes, Option, Some, None}
+use Rattle.std.specs.Prelude.{◌≡◌, ℕ, ◌+◌, ◌==◌, ◌≤◌, ◌<◌, Bool, true, false, not, ◌&&◌, ◌||◌, is_none, List, [], ◌∷◌, ◌++◌, length, take, codes, Option, Some, None}
 use Rattle.std.specs.List.{flat_map, list_all}
 use Rattle.std.specs.Str.{bytes_eq}
 use Rattle.cli_grammar.specs.declared.given.Given.{Given}
@@ -9,7 +9,7 @@ use Rattle.cli_grammar.specs.declared.kind.Kind.{Kind}
 use Rattle.cli_grammar.specs.declared.kind.Kind.TheVariants.{Nothing}
 use Rattle.cli_grammar.specs.Flags.{flag_named}
 use Rattle.cli_grammar.specs.Kinds.{fault_of}
-use Rattle.cli_grammar.specs.Reading.{has_required, is_dashed, kind_in, lacks_words, line_in}
+use Rattle.cli_grammar.specs.Reading.{has_required, is_dashed, kind_in}
 use Rattle.cli_grammar.specs.Verbs.{row_of_verb}
 
 -- whether an option of this kind takes no argument

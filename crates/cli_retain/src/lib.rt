@@ -1,22 +1,12 @@
 //! The options of the retaining verbs, made of their words.
 #![tactic(auto)]
 
-mod count;
-mod count_distinct;
-mod count_similar;
-mod frequent;
-mod group_by;
-mod sort;
-mod tail;
-mod uniq;
-mod unsparsify;
-
-pub use count::count;
-pub use count_distinct::count_distinct;
-pub use count_similar::count_similar;
-pub use frequent::frequent;
-pub use group_by::group_by;
-pub use sort::sort;
-pub use tail::tail;
-pub use uniq::uniq;
-pub use unsparsify::unsparsify;
+pub mod count;
+pub mod count_distinct;
+pub mod count_similar;
+pub mod frequent;
+pub mod group_by;
+pub mod sort;
+pub mod tail;
+pub mod uniq;
+pub mod unsparsify;

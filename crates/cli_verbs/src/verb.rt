@@ -32,9 +32,15 @@ use crate::template::template;
 use crate::unflatten::unflatten;
 use crate::unspace::unspace;
 use cli_grammar::{VerbName, VerbWords};
-use cli_retain::{
-    count, count_distinct, count_similar, frequent, group_by, sort, tail, uniq, unsparsify,
-};
+use cli_retain::count::count;
+use cli_retain::count_distinct::count_distinct;
+use cli_retain::count_similar::count_similar;
+use cli_retain::frequent::frequent;
+use cli_retain::group_by::group_by;
+use cli_retain::sort::sort;
+use cli_retain::tail::tail;
+use cli_retain::uniq::uniq;
+use cli_retain::unsparsify::unsparsify;
 use std::alloc::Global;
 use verb_specs::VerbSpec;
 use verbs_retain::Spec as RetainSpec;

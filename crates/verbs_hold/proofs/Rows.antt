@@ -1,7 +1,6 @@
 -- Rows as events, changed and backwards.
 use Rattle.std.proofs.Common.{◌≡◌, List, [], ◌∷◌, ◌++◌, map, reverse, refl, ap, ◌∙◌, sym}
 use Rattle.std.proofs.lemmas.List.{map-append, reverse-append}
-use Rattle.mlr_event.specs.declared.event.Event.{Event}
 use Rattle.mlr_event.specs.declared.event.Event.TheVariants as event
 use Rattle.verbs_base.specs.Records.{Fields, Row, events_of}
 use Rattle.verbs_hold.specs.WithFields.{with_fields}

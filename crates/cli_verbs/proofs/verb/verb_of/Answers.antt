@@ -1,4 +1,4 @@
-use Rattle.std.proofs.Common.{rules, ap, refl, sym, subst}
+use Rattle.std.proofs.Common.{rules, ap, sym, subst}
 use Rattle.verb_specs.specs.declared.verb_spec.VerbSpec.TheVariants.{Stream}
 use Rattle.cli_verbs.specs.Verbs.{IsVerbNamed}
 use Rattle.cli_verbs.proofs.verb.verb_of.Goals as goal

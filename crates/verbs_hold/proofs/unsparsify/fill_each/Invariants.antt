@@ -1,8 +1,4 @@
-use Rattle.std.proofs.Common.{◌≡◌, ℕ, false, List, take}
-use Rattle.mlr_event.specs.Reading.{is_among}
 use Rattle.mlr_record.specs.Fields.{pairs_of}
-use Rattle.mlr_spec.specs.Pairs.{value_at}
-use Rattle.verbs_hold.specs.Unsparsify.{filled}
 use Rattle.verbs_hold.proofs.Names.{FilledSoFar}
 use Rattle.verbs_hold.proofs.unsparsify.fill_each.Given as goal
 

@@ -1,4 +1,4 @@
-use Rattle.std.proofs.Common.{◌≡◌, ◌++◌, reverse, ap, ◌∙◌}
+use Rattle.std.proofs.Common.{◌++◌, reverse, ap, ◌∙◌}
 use Rattle.std.proofs.lemmas.Result.{on_ok_weaker}
 use Rattle.verbs_hold.proofs.Rows.{backwards-rows}
 use Rattle.verbs_hold.proofs.tac.TacRowsAtEnd.finish.Goals as goal

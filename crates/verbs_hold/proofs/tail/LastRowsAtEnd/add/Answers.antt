@@ -1,10 +1,7 @@
-use Rattle.std.proofs.Common.{◌≡◌, ◌++◌, ◌∷◌, [], ◌+◌, ◌<◌, List, length, drop, None, Some, ap, sym, refl, subst, ◌∙◌, arith}
-use Rattle.std.specs.Option.{option_to_list}
+use Rattle.std.proofs.Common.{◌≡◌, ◌++◌, ◌∷◌, [], ◌+◌, length, ap, sym, ◌∙◌, arith}
 use Rattle.std.proofs.lemmas.List.{length-append, length-map, map-append}
-use Rattle.mlr_event.specs.declared.event.Event.{Event}
 use Rattle.mlr_event.specs.declared.event.Event.TheVariants as event
 use Rattle.verbs_base.specs.Records.{Row, events_of}
-use Rattle.verbs_base.specs.Taking.{Follows}
 use Rattle.verbs_hold.specs.Tail.{last_rows}
 use Rattle.verbs_hold.proofs.Lasts.{last-more, rest-of}
 use Rattle.verbs_hold.proofs.tail.LastRowsAtEnd.add.Goals as goal

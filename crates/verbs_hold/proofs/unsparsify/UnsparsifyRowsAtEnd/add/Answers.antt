@@ -1,11 +1,10 @@
-use Rattle.std.proofs.Common.{◌≡◌, ◌++◌, ◌∷◌, [], ap, ◌∙◌, sym}
+use Rattle.std.proofs.Common.{◌++◌, ◌∷◌, [], ap, ◌∙◌, sym}
 use Rattle.std.specs.List.{fold}
 use Rattle.std.proofs.lemmas.List.{map-append}
 use Rattle.mlr_event.specs.declared.event.Event.TheVariants as event
 use Rattle.mlr_groups.specs.Keys.{entered}
 use Rattle.mlr_spec.specs.Pairs.{keys_of}
 use Rattle.verbs_base.specs.Records.{Row}
-use Rattle.verbs_base.specs.Taking.{Follows}
 use Rattle.verbs_hold.proofs.Names.{names-more}
 use Rattle.verbs_hold.proofs.unsparsify.UnsparsifyRowsAtEnd.add.Goals as goal
 

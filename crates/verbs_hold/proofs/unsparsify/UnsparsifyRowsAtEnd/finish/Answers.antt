@@ -1,7 +1,6 @@
-use Rattle.std.proofs.Common.{◌≡◌, ◌++◌, map, ap, sym, ◌∙◌}
+use Rattle.std.proofs.Common.{◌++◌, map, ap, ◌∙◌}
 use Rattle.std.specs.List.{flat_map}
 use Rattle.std.proofs.lemmas.Result.{on_ok_weaker}
-use Rattle.mlr_event.specs.declared.event.Event.TheVariants as event
 use Rattle.mlr_spec.specs.Pairs.{are_distinct, keys_of}
 use Rattle.verbs_base.specs.Records.{events_of}
 use Rattle.verbs_base.proofs.Picking.{are_distinct-once}
