@@ -308,7 +308,7 @@ module _ (flatsep : List ℕ) (sep : 1 ≤ length flatsep) where
     where
       stream-first : (spec : VerbSpec) (specs : List VerbSpec) → IsVerb spec → AreVerbs specs → AreSound (spec ∷ specs)
       stream-first (Stream spec) specs is rest = (is, rest)
-      stream-first (Retain spec) specs is rest = (tt, rest)
+      stream-first (Retain spec) specs is rest = rest
       stream-first (Seq seq) specs is rest = absurd is
 
   pub verbs-sound : (verbs : List VerbWords) (specs : List VerbSpec) → list_all is_verb verbs ≡ true → AreGoodAfter 0 verbs → clash_among true verbs ≡ None → AreVerbsOf flatsep verbs specs → AreSound specs

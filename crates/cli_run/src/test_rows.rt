@@ -125,10 +125,10 @@ pub(crate) const OTHERS: [Row; 14] = [
     ("--ojson", "a=1\n", "", "mlr: word 2: no verb\n", 1),
     ("--icsv --itsv", "a\n", "", "mlr: word 3: no verb\n", 1),
     (
-        "--icsv sort cat",
+        "--icsv tee cat",
         "a\n",
         "",
-        "mlr: word 2: not built: sort\n",
+        "mlr: word 2: not built: tee\n",
         1,
     ),
     (
@@ -291,13 +291,7 @@ pub(crate) const REFUSED: [Row; 15] = [
         "mlr: word 2: bad number: --stop\n",
         1,
     ),
-    (
-        "head then sort",
-        "",
-        "",
-        "mlr: word 3: not built: sort\n",
-        1,
-    ),
+    ("head then tee", "", "", "mlr: word 3: not built: tee\n", 1),
     ("--version", "", "mlr 6 whole-number profile\n", "", 0),
     (
         "-h cta",

@@ -240,7 +240,7 @@ const CASES: [Case; 11] = [
     },
     Case {
         name: "a message that is not written changes nothing in how the run ends",
-        words: "sort",
+        words: "tee",
         input: b"",
         pieces: &[],
         unread: &[],
@@ -250,7 +250,7 @@ const CASES: [Case; 11] = [
         ended: "word 1 is not built",
         status: 1,
         out: Text::Whole(b""),
-        message: Text::PrefixOf(b"mlr: word 1: not built: sort\n"),
+        message: Text::PrefixOf(b"mlr: word 1: not built: tee\n"),
     },
     Case {
         name: "what standard output holds stays",

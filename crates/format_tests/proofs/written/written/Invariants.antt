@@ -1,4 +1,3 @@
-use Rattle.std.proofs.Common.{◌≡◌}
 use Rattle.writers.specs.Represents.{IsOpen}
 use Rattle.format_tests.proofs.written.written.Given as goal
 
