@@ -8,6 +8,7 @@ use mlr_record::Record;
 use mlr_spec::{InferOpts, NoMemory};
 use mlr_value::{Bytes, Value};
 use std::alloc::Global;
+use std::process::Abort;
 
 /// Whether the names with a semicolon after each are this text.
 fn are(alloc: Global, names: &[Bytes], text: &str) -> Result<bool, NoMemory> {
@@ -251,9 +252,8 @@ fn is_next_numbered() -> bool {
     next_ctx(second) == next
 }
 
-#[test]
-fn copies_are_equal_and_events_come_in_their_order(rt: HostRuntime) -> Result<(), NoMemory> {
-    let alloc = rt.alloc();
+/// Checks options, contexts and lists of events.
+pub fn check_events(rt: &impl Abort, alloc: Global) -> Result<(), NoMemory> {
     assert_eq!(rt; first_misnamed(alloc)?, None);
     assert_eq!(rt; first_wrong_files(alloc)?, None);
     assert!(rt; are_streams(alloc)?);

@@ -6,6 +6,7 @@ use mlr_record::Record;
 use mlr_spec::{InferOpts, NoMemory};
 use mlr_value::{ArrayValue, Bytes, IntValue, MapValue, Value, from_data};
 use std::alloc::Global;
+use std::process::Abort;
 
 /// The record of a text such as `a=1,b=2`, with its values as data.
 fn row_of(alloc: Global, text: &[u8]) -> Result<Record, NoMemory> {
@@ -213,9 +214,8 @@ fn first_wrong_entry(alloc: Global) -> Result<Result<usize, usize>, NoMemory> {
     Ok(Ok(table.len()))
 }
 
-#[test]
-fn records_are_grouped_and_counted_by_their_texts(rt: HostRuntime) -> Result<(), NoMemory> {
-    let alloc = rt.alloc();
+/// Checks groups and counts by their tables.
+pub fn check_groups(rt: &impl Abort, alloc: Global) -> Result<(), NoMemory> {
     assert_eq!(rt; first_wrong_groups(alloc)?, None);
     let mut groups = many_groups(alloc)?;
     assert_eq!(rt; groups.enter(&row_of(alloc, b"a=m|m")?)?, Some(109));

@@ -10,4 +10,6 @@ mod json;
 #[cfg(test)]
 mod records;
 #[cfg(test)]
+mod rows;
+#[cfg(test)]
 mod values;

@@ -6,6 +6,7 @@ use mlr_record::split::{count_parts, next_part, separator_place};
 use mlr_spec::NoMemory;
 use mlr_value::{ArrayValue, Bytes, MapValue, Value, append_text};
 use std::alloc::Global;
+use std::process::Abort;
 
 /// A call on a record, with what it returns where that is a place or a boolean.
 enum Call {
@@ -480,9 +481,8 @@ fn first_wrong_parts() -> Option<usize> {
     PARTS.iter().position(|row| !is_parted(row))
 }
 
-#[test]
-fn records_have_these_fields_and_texts_these_parts(rt: HostRuntime) -> Result<(), NoMemory> {
-    let alloc = rt.alloc();
+/// Checks records and the parts of texts by their tables.
+pub fn check_records(rt: &impl Abort, alloc: Global) -> Result<(), NoMemory> {
     assert_eq!(rt; first_wrong_call(alloc)?, None);
     assert_eq!(rt;
         shown(alloc, &of_map(alloc)?)?.as_slice(),

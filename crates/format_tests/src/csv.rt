@@ -133,11 +133,10 @@ fn check_bytes(rt: &impl Abort, alloc: Global) -> Result<(), NoMemory> {
     Ok(())
 }
 
-#[test]
-fn files_give_these_events_wherever_they_are_cut(rt: HostRuntime) -> Result<(), NoMemory> {
-    let alloc = rt.alloc();
-    check_groups(&rt, alloc)?;
-    check_bytes(&rt, alloc)?;
+/// Checks the reader of CSV and TSV by its tables.
+pub fn check_csv(rt: &impl Abort, alloc: Global) -> Result<(), NoMemory> {
+    check_groups(rt, alloc)?;
+    check_bytes(rt, alloc)?;
     assert!(rt; are_counted_on(alloc)?);
     assert_eq!(rt; first_wrong_long(alloc)?, None);
     Ok(())

@@ -177,11 +177,10 @@ fn check_bytes(rt: &impl Abort, alloc: Global) -> Result<(), NoMemory> {
     Ok(())
 }
 
-#[test]
-fn files_give_these_events_wherever_they_are_cut(rt: HostRuntime) -> Result<(), NoMemory> {
-    let alloc = rt.alloc();
-    check_groups(&rt, alloc)?;
-    check_bytes(&rt, alloc)?;
+/// Checks the readers of DKVP, NIDX and Markdown by their tables.
+pub fn check_dkvp_nidx(rt: &impl Abort, alloc: Global) -> Result<(), NoMemory> {
+    check_groups(rt, alloc)?;
+    check_bytes(rt, alloc)?;
     assert!(rt; are_counted_on(alloc)?);
     Ok(())
 }

@@ -415,12 +415,11 @@ fn check_groups(rt: &impl Abort, alloc: Global) -> Result<(), NoMemory> {
     Ok(())
 }
 
-#[test]
-fn texts_give_these_events_in_pieces_of_each_size(rt: HostRuntime) -> Result<(), NoMemory> {
-    let alloc = rt.alloc();
-    check_groups(&rt, alloc)?;
-    check_levels(&rt, alloc)?;
-    check_sizes(&rt, alloc)?;
+/// Checks the reader of JSON and JSON Lines by its tables.
+pub fn check_json_lines(rt: &impl Abort, alloc: Global) -> Result<(), NoMemory> {
+    check_groups(rt, alloc)?;
+    check_levels(rt, alloc)?;
+    check_sizes(rt, alloc)?;
     assert_eq!(rt; first_wrong_format(alloc)?, None);
     assert!(rt; are_counted_on(alloc)?);
     Ok(())

@@ -16,6 +16,8 @@ mod json_lines;
 #[cfg(test)]
 mod pieces;
 #[cfg(test)]
+mod readers;
+#[cfg(test)]
 mod written;
 #[cfg(test)]
 mod xtab_pprint;
