@@ -5,4 +5,4 @@ mod groups;
 mod unsparsify;
 
 pub use groups::group_laws;
-pub use unsparsify::unsparsify_law;
+pub use unsparsify::{unsparsify_fields_law, unsparsify_law};
