@@ -1,4 +1,6 @@
+mod ByPlace
 pub mod Crosses
+mod Known
 pub mod Lasts
 pub mod WholeLists
 pub mod Names

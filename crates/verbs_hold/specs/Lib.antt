@@ -1,3 +1,4 @@
+pub mod ByPlace
 pub mod Counted
 pub mod CountSimilar
 pub mod GroupBy

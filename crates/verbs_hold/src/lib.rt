@@ -2,6 +2,7 @@
 //! `unsparsify`.
 #![tactic(auto)]
 
+mod by_place;
 mod count_similar;
 mod group_by;
 mod group_like;

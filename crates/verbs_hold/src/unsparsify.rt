@@ -1,24 +1,22 @@
 //! `unsparsify`: each record with the fields of all.
 ghost use Rattle.std.specs.Prelude.{◌≡◌, ◌++◌, [], true, map, IfOk, OnOk};
-ghost use Rattle.std.specs.List.{fold};
-ghost use Rattle.std.specs.Option.{unwrap_or};
-ghost use Rattle.mlr_spec.specs.JsonGrammar.{text_value};
-ghost use Rattle.mlr_spec.specs.Pairs.{are_distinct, keys_of, remove_at, value_at};
+ghost use Rattle.std.specs.List.{fold, list_all};
+ghost use Rattle.mlr_spec.specs.Pairs.{are_distinct, keys_of};
 ghost use Rattle.mlr_groups.specs.Keys.{entered};
-ghost use Rattle.mlr_record.specs.Fields.{pairs_of};
-ghost use Rattle.mlr_value.specs.Value.{tree_of};
+ghost use Rattle.verbs_hold.specs.ByPlace.{has_all_in, no_values, trees_of};
 ghost use Rattle.verbs_hold.specs.Unsparsify.{filled, unsparsify_rows};
 ghost use Rattle.verbs_hold.specs.WithFields.{with_fields};
 
+use crate::by_place::{filled_record, no_values};
 use group_state::{AtEnd, OfAll};
 use mlr_event::{Ctx, Event, Events, Names};
 use mlr_groups::KeyTable;
-use mlr_record::{Field, Record};
+use mlr_record::Record;
 use mlr_spec::NoMemory;
 use mlr_value::{Bytes, Value};
 use std::alloc::Global;
 use std::mem::replace;
-use verbs_base::{Stateful, string_of, take_field};
+use verbs_base::Stateful;
 
 /// The options of `unsparsify`.
 #[derive(Drop)]
@@ -86,23 +84,34 @@ impl AtEnd for UnsparsifyRows {
 
     fn finish(&mut self, alloc: Global, _: Ctx, out: &mut Events) -> Result<(), NoMemory> {
         let rows = replace(&mut self.rows, Events::new(alloc));
-        push_filled(alloc, self.fill.as_slice(), &self.names, rows, out)
+        push_filled(
+            alloc,
+            self.fill.as_slice(),
+            &mut self.seen,
+            self.names.as_slice(),
+            rows,
+            out,
+        )
     }
 }
 
-/// Appends these records, each with all these fields.
+/// Appends these records, each with all these fields. The table holds the names, among which are those of the records.
 fn push_filled(
     alloc: Global,
     fill: &[u8],
-    names: &Names,
+    table: &mut KeyTable,
+    names: &[Bytes],
     rows: Events,
     out: &mut Events,
 ) -> Result<(), NoMemory>
-    requires { are_distinct names.now ≡ true }
+    requires table { table.old ≡ names.now }
+    requires distinct { are_distinct names.now ≡ true }
+    requires known { list_all (has_all_in names.now) rows ≡ true }
     ensures { OnOk result (out.new ≡ out.old ++ map (with_fields (filled fill.now names.now)) rows) }
 {
+    let mut values = no_values(alloc, names)?;
     for event in rows.into_vec() {
-        out.push(filled(alloc, fill, names, event)?)?;
+        out.push(filled(alloc, fill, table, names, &mut values, event)?)?;
     }
     Ok(())
 }
@@ -144,64 +153,27 @@ fn add_name(
 }
 
 /// The record in an event with all these fields; another event as it is.
-fn filled(alloc: Global, fill: &[u8], names: &Names, event: Event) -> Result<Event, NoMemory>
-    requires { are_distinct names.now ≡ true }
-    ensures { IfOk result (λ made. made ≡ with_fields (filled fill.now names.now) event) }
+fn filled(
+    alloc: Global,
+    fill: &[u8],
+    table: &mut KeyTable,
+    names: &[Bytes],
+    values: &mut [Option<Value>],
+    event: Event,
+) -> Result<Event, NoMemory>
+    requires table { table.old ≡ names.now }
+    requires distinct { are_distinct names.now ≡ true }
+    requires free { trees_of values.old ≡ no_values names.now }
+    requires known { has_all_in names.now event ≡ true }
+    ensures table { table.new ≡ table.old }
+    ensures free { OnOk result (trees_of values.new ≡ no_values names.now) }
+    ensures made { IfOk result (λ made. made ≡ with_fields (filled fill.now names.now) event) }
 {
     match event {
-        Event::Rec(fields, ctx) => Ok(Event::Rec(filled_record(alloc, fill, names, fields)?, ctx)),
+        Event::Rec(fields, ctx) => {
+            let made = filled_record(alloc, fill, table, names, values, fields)?;
+            Ok(Event::Rec(made, ctx))
+        }
         other => Ok(other),
-    }
-}
-
-/// A record with all these fields, of which those that it lacks have the text as their value.
-fn filled_record(
-    alloc: Global,
-    fill: &[u8],
-    names: &Names,
-    fields: Record,
-) -> Result<Record, NoMemory>
-    requires { are_distinct names.now ≡ true }
-    ensures { IfOk result (λ made. made ≡ filled fill.now names.now fields) }
-{
-    let mut left = fields.into_fields();
-    let mut made = Record::new(alloc)?;
-    fill_each(alloc, fill, names.as_slice(), &mut left, &mut made)?;
-    Ok(made)
-}
-
-/// Appends a field for each name to a record without fields.
-fn fill_each(
-    alloc: Global,
-    fill: &[u8],
-    names: &[Bytes],
-    left: &mut Vec<Field>,
-    made: &mut Record,
-) -> Result<(), NoMemory>
-    requires empty { made.old ≡ [] }
-    requires distinct { are_distinct names.now ≡ true }
-    ensures { OnOk result (made.new ≡ filled fill.now names.now (pairs_of left.old.items)) }
-{
-    for name in names {
-        let value = value_or(alloc, fill, left, name)?;
-        made.push(name.as_slice(), value)?;
-    }
-    Ok(())
-}
-
-/// The value of the field with this name, which is taken out; or the text as a string, if there is none.
-fn value_or(
-    alloc: Global,
-    fill: &[u8],
-    left: &mut Vec<Field>,
-    name: &Bytes,
-) -> Result<Value, NoMemory>
-    ensures value { IfOk result (λ made. tree_of made
-        ≡ unwrap_or (value_at name.now (pairs_of left.old.items)) (text_value fill.now)) }
-    ensures left { pairs_of left.new.items ≡ remove_at name.now (pairs_of left.old.items) }
-{
-    match take_field(left, name) {
-        Some(field) => Ok(field.value),
-        None => Ok(string_of(Bytes::copy_of(alloc, fill)?)),
     }
 }
