@@ -1,7 +1,7 @@
 # Completions of mlr for bash, made by tests/generated.
 _mlr() {
     local word=${COMP_WORDS[COMP_CWORD]} verb= place words=
-    local verbs=" altkv cat count count-distinct count-similar cut decimate fill-down fill-empty flatten gap grep group-by group-like gsub having-fields head json-parse json-stringify label least-frequent most-frequent nothing regularize rename reorder repeat sec2gmt sec2gmtdate seqgen sort sort-within-records sparsify ssub sub tac tail template unflatten uniq unspace unsparsify "
+    local verbs=" altkv cat count count-distinct count-similar cut decimate fill-down fill-empty flatten gap grep group-by group-like gsub having-fields head json-parse json-stringify label least-frequent merge-fields most-frequent nothing regularize rename reorder repeat sec2gmt sec2gmtdate seqgen sort sort-within-records sparsify ssub stats1 step sub tac tail template top unflatten uniq unspace unsparsify "
     for ((place = 1; place < COMP_CWORD; place++)); do
         if [[ $verbs == *" ${COMP_WORDS[place]} "* && (-z $verb || ${COMP_WORDS[place - 1]} == then) ]]; then
             verb=${COMP_WORDS[place]}
@@ -26,6 +26,7 @@ _mlr() {
         json-parse) words="-f" ;;
         json-stringify) words="-f" ;;
         least-frequent) words="-f -b -n -o" ;;
+        merge-fields) words="-a -f -r -c -o -k" ;;
         most-frequent) words="-f -b -n -o" ;;
         rename) words="-r -g" ;;
         reorder) words="-f -e" ;;
@@ -35,9 +36,12 @@ _mlr() {
         sort-within-records) words="-r" ;;
         sparsify) words="-f" ;;
         ssub) words="-f -a" ;;
+        stats1) words="-a -f -g" ;;
+        step) words="-a -f -g" ;;
         sub) words="-f -a" ;;
         tail) words="-n -g" ;;
         template) words="-f --fill-with" ;;
+        top) words="-f -n -g --min --max -a -o" ;;
         unflatten) words="-f -s" ;;
         uniq) words="-g -a -c -n" ;;
         unspace) words="-f -k -v" ;;

@@ -9,6 +9,7 @@ use mlr_spec::NoMemory;
 use std::alloc::Global;
 use verb_specs::VerbSpec;
 use verbs_retain::RetainVerb;
+use verbs_stat::StatVerb;
 use verbs_stream::StreamVerb;
 
 /// A verb of a chain, of any kind. It begins with `begin`, and takes events after that.
@@ -17,6 +18,8 @@ pub enum Verb {
     Stream(StreamVerb),
     /// A retaining verb.
     Retain(RetainVerb),
+    /// A verb of statistics.
+    Stat(StatVerb),
 }
 
 // Written by hand, so that the crates above call it instead of dropping the fields themselves.
@@ -25,6 +28,7 @@ impl Drop for Verb {
         match self {
             Verb::Stream(verb) => drop(verb),
             Verb::Retain(verb) => drop(verb),
+            Verb::Stat(verb) => drop(verb),
         }
     }
 }
@@ -47,6 +51,10 @@ impl Verb {
                 Ok(verb) => Ok(Verb::Retain(verb)),
                 Err(error) => Err(error),
             },
+            VerbSpec::Stat(options) => match StatVerb::of(alloc, options) {
+                Ok(verb) => Ok(Verb::Stat(verb)),
+                Err(error) => Err(error),
+            },
             VerbSpec::Seq(_) => unreachable!(),
         }
     }
@@ -61,7 +69,7 @@ impl Verb {
     {
         match self {
             // It makes nothing before them.
-            Verb::Stream(_) | Verb::Retain(_) => {
+            Verb::Stream(_) | Verb::Retain(_) | Verb::Stat(_) => {
                 let _ = out;
                 Ok(())
             }
@@ -70,9 +78,10 @@ impl Verb {
 }
 
 impl Step for Verb {
-    ghost use Rattle.chain_core.specs.declared.verb.Verb.TheVariants.{Stream, Retain};
+    ghost use Rattle.chain_core.specs.declared.verb.Verb.TheVariants.{Stream, Retain, Stat};
     ghost use Rattle.chain_core.specs.Verbs.{WasGiven, meaning_in};
     ghost use Rattle.verbs_retain.specs.contracts.verb.RetainVerbStep.TheImpl.Laws as retain;
+    ghost use Rattle.verbs_stat.specs.contracts.verb.StatVerbStep.TheImpl.Laws as stat;
     ghost use Rattle.verbs_stream.specs.contracts.verb.StreamVerbStep.TheImpl.Laws as stream;
 
     ghost verb = { meaning_in };
@@ -82,20 +91,38 @@ impl Step for Verb {
     ghost broken = { elim [
       | Stream s ↦ ⟦<StreamVerb as Step>⟧.broken s
       | Retain s ↦ ⟦<RetainVerb as Step>⟧.broken s
+      | Stat s ↦ ⟦<StatVerb as Step>⟧.broken s
     ] };
 
-    ghost whole = { elim [ Stream s ↦ stream.whole-law s | Retain s ↦ retain.whole-law s ] };
+    ghost whole = { elim [
+      | Stream s ↦ stream.whole-law s
+      | Retain s ↦ retain.whole-law s
+      | Stat s ↦ stat.whole-law s
+    ] };
 
-    ghost quiet = { elim [ Stream s ↦ stream.quiet-law s | Retain s ↦ retain.quiet-law s ] };
+    ghost quiet = { elim [
+      | Stream s ↦ stream.quiet-law s
+      | Retain s ↦ retain.quiet-law s
+      | Stat s ↦ stat.quiet-law s
+    ] };
 
-    ghost orderly = { elim [ Stream s ↦ stream.orderly-law s | Retain s ↦ retain.orderly-law s ] };
+    ghost orderly = { elim [
+      | Stream s ↦ stream.orderly-law s
+      | Retain s ↦ retain.orderly-law s
+      | Stat s ↦ stat.orderly-law s
+    ] };
 
-    ghost closes = { elim [ Stream s ↦ stream.closes-law s | Retain s ↦ retain.closes-law s ] };
+    ghost closes = { elim [
+      | Stream s ↦ stream.closes-law s
+      | Retain s ↦ retain.closes-law s
+      | Stat s ↦ stat.closes-law s
+    ] };
 
     fn step(&mut self, event: Event, out: &mut Events) -> Result<(), NoMemory> {
         match self {
             Verb::Stream(verb) => verb.step(event, out)?,
             Verb::Retain(verb) => verb.step(event, out)?,
+            Verb::Stat(verb) => verb.step(event, out)?,
         }
         Ok(())
     }
@@ -104,6 +131,7 @@ impl Step for Verb {
         match self {
             Verb::Stream(verb) => verb.step_all(events, out),
             Verb::Retain(verb) => verb.step_all(events, out),
+            Verb::Stat(verb) => verb.step_all(events, out),
         }
     }
 
@@ -111,6 +139,7 @@ impl Step for Verb {
         match self {
             Verb::Stream(verb) => verb.never_closes(),
             Verb::Retain(verb) => verb.never_closes(),
+            Verb::Stat(verb) => verb.never_closes(),
         }
     }
 
@@ -118,6 +147,7 @@ impl Step for Verb {
         match self {
             Verb::Stream(verb) => verb.closed(),
             Verb::Retain(verb) => verb.closed(),
+            Verb::Stat(verb) => verb.closed(),
         }
     }
 
@@ -125,6 +155,7 @@ impl Step for Verb {
         match self {
             Verb::Stream(verb) => verb.has_effects(),
             Verb::Retain(verb) => verb.has_effects(),
+            Verb::Stat(verb) => verb.has_effects(),
         }
     }
 
@@ -132,6 +163,7 @@ impl Step for Verb {
         match self {
             Verb::Stream(verb) => verb.passes_all(),
             Verb::Retain(verb) => verb.passes_all(),
+            Verb::Stat(verb) => verb.passes_all(),
         }
     }
 
@@ -139,6 +171,7 @@ impl Step for Verb {
         match self {
             Verb::Stream(verb) => verb.is_broken(),
             Verb::Retain(verb) => verb.is_broken(),
+            Verb::Stat(verb) => verb.is_broken(),
         }
     }
 }

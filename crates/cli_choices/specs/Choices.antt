@@ -12,6 +12,10 @@ use Rattle.cli_choices.specs.Names.{names_in}
 abbrev pub own_word : ℕ → VerbWords → List ℕ
 own_word place given = slice_index_or given.words place []
 
+-- the word after an option; the empty word where there is none
+abbrev pub argument_of : Given → List ℕ
+argument_of given = elim given.argument [ Some word ↦ word | None ↦ [] ]
+
 -- the word after the last option with this name
 abbrev pub word_or : List ℕ → List ℕ → List Given → List ℕ
 word_or default option options = elim (last option options) [ Some word ↦ word | None ↦ default ]

@@ -1,6 +1,6 @@
 //! What the options of a verb say, or a default.
 ghost use Rattle.std.specs.Prelude.{◌≡◌, IfOk};
-ghost use Rattle.cli_choices.specs.Choices.{count_in, count_of, count_or, following, int_in_word, int_or, later_number, names_after, number_after, number_or, separator_or, separator_in_word, word_or};
+ghost use Rattle.cli_choices.specs.Choices.{argument_of, count_in, count_of, count_or, following, int_in_word, int_or, later_number, names_after, number_after, number_or, separator_or, separator_in_word, word_or};
 
 use crate::names::names_in;
 use cli_grammar::{Given, VerbWords, int_in, separator_in};
@@ -8,6 +8,16 @@ use mlr_event::Names;
 use mlr_spec::NoMemory;
 use mlr_value::Bytes;
 use std::alloc::Global;
+
+/// The word after an option; the empty word where there is none.
+pub fn argument_of(given: &Given) -> &[u8]
+    ensures { result.now ≡ argument_of given.now }
+{
+    match &given.argument {
+        Some(word) => word.as_slice(),
+        None => &[],
+    }
+}
 
 /// The word after the last option with this name, or a default.
 pub fn word_or<'a>(given: &'a VerbWords, option: &[u8], default: &'a [u8]) -> &'a [u8]

@@ -5,7 +5,7 @@ mod choice;
 mod names;
 
 pub use choice::{
-    count_or, following, int_or, names_after, number_after, number_or, separator_or, text_or,
-    word_or,
+    argument_of, count_or, following, int_or, names_after, number_after, number_or, separator_or,
+    text_or, word_or,
 };
 pub use names::{all_names, given_names, names_in};

@@ -1,12 +1,11 @@
 -- From each place some words complete the line.
-use Rattle.std.proofs.Common.{◌≡◌, ℕ, ◌+◌, ◌≤◌, ◌<◌, Bool, true, false, List, [], ◌∷◌, ◌++◌, length, drop, Option, Some, None, refl, ap, sym, ◌∙◌, subst, arith, length-drop, inl, inr, ◌⊎◌}
-use Rattle.std.specs.Prelude.{◌&&◌, ◌||◌, not, codes, if◌then◌else◌, is_none, map}
-use Rattle.std.specs.List.{list_all, list_any}
+use Rattle.std.proofs.Common.{◌≡◌, ℕ, ◌+◌, ◌≤◌, ◌<◌, Bool, true, false, List, [], ◌∷◌, ◌++◌, length, drop, Option, Some, None, refl, ap, sym, ◌∙◌, subst, arith, length-drop}
+use Rattle.std.specs.Prelude.{◌==◌, ◌||◌, codes, if◌then◌else◌, is_none, map}
+use Rattle.std.specs.List.{flat_map, list_all, list_any}
 use Rattle.std.specs.Str.{bytes_eq}
-use Rattle.std.proofs.lemmas.Bool.{and_parts, lt-ltb, le-ltb}
+use Rattle.std.proofs.lemmas.Bool.{and_from, and_parts, eq-eqb, lt-ltb, le-ltb}
 use Rattle.std.proofs.lemmas.List.{append-nil, length-append, length-map}
 use Rattle.std.proofs.lemmas.List.Folds.{list_any-append}
-use Rattle.std.proofs.lemmas.Slice.Eq.{bytes_eq-Decides}
 use Rattle.std.proofs.Math.Bool.{or-true}
 use Rattle.mlr_spec.specs.Infer.{kind_after_sign}
 use Rattle.mlr_event.specs.declared.refusal.Why.{Why}
@@ -22,16 +21,18 @@ use Rattle.cli_grammar.specs.declared.line.Place.TheVariants as place
 use Rattle.cli_grammar.specs.declared.verb_table.VerbName.{VerbName}
 use Rattle.cli_grammar.specs.declared.verb_table.VerbName.TheVariants as verb
 use Rattle.cli_grammar.specs.Flags.{FlagRow, flag_rows, row_named}
-use Rattle.cli_grammar.specs.Grammar.{is_alone}
+use Rattle.cli_grammar.specs.Grammar.{are_numbered, is_option, spelled_given}
 use Rattle.cli_grammar.specs.Kinds.{fault_of}
 use Rattle.cli_grammar.specs.Options.{has}
 use Rattle.cli_grammar.specs.Reading.{ended, first_word, fulfils, has_required, kind_in, line_from, refusal, with_argument, with_option}
-use Rattle.cli_grammar.specs.Verbs.{count, positive, row_of_verb}
-use Rattle.cli_grammar.proofs.Fits.{Fits, suits-word}
-use Rattle.cli_grammar.proofs.Walks.{ended-options, ended-words, flags-begins, name-walk, option-walk, plain-after, step, verb-begins, words-walk}
+use Rattle.cli_grammar.specs.Verbs.{row_of_verb}
+use Rattle.cli_grammar.proofs.Fits.{Fits}
+use Rattle.cli_grammar.proofs.Walks.{ended-options, ended-words, flags-begins, name-walk, options-walk, plain-after, step, verb-begins, words-walk}
 
 -- a word of a kind, for each kind in the tables
 abbrev good : Kind → List ℕ
+good kind.Accumulators = codes "count"
+good kind.Steppers = codes "shift"
 good kind.Format = codes "csv"
 good kind = codes "1"
 
@@ -70,80 +71,110 @@ good-option (option ∷ options) name kind are is =
     let parts = and_parts (is_good option.1) (list_all (λ option. is_good option.1) options) are in
     good-option-if option.1 kind (kind_in options name) (bytes_eq option.0 name) is parts.0 (good-option options name kind parts.1)
 
--- a group is fulfilled by the option that was given last
-has-last : (name : List ℕ) (options : List Given) (given : Given) → given.name ≡ name → has name (options ++ given ∷ []) ≡ true
-has-last name options given same =
-    list_any-append (λ given. bytes_eq given.name name) options (given ∷ [])
-    ∙ ap (λ t. has name options || (t || false)) ((bytes_eq-Decides given.name name).1 same) ∙ or-true (has name options)
+-- an option that was given is given among more, too
+has-more : (name : List ℕ) (before more : List Given) → has name more ≡ true → has name (before ++ more) ≡ true
+has-more name before more is = list_any-append (λ given. bytes_eq given.name name) before more ∙ ap (λ t. has name before || t) is ∙ or-true (has name before)
 
-first-fulfils : (name : List ℕ) (names : List (List ℕ)) (options : List Given) (given : Given) → given.name ≡ name
-    → list_all (fulfils (options ++ given ∷ [])) ((name ∷ names, true) ∷ []) ≡ true
-first-fulfils name names options given same =
-    ap (λ t. (not true || (t || list_any (λ name. has name (options ++ given ∷ [])) names)) && true) (has-last name options given same)
+any-if : (name : List ℕ) (before more : List Given) (t rest all : Bool) → has name more ≡ t → (t || rest) ≡ true → (rest ≡ true → all ≡ true) → (has name (before ++ more) || all) ≡ true
+any-if name before more true rest all has_it is later = ap (λ t. t || all) (has-more name before more has_it)
+any-if name before more false rest all has_it is later = ap (λ t. has name (before ++ more) || t) (later is) ∙ or-true (has name (before ++ more))
 
--- an option with which a verb has all that it must have
+any-more : (names : List (List ℕ)) (before more : List Given) → list_any (λ name. has name more) names ≡ true → list_any (λ name. has name (before ++ more)) names ≡ true
+any-more [] before more is = absurd (let e = is in cc)
+any-more (name ∷ names) before more is =
+    any-if name before more (has name more) (list_any (λ name. has name more) names) (list_any (λ name. has name (before ++ more)) names) refl is (any-more names before more)
+
+-- a group that is fulfilled is fulfilled by more options, too
+fulfils-more : (names : List (List ℕ)) (must : Bool) (before more : List Given) → fulfils more (names, must) ≡ true → fulfils (before ++ more) (names, must) ≡ true
+fulfils-more names true before more is = any-more names before more is
+fulfils-more names false before more is = refl
+
+all-fulfilled : (groups : List (List (List ℕ) × Bool)) (before more : List Given) → list_all (fulfils more) groups ≡ true → list_all (fulfils (before ++ more)) groups ≡ true
+all-fulfilled [] before more are = refl
+all-fulfilled (group ∷ groups) before more are =
+    let parts = and_parts (fulfils more group) (list_all (fulfils more) groups) are in
+    and_from (fulfils (before ++ more) group) (list_all (fulfils (before ++ more)) groups) (fulfils-more group.0 group.1 before more parts.0) (all-fulfilled groups before more parts.1)
+
+-- options with the words after them, which follow `n` words
+abbrev given_after : ℕ → List (List ℕ × List ℕ) → List Given
+given_after n [] = []
+given_after n (option ∷ options) = record { number = n + 1; name = option.0; argument = Some option.1 } ∷ given_after (n + 2) options
+
+abbrev spelled_options : List (List ℕ × List ℕ) → List (List ℕ)
+spelled_options [] = []
+spelled_options (option ∷ options) = option.0 ∷ option.1 ∷ spelled_options options
+
+spelled-after : (options : List (List ℕ × List ℕ)) (n : ℕ) → flat_map spelled_given (given_after n options) ≡ spelled_options options
+spelled-after [] n = refl
+spelled-after (option ∷ options) n = ap (λ words. option.0 ∷ option.1 ∷ words) (spelled-after options (n + 2))
+
+numbered-after : (options : List (List ℕ × List ℕ)) (n : ℕ) → are_numbered n (given_after n options) ≡ true
+numbered-after [] n = refl
+numbered-after (option ∷ options) n =
+    and_from (n + 1 == n + 1) (are_numbered (n + 2) (given_after (n + 2) options)) (eq-eqb (n + 1) (n + 1) refl) (numbered-after options (n + 2))
+
+-- options with which a verb has all that it must have
 record Needed (verb : VerbName) : Type 0 where
-  name : List ℕ
-  kind : Kind
-  named : kind_in (row_of_verb verb).options name ≡ Some kind
-  follows : is_alone kind ≡ false
-  fine : fault_of kind (codes "1") ≡ None
-  enough : (options : List Given) (given : Given) → given.name ≡ name → list_all (fulfils (options ++ given ∷ [])) (row_of_verb verb).groups ≡ true
+  options : List (List ℕ × List ℕ)
+  are : (n : ℕ) → list_all (is_option (row_of_verb verb).options) (given_after n options) ≡ true
+  enough : (n : ℕ) → list_all (fulfils (given_after n options)) (row_of_verb verb).groups ≡ true
 
--- Each kind in a verb's row has a word, and a verb needs no option or one.
+-- Each kind in a verb's row has a word, and some options are all that a verb must have.
 abbrev CanEnd : VerbName → Type 0
-CanEnd verb =
-    (list_all (λ option. is_good option.1) (row_of_verb verb).options ≡ true)
-    × (((options : List Given) → list_all (fulfils options) (row_of_verb verb).groups ≡ true) ⊎ Needed verb)
+CanEnd verb = (list_all (λ option. is_good option.1) (row_of_verb verb).options ≡ true) × Needed verb
 
-needed : (verb : VerbName) (name : List ℕ) (kind : Kind) → kind_in (row_of_verb verb).options name ≡ Some kind → is_alone kind ≡ false → fault_of kind (codes "1") ≡ None
-    → ((options : List Given) (given : Given) → given.name ≡ name → list_all (fulfils (options ++ given ∷ [])) (row_of_verb verb).groups ≡ true) → Needed verb
-needed verb name kind named follows fine enough = record { name = name; kind = kind; named = named; follows = follows; fine = fine; enough = enough }
+needed : (verb : VerbName) (options : List (List ℕ × List ℕ)) → ((n : ℕ) → list_all (is_option (row_of_verb verb).options) (given_after n options) ≡ true)
+    → ((n : ℕ) → list_all (fulfils (given_after n options)) (row_of_verb verb).groups ≡ true) → Needed verb
+needed verb options are enough = record { options = options; are = are; enough = enough }
 
 can-end : (verb : VerbName) → CanEnd verb
 unfolding kind_after_sign
-can-end verb.Altkv = (refl, inl (λ options. refl))
-can-end verb.Cat = (refl, inl (λ options. refl))
-can-end verb.Count = (refl, inl (λ options. refl))
-can-end verb.CountDistinct = (refl, inr (needed verb.CountDistinct (codes "-f") kind.Names refl refl refl (first-fulfils (codes "-f") [])))
-can-end verb.CountSimilar = (refl, inr (needed verb.CountSimilar (codes "-g") kind.Names refl refl refl (first-fulfils (codes "-g") [])))
-can-end verb.Cut = (refl, inr (needed verb.Cut (codes "-f") kind.Names refl refl refl (first-fulfils (codes "-f") [])))
-can-end verb.Decimate = (refl, inl (λ options. refl))
-can-end verb.FillDown = (refl, inr (needed verb.FillDown (codes "-f") kind.Names refl refl refl (first-fulfils (codes "-f") [])))
-can-end verb.FillEmpty = (refl, inl (λ options. refl))
-can-end verb.Flatten = (refl, inl (λ options. refl))
-can-end verb.Gap = (refl, inr (needed verb.Gap (codes "-n") positive refl refl refl (first-fulfils (codes "-n") (codes "-g" ∷ []))))
-can-end verb.Grep = (refl, inl (λ options. refl))
-can-end verb.GroupBy = (refl, inl (λ options. refl))
-can-end verb.GroupLike = (refl, inl (λ options. refl))
-can-end verb.Gsub = (refl, inr (needed verb.Gsub (codes "-f") kind.Names refl refl refl (first-fulfils (codes "-f") (codes "-a" ∷ []))))
-can-end verb.HavingFields = (refl, inr (needed verb.HavingFields (codes "--at-least") kind.Names refl refl refl (first-fulfils (codes "--at-least") (codes "--at-most" ∷ codes "--which-are" ∷ codes "--all-defined" ∷ codes "--any-defined" ∷ codes "--all-matching" ∷ codes "--any-matching" ∷ []))))
-can-end verb.Head = (refl, inl (λ options. refl))
-can-end verb.JsonParse = (refl, inl (λ options. refl))
-can-end verb.JsonStringify = (refl, inl (λ options. refl))
-can-end verb.Label = (refl, inl (λ options. refl))
-can-end verb.LeastFrequent = (refl, inr (needed verb.LeastFrequent (codes "-f") kind.Names refl refl refl (first-fulfils (codes "-f") [])))
-can-end verb.MostFrequent = (refl, inr (needed verb.MostFrequent (codes "-f") kind.Names refl refl refl (first-fulfils (codes "-f") [])))
-can-end verb.Nothing = (refl, inl (λ options. refl))
-can-end verb.Regularize = (refl, inl (λ options. refl))
-can-end verb.Rename = (refl, inl (λ options. refl))
-can-end verb.Reorder = (refl, inr (needed verb.Reorder (codes "-f") kind.Names refl refl refl (first-fulfils (codes "-f") [])))
-can-end verb.Repeat = (refl, inr (needed verb.Repeat (codes "-n") count refl refl refl (first-fulfils (codes "-n") (codes "-f" ∷ []))))
-can-end verb.Sec2Gmt = (refl, inl (λ options. refl))
-can-end verb.Sec2GmtDate = (refl, inl (λ options. refl))
-can-end verb.Seqgen = (refl, inl (λ options. refl))
-can-end verb.Sort = (refl, inr (needed verb.Sort (codes "-f") kind.Names refl refl refl (first-fulfils (codes "-f") (codes "-r" ∷ codes "-nf" ∷ codes "-nr" ∷ codes "-c" ∷ codes "-cr" ∷ []))))
-can-end verb.SortWithinRecords = (refl, inl (λ options. refl))
-can-end verb.Sparsify = (refl, inl (λ options. refl))
-can-end verb.Ssub = (refl, inr (needed verb.Ssub (codes "-f") kind.Names refl refl refl (first-fulfils (codes "-f") (codes "-a" ∷ []))))
-can-end verb.Sub = (refl, inr (needed verb.Sub (codes "-f") kind.Names refl refl refl (first-fulfils (codes "-f") (codes "-a" ∷ []))))
-can-end verb.Tac = (refl, inl (λ options. refl))
-can-end verb.Tail = (refl, inl (λ options. refl))
-can-end verb.Template = (refl, inr (needed verb.Template (codes "-f") kind.Names refl refl refl (first-fulfils (codes "-f") [])))
-can-end verb.Unflatten = (refl, inl (λ options. refl))
-can-end verb.Uniq = (refl, inr (needed verb.Uniq (codes "-g") kind.Names refl refl refl (first-fulfils (codes "-g") (codes "-a" ∷ []))))
-can-end verb.Unspace = (refl, inl (λ options. refl))
-can-end verb.Unsparsify = (refl, inl (λ options. refl))
+can-end verb.Altkv = (refl, needed verb.Altkv [] (λ n. refl) (λ n. refl))
+can-end verb.Cat = (refl, needed verb.Cat [] (λ n. refl) (λ n. refl))
+can-end verb.Count = (refl, needed verb.Count [] (λ n. refl) (λ n. refl))
+can-end verb.CountDistinct = (refl, needed verb.CountDistinct ((codes "-f", codes "1") ∷ []) (λ n. refl) (λ n. refl))
+can-end verb.CountSimilar = (refl, needed verb.CountSimilar ((codes "-g", codes "1") ∷ []) (λ n. refl) (λ n. refl))
+can-end verb.Cut = (refl, needed verb.Cut ((codes "-f", codes "1") ∷ []) (λ n. refl) (λ n. refl))
+can-end verb.Decimate = (refl, needed verb.Decimate [] (λ n. refl) (λ n. refl))
+can-end verb.FillDown = (refl, needed verb.FillDown ((codes "-f", codes "1") ∷ []) (λ n. refl) (λ n. refl))
+can-end verb.FillEmpty = (refl, needed verb.FillEmpty [] (λ n. refl) (λ n. refl))
+can-end verb.Flatten = (refl, needed verb.Flatten [] (λ n. refl) (λ n. refl))
+can-end verb.Gap = (refl, needed verb.Gap ((codes "-n", codes "1") ∷ []) (λ n. refl) (λ n. refl))
+can-end verb.Grep = (refl, needed verb.Grep [] (λ n. refl) (λ n. refl))
+can-end verb.GroupBy = (refl, needed verb.GroupBy [] (λ n. refl) (λ n. refl))
+can-end verb.GroupLike = (refl, needed verb.GroupLike [] (λ n. refl) (λ n. refl))
+can-end verb.Gsub = (refl, needed verb.Gsub ((codes "-f", codes "1") ∷ []) (λ n. refl) (λ n. refl))
+can-end verb.HavingFields = (refl, needed verb.HavingFields ((codes "--at-least", codes "1") ∷ []) (λ n. refl) (λ n. refl))
+can-end verb.Head = (refl, needed verb.Head [] (λ n. refl) (λ n. refl))
+can-end verb.JsonParse = (refl, needed verb.JsonParse [] (λ n. refl) (λ n. refl))
+can-end verb.JsonStringify = (refl, needed verb.JsonStringify [] (λ n. refl) (λ n. refl))
+can-end verb.Label = (refl, needed verb.Label [] (λ n. refl) (λ n. refl))
+can-end verb.LeastFrequent = (refl, needed verb.LeastFrequent ((codes "-f", codes "1") ∷ []) (λ n. refl) (λ n. refl))
+can-end verb.MergeFields = (refl, needed verb.MergeFields ((codes "-a", codes "count") ∷ (codes "-f", codes "1") ∷ []) (λ n. refl) (λ n. refl))
+can-end verb.MostFrequent = (refl, needed verb.MostFrequent ((codes "-f", codes "1") ∷ []) (λ n. refl) (λ n. refl))
+can-end verb.Nothing = (refl, needed verb.Nothing [] (λ n. refl) (λ n. refl))
+can-end verb.Regularize = (refl, needed verb.Regularize [] (λ n. refl) (λ n. refl))
+can-end verb.Rename = (refl, needed verb.Rename [] (λ n. refl) (λ n. refl))
+can-end verb.Reorder = (refl, needed verb.Reorder ((codes "-f", codes "1") ∷ []) (λ n. refl) (λ n. refl))
+can-end verb.Repeat = (refl, needed verb.Repeat ((codes "-n", codes "1") ∷ []) (λ n. refl) (λ n. refl))
+can-end verb.Sec2Gmt = (refl, needed verb.Sec2Gmt [] (λ n. refl) (λ n. refl))
+can-end verb.Sec2GmtDate = (refl, needed verb.Sec2GmtDate [] (λ n. refl) (λ n. refl))
+can-end verb.Seqgen = (refl, needed verb.Seqgen [] (λ n. refl) (λ n. refl))
+can-end verb.Sort = (refl, needed verb.Sort ((codes "-f", codes "1") ∷ []) (λ n. refl) (λ n. refl))
+can-end verb.SortWithinRecords = (refl, needed verb.SortWithinRecords [] (λ n. refl) (λ n. refl))
+can-end verb.Sparsify = (refl, needed verb.Sparsify [] (λ n. refl) (λ n. refl))
+can-end verb.Ssub = (refl, needed verb.Ssub ((codes "-f", codes "1") ∷ []) (λ n. refl) (λ n. refl))
+can-end verb.Stats1 = (refl, needed verb.Stats1 ((codes "-a", codes "count") ∷ (codes "-f", codes "1") ∷ []) (λ n. refl) (λ n. refl))
+can-end verb.Step = (refl, needed verb.Step ((codes "-a", codes "shift") ∷ (codes "-f", codes "1") ∷ []) (λ n. refl) (λ n. refl))
+can-end verb.Sub = (refl, needed verb.Sub ((codes "-f", codes "1") ∷ []) (λ n. refl) (λ n. refl))
+can-end verb.Tac = (refl, needed verb.Tac [] (λ n. refl) (λ n. refl))
+can-end verb.Tail = (refl, needed verb.Tail [] (λ n. refl) (λ n. refl))
+can-end verb.Template = (refl, needed verb.Template ((codes "-f", codes "1") ∷ []) (λ n. refl) (λ n. refl))
+can-end verb.Top = (refl, needed verb.Top ((codes "-f", codes "1") ∷ []) (λ n. refl) (λ n. refl))
+can-end verb.Unflatten = (refl, needed verb.Unflatten [] (λ n. refl) (λ n. refl))
+can-end verb.Uniq = (refl, needed verb.Uniq ((codes "-g", codes "1") ∷ []) (λ n. refl) (λ n. refl))
+can-end verb.Unspace = (refl, needed verb.Unspace [] (λ n. refl) (λ n. refl))
+can-end verb.Unsparsify = (refl, needed verb.Unsparsify [] (λ n. refl) (λ n. refl))
 
 -- the words so far can go on
 abbrev pub GoesOn : Place → Type 0
@@ -187,18 +218,20 @@ own-on (kind ∷ kinds) verb are none required n flags verbs =
     ∙ ap (λ t. if t then next.Goes (place.Words (first_word verb (n + 1) (codes "1"))) else ended verb (codes "1")) (lt-ltb (length verb.words) (length (row_of_verb verb.verb).words) below)))
     ∙ words-on (ones kinds) (first_word verb (n + 1) (codes "1")) required all (n + 1) flags verbs
 
--- after options of a verb, if it needs one more or none
-options-on : (verb : VerbWords) → verb.words ≡ [] → ((options : List Given) → list_all (fulfils options) (row_of_verb verb.verb).groups ≡ true) ⊎ Needed verb.verb → GoesOn (place.Options verb)
-options-on verb none (inl all) = (ones (row_of_verb verb.verb).words, own-on (row_of_verb verb.verb).words verb refl none (all verb.options))
-options-on verb none (inr need) = (
-  need.name ∷ codes "1" ∷ ones (row_of_verb verb.verb).words,
-  λ n flags verbs.
-      let given : Given = record { number = n + 1; name = need.name; argument = Some (codes "1") } in
-      ap (λ (line : Line). line.refusal)
-      (option-walk n flags verbs verb (n + 1) need.name (Some (codes "1")) need.kind (ones (row_of_verb verb.verb).words) refl need.named
-      (suits-word need.kind (codes "1") need.follows need.fine))
-      ∙ own-on (row_of_verb verb.verb).words (with_option verb given) refl none (need.enough verb.options given refl) (n + 2) flags verbs,
-)
+-- after options of a verb, with those that it must have
+options-on : (verb : VerbWords) → verb.words ≡ [] → Needed verb.verb → GoesOn (place.Options verb)
+options-on verb none need =
+    let own = ones (row_of_verb verb.verb).words in (
+      spelled_options need.options ++ own,
+      λ n flags verbs.
+          let given = given_after n need.options in
+          let whole = record verb { options = verb.options ++ given } in
+          ap (λ (line : Line). line.refusal)
+          (ap (λ words. line_from n flags verbs (place.Options verb) (words ++ own)) (sym (spelled-after need.options n))
+          ∙ options-walk given n flags verbs verb own (need.are n) (numbered-after need.options n))
+          ∙ own-on (row_of_verb verb.verb).words whole refl none (all-fulfilled (row_of_verb verb.verb).groups verb.options given (need.enough n))
+          (n + length (flat_map spelled_given given)) flags verbs,
+    )
 
 flags-on : (n : ℕ) (flags : List Given) (verbs : List VerbWords) → (line_from n flags verbs place.Flags (codes "nothing" ∷ [])).refusal ≡ None
 flags-on n flags verbs = ap (λ (line : Line). line.refusal) (name-walk n flags verbs place.Flags verb.Nothing [] flags-begins)

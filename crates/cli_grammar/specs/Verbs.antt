@@ -22,9 +22,10 @@ all_verbs =
     verb.Altkv ∷ verb.Cat ∷ verb.Count ∷ verb.CountDistinct ∷ verb.CountSimilar ∷ verb.Cut ∷ verb.Decimate ∷
     verb.FillDown ∷ verb.FillEmpty ∷ verb.Flatten ∷ verb.Gap ∷ verb.Grep ∷ verb.GroupBy ∷ verb.GroupLike ∷ verb.Gsub ∷
     verb.HavingFields ∷ verb.Head ∷ verb.JsonParse ∷ verb.JsonStringify ∷ verb.Label ∷ verb.LeastFrequent ∷
-    verb.MostFrequent ∷ verb.Nothing ∷ verb.Regularize ∷ verb.Rename ∷ verb.Reorder ∷ verb.Repeat ∷ verb.Sec2Gmt ∷
-    verb.Sec2GmtDate ∷ verb.Seqgen ∷ verb.Sort ∷ verb.SortWithinRecords ∷ verb.Sparsify ∷ verb.Ssub ∷ verb.Sub ∷
-    verb.Tac ∷ verb.Tail ∷ verb.Template ∷ verb.Unflatten ∷ verb.Uniq ∷ verb.Unspace ∷ verb.Unsparsify ∷ []
+    verb.MergeFields ∷ verb.MostFrequent ∷ verb.Nothing ∷ verb.Regularize ∷ verb.Rename ∷ verb.Reorder ∷ verb.Repeat ∷
+    verb.Sec2Gmt ∷ verb.Sec2GmtDate ∷ verb.Seqgen ∷ verb.Sort ∷ verb.SortWithinRecords ∷ verb.Sparsify ∷ verb.Ssub ∷
+    verb.Stats1 ∷ verb.Step ∷ verb.Sub ∷ verb.Tac ∷ verb.Tail ∷ verb.Template ∷ verb.Top ∷ verb.Unflatten ∷ verb.Uniq ∷
+    verb.Unspace ∷ verb.Unsparsify ∷ []
 
 abbrev pub row_of_verb : VerbName → VerbRow
 row_of_verb verb.Altkv = record {
@@ -153,6 +154,12 @@ row_of_verb verb.LeastFrequent = record {
   groups = (codes "-f" ∷ [], true) ∷ [];
   words = [];
 }
+row_of_verb verb.MergeFields = record {
+  name = codes "merge-fields";
+  options = (codes "-a", kind.Accumulators) ∷ (codes "-f", kind.Names) ∷ (codes "-r", kind.Names) ∷ (codes "-c", kind.Names) ∷ (codes "-o", kind.Text) ∷ (codes "-k", kind.Nothing) ∷ [];
+  groups = (codes "-a" ∷ [], true) ∷ (codes "-f" ∷ codes "-r" ∷ codes "-c" ∷ [], true) ∷ [];
+  words = [];
+}
 row_of_verb verb.MostFrequent = record {
   name = codes "most-frequent";
   options = (codes "-f", kind.Names) ∷ (codes "-b", kind.Nothing) ∷ (codes "-n", count) ∷ (codes "-o", kind.Text) ∷ [];
@@ -231,6 +238,18 @@ row_of_verb verb.Ssub = record {
   groups = (codes "-f" ∷ codes "-a" ∷ [], true) ∷ [];
   words = kind.Text ∷ kind.Text ∷ [];
 }
+row_of_verb verb.Stats1 = record {
+  name = codes "stats1";
+  options = (codes "-a", kind.Accumulators) ∷ (codes "-f", kind.Names) ∷ (codes "-g", kind.Names) ∷ [];
+  groups = (codes "-a" ∷ [], true) ∷ (codes "-f" ∷ [], true) ∷ [];
+  words = [];
+}
+row_of_verb verb.Step = record {
+  name = codes "step";
+  options = (codes "-a", kind.Steppers) ∷ (codes "-f", kind.Names) ∷ (codes "-g", kind.Names) ∷ [];
+  groups = (codes "-a" ∷ [], true) ∷ (codes "-f" ∷ [], true) ∷ [];
+  words = [];
+}
 row_of_verb verb.Sub = record {
   name = codes "sub";
   options = (codes "-f", kind.Names) ∷ (codes "-a", kind.Nothing) ∷ [];
@@ -253,6 +272,12 @@ row_of_verb verb.Template = record {
   name = codes "template";
   options = (codes "-f", kind.Names) ∷ (codes "--fill-with", kind.Text) ∷ [];
   groups = (codes "-f" ∷ [], true) ∷ [];
+  words = [];
+}
+row_of_verb verb.Top = record {
+  name = codes "top";
+  options = (codes "-f", kind.Names) ∷ (codes "-n", count) ∷ (codes "-g", kind.Names) ∷ (codes "--min", kind.Nothing) ∷ (codes "--max", kind.Nothing) ∷ (codes "-a", kind.Nothing) ∷ (codes "-o", kind.Text) ∷ [];
+  groups = (codes "-f" ∷ [], true) ∷ (codes "--min" ∷ codes "--max" ∷ [], false) ∷ [];
   words = [];
 }
 row_of_verb verb.Unflatten = record {

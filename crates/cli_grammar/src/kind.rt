@@ -1,10 +1,12 @@
 //! What the word after an option is.
 ghost use Rattle.std.specs.Prelude.{◌≡◌};
-ghost use Rattle.cli_grammar.specs.Kinds.{fault_of, format_named, is_within};
+ghost use Rattle.cli_grammar.specs.Kinds.{are_accumulators, are_steppers, fault_of, format_named, is_accumulator, is_stepper, is_within, name_fault};
 
 use crate::number::int_in;
 use crate::separator::{is_short, separator_in};
 use mlr_event::{Format, Why};
+use mlr_record::split::next_part;
+use stat_base::{Accumulator, Stepper};
 
 /// What the word after an option is.
 #[derive(Clone, Copy)]
@@ -15,6 +17,10 @@ pub enum Kind {
     Text,
     /// Names of fields, separated by commas.
     Names,
+    /// Names of accumulators, separated by commas.
+    Accumulators,
+    /// Names of steppers, separated by commas.
+    Steppers,
     /// A pattern. Whether it can be read is found later.
     Pattern,
     /// The name of a file.
@@ -38,6 +44,8 @@ impl Kind {
     {
         match self {
             Kind::Nothing | Kind::Text | Kind::Names | Kind::Pattern | Kind::File => None,
+            Kind::Accumulators => name_fault(are_accumulators(word)),
+            Kind::Steppers => name_fault(are_steppers(word)),
             Kind::Number(least, greatest) => match int_in(word) {
                 Some(n) if is_within(n, least, greatest) => None,
                 _ => Some(Why::BadNumber),
@@ -58,6 +66,59 @@ impl Kind {
             },
         }
     }
+}
+
+/// Why a list of names isn't of its kind, by whether each name is known.
+fn name_fault(known: bool) -> Option<Why>
+    ensures { result ≡ name_fault known }
+{
+    if known { None } else { Some(Why::UnknownFlag) }
+}
+
+/// Whether each name between the commas of a word is that of an accumulator.
+fn are_accumulators(word: &[u8]) -> bool
+    ensures { result ≡ are_accumulators word.now }
+{
+    let mut left = word;
+    loop {
+        let (name, rest) = next_part(b",", left);
+        if !is_accumulator(name) {
+            return false;
+        }
+        match rest {
+            None => return true,
+            Some(rest) => left = rest,
+        }
+    }
+}
+
+fn is_accumulator(name: &[u8]) -> bool
+    ensures { result ≡ is_accumulator name.now }
+{
+    Accumulator::named(name).is_some()
+}
+
+/// Whether each name between the commas of a word is that of a stepper.
+fn are_steppers(word: &[u8]) -> bool
+    ensures { result ≡ are_steppers word.now }
+{
+    let mut left = word;
+    loop {
+        let (name, rest) = next_part(b",", left);
+        if !is_stepper(name) {
+            return false;
+        }
+        match rest {
+            None => return true,
+            Some(rest) => left = rest,
+        }
+    }
+}
+
+fn is_stepper(name: &[u8]) -> bool
+    ensures { result ≡ is_stepper name.now }
+{
+    Stepper::named(name).is_some()
 }
 
 fn is_within(n: i64, least: i64, greatest: i64) -> bool

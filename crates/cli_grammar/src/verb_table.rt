@@ -58,6 +58,7 @@ pub enum VerbName {
     JsonStringify,
     Label,
     LeastFrequent,
+    MergeFields,
     MostFrequent,
     Nothing,
     Regularize,
@@ -71,10 +72,13 @@ pub enum VerbName {
     SortWithinRecords,
     Sparsify,
     Ssub,
+    Stats1,
+    Step,
     Sub,
     Tac,
     Tail,
     Template,
+    Top,
     Unflatten,
     Uniq,
     Unspace,
@@ -82,7 +86,7 @@ pub enum VerbName {
 }
 
 /// All verbs that have rows, in the order of their names.
-const VERBS: [VerbName; 42] = [
+const VERBS: [VerbName; 46] = [
     VerbName::Altkv,
     VerbName::Cat,
     VerbName::Count,
@@ -104,6 +108,7 @@ const VERBS: [VerbName; 42] = [
     VerbName::JsonStringify,
     VerbName::Label,
     VerbName::LeastFrequent,
+    VerbName::MergeFields,
     VerbName::MostFrequent,
     VerbName::Nothing,
     VerbName::Regularize,
@@ -117,10 +122,13 @@ const VERBS: [VerbName; 42] = [
     VerbName::SortWithinRecords,
     VerbName::Sparsify,
     VerbName::Ssub,
+    VerbName::Stats1,
+    VerbName::Step,
     VerbName::Sub,
     VerbName::Tac,
     VerbName::Tail,
     VerbName::Template,
+    VerbName::Top,
     VerbName::Unflatten,
     VerbName::Uniq,
     VerbName::Unspace,
@@ -538,6 +546,65 @@ const UNSPARSIFY: VerbRow = VerbRow {
     words: &[],
 };
 
+const MERGE_FIELDS_GROUPS: [Group; 2] = [(&[b"-a"], true), (&[b"-f", b"-r", b"-c"], true)];
+
+const MERGE_FIELDS: VerbRow = VerbRow {
+    name: b"merge-fields",
+    options: &[
+        (b"-a", Kind::Accumulators),
+        (b"-f", Kind::Names),
+        (b"-r", Kind::Names),
+        (b"-c", Kind::Names),
+        (b"-o", Kind::Text),
+        (b"-k", Kind::Nothing),
+    ],
+    groups: &MERGE_FIELDS_GROUPS,
+    words: &[],
+};
+
+const STATS1_GROUPS: [Group; 2] = [(&[b"-a"], true), (&[b"-f"], true)];
+
+const STATS1: VerbRow = VerbRow {
+    name: b"stats1",
+    options: &[
+        (b"-a", Kind::Accumulators),
+        (b"-f", Kind::Names),
+        (b"-g", Kind::Names),
+    ],
+    groups: &STATS1_GROUPS,
+    words: &[],
+};
+
+const STEP_GROUPS: [Group; 2] = [(&[b"-a"], true), (&[b"-f"], true)];
+
+const STEP: VerbRow = VerbRow {
+    name: b"step",
+    options: &[
+        (b"-a", Kind::Steppers),
+        (b"-f", Kind::Names),
+        (b"-g", Kind::Names),
+    ],
+    groups: &STEP_GROUPS,
+    words: &[],
+};
+
+const TOP_GROUPS: [Group; 2] = [(&[b"-f"], true), (&[b"--min", b"--max"], false)];
+
+const TOP: VerbRow = VerbRow {
+    name: b"top",
+    options: &[
+        (b"-f", Kind::Names),
+        (b"-n", COUNT),
+        (b"-g", Kind::Names),
+        (b"--min", Kind::Nothing),
+        (b"--max", Kind::Nothing),
+        (b"-a", Kind::Nothing),
+        (b"-o", Kind::Text),
+    ],
+    groups: &TOP_GROUPS,
+    words: &[],
+};
+
 impl VerbName {
     /// The row of this verb.
     pub fn row(self) -> VerbRow
@@ -565,6 +632,7 @@ impl VerbName {
             VerbName::JsonStringify => JSON_STRINGIFY,
             VerbName::Label => LABEL,
             VerbName::LeastFrequent => LEAST_FREQUENT,
+            VerbName::MergeFields => MERGE_FIELDS,
             VerbName::MostFrequent => MOST_FREQUENT,
             VerbName::Nothing => NOTHING,
             VerbName::Regularize => REGULARIZE,
@@ -578,10 +646,13 @@ impl VerbName {
             VerbName::SortWithinRecords => SORT_WITHIN_RECORDS,
             VerbName::Sparsify => SPARSIFY,
             VerbName::Ssub => SSUB,
+            VerbName::Stats1 => STATS1,
+            VerbName::Step => STEP,
             VerbName::Sub => SUB,
             VerbName::Tac => TAC,
             VerbName::Tail => TAIL,
             VerbName::Template => TEMPLATE,
+            VerbName::Top => TOP,
             VerbName::Unflatten => UNFLATTEN,
             VerbName::Uniq => UNIQ,
             VerbName::Unspace => UNSPACE,

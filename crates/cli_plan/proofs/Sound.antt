@@ -6,7 +6,7 @@ use Rattle.std.specs.Str.{bytes_eq}
 use Rattle.std.proofs.lemmas.Bool.{false≢true}
 use Rattle.std.proofs.lemmas.Slice.Eq.{bytes_eq-Decides}
 use Rattle.verb_specs.specs.declared.verb_spec.VerbSpec.{VerbSpec}
-use Rattle.verb_specs.specs.declared.verb_spec.VerbSpec.TheVariants.{Stream, Retain, Seq}
+use Rattle.verb_specs.specs.declared.verb_spec.VerbSpec.TheVariants.{Stream, Retain, Seq, Stat}
 use Rattle.chain_core.specs.Plans.{IsSound}
 use Rattle.verb_specs.specs.Verbs.{AreSound, AreVerbs, IsVerb}
 use Rattle.chain_core.specs.declared.plan.Plan.{Plan}
@@ -32,7 +32,7 @@ use Rattle.verbs_state.specs.declared.gap.Gap.TheVariants.{Count, Groups}
 use Rattle.cli_choices.specs.Choices.{count_in, count_of, count_or, names_after, own_word, separator_in_word}
 use Rattle.cli_choices.specs.Names.{all_names}
 use Rattle.cli_verbs.specs.Seqgen.{seqgen_of}
-use Rattle.cli_verbs.specs.Clash.{clash_of, names_clash, option_clash}
+use Rattle.cli_verbs.specs.Clash.{clash_of, earlier, names_clash, option_clash}
 use Rattle.cli_verbs.specs.Verbs.{IsGoodNamed, IsGoodVerb, IsVerbNamed, IsVerbOf}
 use Rattle.cli_plan.specs.Accepting.{AreGoodAfter, clash_after, clash_among, is_source}
 use Rattle.cli_plan.specs.Options.{read_of, write_of}
@@ -126,12 +126,21 @@ separator-some default least (Some word) = separator-length default least (separ
 abbrev either : Option ℕ → Option ℕ → Option ℕ
 either o other = elim o [ Some number ↦ Some number | None ↦ other ]
 
+-- where no number is the lesser of two, there is none
+no-earlier : (one other : Option ℕ) → earlier one other ≡ None → (one ≡ None) × (other ≡ None)
+no-earlier (Some one) (Some other) none = absurd (let e = none in cc)
+no-earlier (Some one) None none = absurd (let e = none in cc)
+no-earlier None other none = (refl, none)
+
 -- the names of `label` don't repeat where they don't clash
-label-distinct : (given : VerbWords) (o : Option ℕ) (t : Bool) → are_distinct (all_names (own_word 0 given)) ≡ t
-    → either o (if not t then Some given.own else None) ≡ None → are_distinct (all_names (own_word 0 given)) ≡ true
-label-distinct given (Some number) t is none = absurd (let e = none in cc)
-label-distinct given None true is none = is
-label-distinct given None false is none = absurd (let e = none in cc)
+label-if : (given : VerbWords) (t : Bool) → are_distinct (all_names (own_word 0 given)) ≡ t → (if not t then Some given.own else None) ≡ None
+    → are_distinct (all_names (own_word 0 given)) ≡ true
+label-if given true is none = is
+label-if given false is none = absurd (let e = none in cc)
+
+label-distinct : (given : VerbWords) → earlier (option_clash given) (names_clash verb.Label given) ≡ None → are_distinct (all_names (own_word 0 given)) ≡ true
+label-distinct given clear =
+    label-if given (are_distinct (all_names (own_word 0 given))) refl (no-earlier (option_clash given) (names_clash verb.Label given) clear).1
 
 gap-sound : (given : VerbWords) (t : Bool) → (t ≡ false → 1 ≤ count_or 1 (codes "-n") given.options) → IsSoundGap (if t then Groups (names_after (codes "-g") given.options) else Count (count_or 1 (codes "-n") given.options))
 gap-sound given true least = tt
@@ -139,7 +148,7 @@ gap-sound given false least = least refl
 
 -- a verb that is no source
 as-stream : (given : VerbWords) (flatsep : List ℕ) → 1 ≤ length flatsep → (name : VerbName) → list_all (is_option (row_of_verb name).options) given.options ≡ true
-    → either (option_clash given) (names_clash name given) ≡ None → is_source name ≡ false
+    → earlier (option_clash given) (names_clash name given) ≡ None → is_source name ≡ false
     → (spec : VerbSpec) → IsVerbNamed name flatsep given spec → IsVerb spec
 as-stream given flatsep sep verb.Altkv fits clear other spec is = subst IsVerb (sym is) tt
 as-stream given flatsep sep verb.Cat fits clear other spec is = subst IsVerb (sym is) tt
@@ -163,8 +172,9 @@ as-stream given flatsep sep verb.Head fits clear other spec is = subst IsVerb (s
 as-stream given flatsep sep verb.JsonParse fits clear other spec is = subst IsVerb (sym is) tt
 as-stream given flatsep sep verb.JsonStringify fits clear other spec is = subst IsVerb (sym is) tt
 as-stream given flatsep sep verb.Label fits clear other spec is =
-    subst IsVerb (sym is) (label-distinct given (option_clash given) (are_distinct (all_names (own_word 0 given))) refl clear)
+    subst IsVerb (sym is) (label-distinct given clear)
 as-stream given flatsep sep verb.LeastFrequent fits clear other spec is = subst IsVerb (sym is) tt
+as-stream given flatsep sep verb.MergeFields fits clear other spec is = subst IsVerb (sym is.1) tt
 as-stream given flatsep sep verb.MostFrequent fits clear other spec is = subst IsVerb (sym is) tt
 as-stream given flatsep sep verb.Nothing fits clear other spec is = subst IsVerb (sym is) tt
 as-stream given flatsep sep verb.Regularize fits clear other spec is = subst IsVerb (sym is) tt
@@ -178,10 +188,13 @@ as-stream given flatsep sep verb.Sort fits clear other spec is = subst IsVerb (s
 as-stream given flatsep sep verb.SortWithinRecords fits clear other spec is = subst IsVerb (sym is) tt
 as-stream given flatsep sep verb.Sparsify fits clear other spec is = subst IsVerb (sym is) tt
 as-stream given flatsep sep verb.Ssub fits clear other spec is = subst IsVerb (sym is) tt
+as-stream given flatsep sep verb.Stats1 fits clear other spec is = subst IsVerb (sym is) tt
+as-stream given flatsep sep verb.Step fits clear other spec is = subst IsVerb (sym is) tt
 as-stream given flatsep sep verb.Sub fits clear other spec is = subst IsVerb (sym is.1) tt
 as-stream given flatsep sep verb.Tac fits clear other spec is = subst IsVerb (sym is) tt
 as-stream given flatsep sep verb.Tail fits clear other spec is = subst IsVerb (sym is) tt
 as-stream given flatsep sep verb.Template fits clear other spec is = subst IsVerb (sym is) tt
+as-stream given flatsep sep verb.Top fits clear other spec is = subst IsVerb (sym is) tt
 as-stream given flatsep sep verb.Unflatten fits clear other spec is = subst IsVerb (sym is) (separator-some flatsep sep (last (codes "-s") given.options))
 as-stream given flatsep sep verb.Uniq fits clear other spec is = subst IsVerb (sym is) tt
 as-stream given flatsep sep verb.Unspace fits clear other spec is = subst IsVerb (sym is) tt
@@ -211,6 +224,7 @@ first-is verb.JsonParse given flatsep spec source is = absurd (false≢true sour
 first-is verb.JsonStringify given flatsep spec source is = absurd (false≢true source)
 first-is verb.Label given flatsep spec source is = absurd (false≢true source)
 first-is verb.LeastFrequent given flatsep spec source is = absurd (false≢true source)
+first-is verb.MergeFields given flatsep spec source is = absurd (false≢true source)
 first-is verb.MostFrequent given flatsep spec source is = absurd (false≢true source)
 first-is verb.Nothing given flatsep spec source is = absurd (false≢true source)
 first-is verb.Regularize given flatsep spec source is = absurd (false≢true source)
@@ -223,10 +237,13 @@ first-is verb.Sort given flatsep spec source is = absurd (false≢true source)
 first-is verb.SortWithinRecords given flatsep spec source is = absurd (false≢true source)
 first-is verb.Sparsify given flatsep spec source is = absurd (false≢true source)
 first-is verb.Ssub given flatsep spec source is = absurd (false≢true source)
+first-is verb.Stats1 given flatsep spec source is = absurd (false≢true source)
+first-is verb.Step given flatsep spec source is = absurd (false≢true source)
 first-is verb.Sub given flatsep spec source is = absurd (false≢true source)
 first-is verb.Tac given flatsep spec source is = absurd (false≢true source)
 first-is verb.Tail given flatsep spec source is = absurd (false≢true source)
 first-is verb.Template given flatsep spec source is = absurd (false≢true source)
+first-is verb.Top given flatsep spec source is = absurd (false≢true source)
 first-is verb.Unflatten given flatsep spec source is = absurd (false≢true source)
 first-is verb.Uniq given flatsep spec source is = absurd (false≢true source)
 first-is verb.Unspace given flatsep spec source is = absurd (false≢true source)
@@ -255,6 +272,7 @@ source-good verb.JsonParse given source good = absurd (false≢true source)
 source-good verb.JsonStringify given source good = absurd (false≢true source)
 source-good verb.Label given source good = absurd (false≢true source)
 source-good verb.LeastFrequent given source good = absurd (false≢true source)
+source-good verb.MergeFields given source good = absurd (false≢true source)
 source-good verb.MostFrequent given source good = absurd (false≢true source)
 source-good verb.Nothing given source good = absurd (false≢true source)
 source-good verb.Regularize given source good = absurd (false≢true source)
@@ -267,10 +285,13 @@ source-good verb.Sort given source good = absurd (false≢true source)
 source-good verb.SortWithinRecords given source good = absurd (false≢true source)
 source-good verb.Sparsify given source good = absurd (false≢true source)
 source-good verb.Ssub given source good = absurd (false≢true source)
+source-good verb.Stats1 given source good = absurd (false≢true source)
+source-good verb.Step given source good = absurd (false≢true source)
 source-good verb.Sub given source good = absurd (false≢true source)
 source-good verb.Tac given source good = absurd (false≢true source)
 source-good verb.Tail given source good = absurd (false≢true source)
 source-good verb.Template given source good = absurd (false≢true source)
+source-good verb.Top given source good = absurd (false≢true source)
 source-good verb.Unflatten given source good = absurd (false≢true source)
 source-good verb.Uniq given source good = absurd (false≢true source)
 source-good verb.Unspace given source good = absurd (false≢true source)
@@ -309,6 +330,7 @@ module _ (flatsep : List ℕ) (sep : 1 ≤ length flatsep) where
       stream-first : (spec : VerbSpec) (specs : List VerbSpec) → IsVerb spec → AreVerbs specs → AreSound (spec ∷ specs)
       stream-first (Stream spec) specs is rest = (is, rest)
       stream-first (Retain spec) specs is rest = rest
+      stream-first (Stat spec) specs is rest = rest
       stream-first (Seq seq) specs is rest = absurd is
 
   pub verbs-sound : (verbs : List VerbWords) (specs : List VerbSpec) → list_all is_verb verbs ≡ true → AreGoodAfter 0 verbs → clash_among true verbs ≡ None → AreVerbsOf flatsep verbs specs → AreSound specs

@@ -1,7 +1,8 @@
 -- Words of a verb that contradict each other.
-use Rattle.std.specs.Prelude.{ℕ, ◌%◌, ◌==◌, Bool, false, not, ◌&&◌, if◌then◌else◌, List, [], ◌∷◌, ◌++◌, length, Option, Some, None}
+use Rattle.std.specs.Prelude.{ℕ, ◌%◌, ◌==◌, nat_lt, min, max, Bool, false, not, ◌&&◌, if◌then◌else◌, List, [], ◌∷◌, ◌++◌, length, codes, Option, Some, None}
 use Rattle.std.specs.List.{list_any}
 use Rattle.std.specs.Str.{bytes_eq}
+use Rattle.cli_grammar.specs.Options.{has}
 use Rattle.cli_grammar.specs.Verbs.{row_of_verb}
 use Rattle.cli_grammar.specs.declared.given.Given.{Given}
 use Rattle.cli_grammar.specs.declared.given.VerbWords.{VerbWords}
@@ -9,7 +10,7 @@ use Rattle.cli_grammar.specs.declared.verb_table.VerbName.{VerbName}
 use Rattle.cli_grammar.specs.declared.verb_table.VerbName.TheVariants as verb
 use Rattle.mlr_event.specs.Reading.{is_among}
 use Rattle.mlr_spec.specs.Pairs.{are_distinct}
-use Rattle.cli_choices.specs.Choices.{own_word}
+use Rattle.cli_choices.specs.Choices.{names_after, number_or, own_word}
 use Rattle.cli_choices.specs.Names.{all_names}
 
 -- whether two names are options of a group
@@ -43,16 +44,41 @@ has_repeated given = not (are_distinct (all_names (own_word 0 given)))
 abbrev pub is_odd_rename : VerbWords → Bool
 is_odd_rename given = length (all_names (own_word 0 given)) % 2 == 1
 
--- whether the names of this verb contradict each other
+-- whether `top -a` has several names
+abbrev pub is_whole_of_several : VerbWords → Bool
+is_whole_of_several given = has (codes "-a") given.options && nat_lt 1 (length (names_after (codes "-f") given.options))
+
+-- whether the names of this verb contradict each other or an option
 abbrev pub names_contradict : VerbName → VerbWords → Bool
 names_contradict verb.Label given = has_repeated given
 names_contradict verb.Rename given = is_odd_rename given
+names_contradict verb.Top given = is_whole_of_several given
 names_contradict _ given = false
 
--- the number of the names of this verb, where they contradict each other
+-- the number of the first option with this name
+abbrev pub first_number : List ℕ → List Given → ℕ
+first_number name [] = 0
+first_number name (given ∷ options) = if bytes_eq given.name name then given.number else first_number name options
+
+-- the number of the first `-a` or the last `-f`, whichever is later
+abbrev pub later_of_whole : List Given → ℕ
+later_of_whole options = max (first_number (codes "-a") options) (number_or 0 (codes "-f") options)
+
+-- the number of the word that contradicts the names, or of the names themselves
+abbrev pub names_number : VerbName → VerbWords → ℕ
+names_number verb.Top given = later_of_whole given.options
+names_number _ given = given.own
+
+-- the number of the word where the names of this verb contradict each other or an option
 abbrev pub names_clash : VerbName → VerbWords → Option ℕ
-names_clash name given = if names_contradict name given then Some given.own else None
+names_clash name given = if names_contradict name given then Some (names_number name given) else None
+
+-- the lesser of two numbers, or the one that is there
+abbrev pub earlier : Option ℕ → Option ℕ → Option ℕ
+earlier (Some one) (Some other) = Some (min one other)
+earlier (Some one) None = Some one
+earlier None other = other
 
 -- the number of the first word that contradicts an earlier one
 abbrev pub clash_of : VerbWords → Option ℕ
-clash_of given = elim (option_clash given) [ Some number ↦ Some number | None ↦ names_clash given.verb given ]
+clash_of given = earlier (option_clash given) (names_clash given.verb given)

@@ -1,12 +1,12 @@
 -- The options of `having-fields`.
-use Rattle.std.specs.Prelude.{◌≡◌, ℕ, Bool, true, false, ◌||◌, List, [], ◌∷◌, ◌++◌, codes, if◌then◌else◌, Some, None}
+use Rattle.std.specs.Prelude.{◌≡◌, ℕ, Bool, true, false, ◌||◌, List, [], ◌∷◌, ◌++◌, codes, if◌then◌else◌}
 use Rattle.std.specs.Arc.{arc_value}
 use Rattle.std.specs.Str.{bytes_eq}
 use Rattle.cli_grammar.specs.declared.given.Given.{Given}
 use Rattle.cli_grammar.specs.declared.given.VerbWords.{VerbWords}
 use Rattle.verbs_pattern.specs.declared.having_fields.HavingFields.{HavingFields}
 use Rattle.verbs_pattern.specs.declared.having_fields.HavingFields.TheVariants.{AtLeast, AtMost, WhichAre, AllDefined, AnyDefined, AllMatching, AnyMatching}
-use Rattle.cli_choices.specs.Choices.{following}
+use Rattle.cli_choices.specs.Choices.{argument_of, following}
 use Rattle.cli_verbs.specs.Compiled.{IsCompiled}
 use Rattle.cli_choices.specs.Names.{names_in}
 use Rattle.cli_verbs.specs.PatternWords.{PatternWord, pattern_in}
@@ -14,10 +14,6 @@ use Rattle.cli_verbs.specs.PatternWords.{PatternWord, pattern_in}
 -- whether the word after the option with this name is a pattern
 abbrev pub is_pattern_option : List ℕ → Bool
 is_pattern_option name = bytes_eq name (codes "--all-matching") || bytes_eq name (codes "--any-matching")
-
--- the word after an option; the empty word where there is none
-abbrev pub argument_of : Given → List ℕ
-argument_of given = elim given.argument [ Some word ↦ word | None ↦ [] ]
 
 -- the pattern in the word after an option
 abbrev pub pattern_given : Given → PatternWord

@@ -15,6 +15,7 @@ pub mod Head
 pub mod JsonParse
 pub mod JsonStringify
 pub mod Label
+pub mod MergeFields
 pub mod OwnPattern
 pub mod PatternWords
 pub mod Rename

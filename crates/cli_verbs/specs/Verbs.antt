@@ -1,7 +1,7 @@
 -- The verb that words give.
 use Rattle.std.specs.Prelude.{◌≡◌, ℕ, Bool, false, ◌==◌, if◌then◌else◌, List, [], ◌∷◌, length, codes}
 use Rattle.verb_specs.specs.declared.verb_spec.VerbSpec.{VerbSpec}
-use Rattle.verb_specs.specs.declared.verb_spec.VerbSpec.TheVariants.{Stream, Retain, Seq}
+use Rattle.verb_specs.specs.declared.verb_spec.VerbSpec.TheVariants.{Stream, Retain, Seq, Stat}
 use Rattle.cli_grammar.specs.Options.{has}
 use Rattle.cli_grammar.specs.declared.given.VerbWords.{VerbWords}
 use Rattle.cli_grammar.specs.declared.verb_table.VerbName.{VerbName}
@@ -15,7 +15,9 @@ use Rattle.verbs_pattern.specs.declared.rename.Rename.{Rename}
 use Rattle.verbs_pattern.specs.declared.sub.Sub.{Sub}
 use Rattle.verbs_seq.specs.Seq.{IsSoundSeq}
 use Rattle.verbs_retain.specs.declared.spec.Spec.TheVariants as retain
+use Rattle.verbs_stat.specs.declared.spec.Spec.TheVariants as stat
 use Rattle.verbs_stream.specs.declared.spec.Spec.TheVariants as stream
+use Rattle.verbs_summary.specs.declared.merge_fields.MergeFields.{MergeFields}
 use Rattle.cli_retain.specs.Count.{count_of}
 use Rattle.cli_retain.specs.CountDistinct.{count_distinct_of}
 use Rattle.cli_retain.specs.CountSimilar.{count_similar_of}
@@ -25,6 +27,9 @@ use Rattle.cli_retain.specs.Sort.{sort_of}
 use Rattle.cli_retain.specs.Tail.{tail_of}
 use Rattle.cli_retain.specs.Uniq.{uniq_of}
 use Rattle.cli_retain.specs.Unsparsify.{unsparsify_of}
+use Rattle.cli_stat.specs.Stats1.{stats1_of}
+use Rattle.cli_stat.specs.Step.{step_of}
+use Rattle.cli_stat.specs.Top.{top_of}
 use Rattle.cli_verbs.specs.PatternWords.{PatternWord, AreGoodPatterns, IsFirstRefused}
 use Rattle.cli_verbs.specs.Cat.{cat_of}
 use Rattle.cli_verbs.specs.Decimate.{decimate_of}
@@ -50,6 +55,7 @@ use Rattle.cli_verbs.specs.Cut.{cut_patterns, IsCutOf}
 use Rattle.cli_verbs.specs.Grep.{grep_patterns, IsGrepOf}
 use Rattle.cli_verbs.specs.Gsub.{IsGsubOf}
 use Rattle.cli_verbs.specs.HavingFields.{having_patterns, IsHavingFieldsOf}
+use Rattle.cli_verbs.specs.MergeFields.{merge_patterns, IsMergeFieldsOf}
 use Rattle.cli_verbs.specs.Rename.{rename_patterns, IsRenameOf}
 use Rattle.cli_verbs.specs.Sub.{IsSubOf}
 use Rattle.cli_verbs.specs.Seqgen.{seqgen_of, IsRefusedSeq}
@@ -70,6 +76,10 @@ IsStreamGsub given spec = (options : Gsub) × (spec ≡ Stream (stream.Gsub opti
 -- the spec is `having-fields` with these options
 abbrev pub IsStreamHavingFields : VerbWords → VerbSpec → Type 0
 IsStreamHavingFields given spec = (options : HavingFields) × (spec ≡ Stream (stream.HavingFields options)) × IsHavingFieldsOf given options
+
+-- the spec is `merge-fields` with these options
+abbrev pub IsStatMergeFields : VerbWords → VerbSpec → Type 0
+IsStatMergeFields given spec = (options : MergeFields) × (spec ≡ Stat (stat.MergeFields options)) × IsMergeFieldsOf given options
 
 -- the spec is `rename` with these options
 abbrev pub IsStreamRename : VerbWords → VerbSpec → Type 0
@@ -102,6 +112,7 @@ IsVerbNamed verb.JsonParse flatsep given spec = spec ≡ Stream (stream.JsonPars
 IsVerbNamed verb.JsonStringify flatsep given spec = spec ≡ Stream (stream.JsonStringify (json_stringify_of given))
 IsVerbNamed verb.Label flatsep given spec = spec ≡ Stream (stream.Label (label_of given))
 IsVerbNamed verb.LeastFrequent flatsep given spec = spec ≡ Retain (retain.LeastFrequent (frequent_of given))
+IsVerbNamed verb.MergeFields flatsep given spec = IsStatMergeFields given spec
 IsVerbNamed verb.MostFrequent flatsep given spec = spec ≡ Retain (retain.MostFrequent (frequent_of given))
 IsVerbNamed verb.Nothing flatsep given spec = spec ≡ Stream stream.Nothing
 IsVerbNamed verb.Regularize flatsep given spec = spec ≡ Stream stream.Regularize
@@ -115,10 +126,13 @@ IsVerbNamed verb.Sort flatsep given spec = spec ≡ Retain (retain.Sort (sort_of
 IsVerbNamed verb.SortWithinRecords flatsep given spec = spec ≡ Stream (stream.SortWithinRecords (sort_within_records_of given))
 IsVerbNamed verb.Sparsify flatsep given spec = spec ≡ Stream (stream.Sparsify (sparsify_of given))
 IsVerbNamed verb.Ssub flatsep given spec = spec ≡ Stream (stream.Ssub (ssub_of given))
+IsVerbNamed verb.Stats1 flatsep given spec = spec ≡ Stat (stat.Stats1 (stats1_of given))
+IsVerbNamed verb.Step flatsep given spec = spec ≡ Stat (stat.Step (step_of given))
 IsVerbNamed verb.Sub flatsep given spec = IsStreamSub given spec
 IsVerbNamed verb.Tac flatsep given spec = spec ≡ Retain retain.Tac
 IsVerbNamed verb.Tail flatsep given spec = spec ≡ Retain (retain.Tail (tail_of given))
 IsVerbNamed verb.Template flatsep given spec = spec ≡ Stream (stream.Template (template_of given))
+IsVerbNamed verb.Top flatsep given spec = spec ≡ Stat (stat.Top (top_of given))
 IsVerbNamed verb.Unflatten flatsep given spec = spec ≡ Stream (stream.Unflatten (unflatten_of flatsep given))
 IsVerbNamed verb.Uniq flatsep given spec = spec ≡ Retain (retain.Uniq (uniq_of given))
 IsVerbNamed verb.Unspace flatsep given spec = spec ≡ Stream (stream.Unspace (unspace_of given))
@@ -134,6 +148,7 @@ verb_patterns verb.Cut given = cut_patterns given
 verb_patterns verb.Grep given = grep_patterns given
 verb_patterns verb.Gsub given = own_patterns given
 verb_patterns verb.HavingFields given = having_patterns given
+verb_patterns verb.MergeFields given = merge_patterns given
 verb_patterns verb.Rename given = rename_patterns given
 verb_patterns verb.Sub given = own_patterns given
 verb_patterns _ given = []
@@ -164,4 +179,5 @@ patterns_so_far verb.Grep given = own_so_far (has (codes "-i") given.options) gi
 patterns_so_far verb.Gsub given = own_so_far false given
 patterns_so_far verb.Sub given = own_so_far false given
 patterns_so_far verb.HavingFields given = having_patterns given
+patterns_so_far verb.MergeFields given = merge_patterns given
 patterns_so_far _ given = []

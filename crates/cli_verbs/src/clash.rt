@@ -2,9 +2,9 @@
 ghost use Rattle.std.specs.Prelude.{◌≡◌, [], IfOk, map};
 ghost use Rattle.std.specs.List.{list_any};
 ghost use Rattle.mlr_event.specs.Reading.{is_among};
-ghost use Rattle.cli_verbs.specs.Clash.{are_rivals, clash_after, clash_of, exclusive_groups, has_repeated, is_odd_rename, names_clash, option_clash, are_in};
+ghost use Rattle.cli_verbs.specs.Clash.{are_rivals, clash_after, clash_of, earlier, exclusive_groups, first_number, has_repeated, is_odd_rename, is_whole_of_several, later_of_whole, names_clash, names_contradict, names_number, option_clash, are_in};
 
-use cli_choices::all_names;
+use cli_choices::{all_names, names_after, number_or};
 use cli_grammar::{Given, Group, VerbName, VerbWords};
 use mlr_record::split::count_parts;
 use mlr_spec::NoMemory;
@@ -15,9 +15,18 @@ use verbs_fields::are_distinct;
 pub fn clash_of(alloc: Global, given: &VerbWords) -> Result<Option<usize>, NoMemory>
     ensures { IfOk result (λ number. number ≡ clash_of given.now) }
 {
-    match option_clash(given) {
-        Some(number) => Ok(Some(number)),
-        None => names_clash(alloc, given),
+    let names = names_clash(alloc, given)?;
+    Ok(earlier(option_clash(given), names))
+}
+
+/// The lesser of two numbers, or the one that is there.
+fn earlier(one: Option<usize>, other: Option<usize>) -> Option<usize>
+    ensures { result ≡ earlier one other }
+{
+    match (one, other) {
+        (Some(one), Some(other)) => Some(one.min(other)),
+        (Some(one), None) => Some(one),
+        (None, other) => other,
     }
 }
 
@@ -100,16 +109,37 @@ fn is_among(names: &[&[u8]], name: &[u8]) -> bool
     false
 }
 
-/// The number of the names of `label` or `rename`, where they contradict each other.
+/// The number of the word where the names of `label`, `rename` or `top` contradict each other or an option.
 fn names_clash(alloc: Global, given: &VerbWords) -> Result<Option<usize>, NoMemory>
     ensures { IfOk result (λ number. number ≡ names_clash given.now.verb given.now) }
 {
-    let clashes = match given.verb {
-        VerbName::Label => has_repeated(alloc, given)?,
-        VerbName::Rename => is_odd_rename(given),
-        _ => false,
-    };
-    Ok(if clashes { Some(given.own) } else { None })
+    Ok(if names_contradict(alloc, given)? {
+        Some(names_number(given))
+    } else {
+        None
+    })
+}
+
+/// Whether the names contradict each other or an option.
+fn names_contradict(alloc: Global, given: &VerbWords) -> Result<bool, NoMemory>
+    ensures { IfOk result (λ contradict. contradict ≡ names_contradict given.now.verb given.now) }
+{
+    match given.verb {
+        VerbName::Label => has_repeated(alloc, given),
+        VerbName::Rename => Ok(is_odd_rename(given)),
+        VerbName::Top => is_whole_of_several(alloc, given),
+        _ => Ok(false),
+    }
+}
+
+/// The number of the word that contradicts the names, or of the names themselves.
+fn names_number(given: &VerbWords) -> usize
+    ensures { result ≡ names_number given.now.verb given.now }
+{
+    match given.verb {
+        VerbName::Top => later_of_whole(given.options.as_slice()),
+        _ => given.own,
+    }
 }
 
 /// Whether a name repeats.
@@ -125,4 +155,31 @@ fn is_odd_rename(given: &VerbWords) -> bool
     ensures { result ≡ is_odd_rename given.now }
 {
     count_parts(b",", given.word(0)) % 2 == 1
+}
+
+/// Whether `top -a` has several names.
+fn is_whole_of_several(alloc: Global, given: &VerbWords) -> Result<bool, NoMemory>
+    ensures { IfOk result (λ clashes. clashes ≡ is_whole_of_several given.now) }
+{
+    let names = names_after(alloc, given, b"-f")?;
+    Ok(given.has(b"-a") && names.len() > 1)
+}
+
+/// The number of the first `-a` or the last `-f`, whichever is later.
+fn later_of_whole(options: &[Given]) -> usize
+    ensures { result ≡ later_of_whole options.now }
+{
+    first_number(options, b"-a").max(number_or(options, b"-f", 0))
+}
+
+/// The number of the first of these options with this name; 0 where there is none.
+fn first_number(options: &[Given], name: &[u8]) -> usize
+    ensures { result ≡ first_number name.now options.now }
+{
+    for given in options {
+        if given.name.as_slice() == name {
+            return given.number;
+        }
+    }
+    0
 }

@@ -3,12 +3,12 @@ ghost use Rattle.std.specs.Prelude.{◌≡◌, ◌∷◌, [], IfErr, IfOk};
 ghost use Rattle.std.specs.Arc.{arc_value};
 ghost use Rattle.cli_verbs.specs.Compiled.{IsCompiled};
 ghost use Rattle.cli_verbs.specs.Faults.{IfRefused};
-ghost use Rattle.cli_verbs.specs.HavingFields.{argument_of, having_names, having_patterns, is_pattern_option, pattern_given, patterns_among, patterns_given, IsHavingBy, IsHavingFieldsOf, IsHavingIn, IsMatchingBy};
+ghost use Rattle.cli_verbs.specs.HavingFields.{having_names, having_patterns, is_pattern_option, pattern_given, patterns_among, patterns_given, IsHavingBy, IsHavingFieldsOf, IsHavingIn, IsMatchingBy};
 ghost use Rattle.cli_verbs.specs.PatternWords.{AreGoodPatterns, IsFirstRefused};
 
 use crate::fault::Fault;
 use crate::pattern::pattern_of;
-use cli_choices::{following, names_in};
+use cli_choices::{argument_of, following, names_in};
 use cli_grammar::{Given, VerbWords};
 use mlr_event::Names;
 use mlr_pattern::Pattern;
@@ -103,16 +103,6 @@ fn pattern_given(alloc: Global, given: &Given) -> Result<Arc<Pattern>, Fault>
     match pattern_of(alloc, following(given.number), false, word) {
         Ok(pattern) => Ok(pattern),
         Err(fault) => Err(fault),
-    }
-}
-
-/// The word after an option; the empty word where there is none.
-fn argument_of(given: &Given) -> &[u8]
-    ensures { result.now ≡ argument_of given.now }
-{
-    match &given.argument {
-        Some(word) => word.as_slice(),
-        None => &[],
     }
 }
 

@@ -17,6 +17,7 @@ mod head;
 mod json_parse;
 mod json_stringify;
 mod label;
+mod merge_fields;
 mod own_pattern;
 mod partial;
 mod pattern;

@@ -6,6 +6,7 @@ ghost use Rattle.cli_verbs.specs.Verbs.{own_so_far, patterns_so_far};
 
 use crate::fault::Fault;
 use crate::having_fields::check_patterns;
+use crate::merge_fields::check_merge;
 use crate::own_pattern::own_pattern;
 use cli_grammar::{VerbName, VerbWords};
 use std::alloc::Global;
@@ -21,6 +22,7 @@ pub fn partial_fault(alloc: Global, given: &VerbWords) -> Result<(), Fault>
         VerbName::Grep => check_own(alloc, given, given.has(b"-i")),
         VerbName::Gsub | VerbName::Sub => check_own(alloc, given, false),
         VerbName::HavingFields => check_patterns(alloc, given.options.as_slice()),
+        VerbName::MergeFields => check_merge(alloc, given),
         _ => Ok(()),
     }
 }

@@ -18,6 +18,7 @@ use crate::head::head;
 use crate::json_parse::json_parse;
 use crate::json_stringify::json_stringify;
 use crate::label::label;
+use crate::merge_fields::merge_fields;
 use crate::rename::rename;
 use crate::reorder::reorder;
 use crate::repeat::repeat;
@@ -41,9 +42,13 @@ use cli_retain::sort::sort;
 use cli_retain::tail::tail;
 use cli_retain::uniq::uniq;
 use cli_retain::unsparsify::unsparsify;
+use cli_stat::stats1::stats1;
+use cli_stat::step::step;
+use cli_stat::top::top;
 use std::alloc::Global;
 use verb_specs::VerbSpec;
 use verbs_retain::Spec as RetainSpec;
+use verbs_stat::Spec as StatSpec;
 use verbs_stream::Spec;
 
 /// The verb that words give, with its options. Names are flattened with this separator by default.
@@ -82,6 +87,9 @@ pub fn verb_of(alloc: Global, flatsep: &[u8], given: &VerbWords) -> Result<VerbS
         VerbName::LeastFrequent => return Ok(VerbSpec::Retain(RetainSpec::LeastFrequent(frequent(
             alloc, given,
         )?))),
+        VerbName::MergeFields => return Ok(VerbSpec::Stat(StatSpec::MergeFields(merge_fields(
+            alloc, given,
+        )?))),
         VerbName::MostFrequent => return Ok(VerbSpec::Retain(RetainSpec::MostFrequent(frequent(
             alloc, given,
         )?))),
@@ -97,10 +105,13 @@ pub fn verb_of(alloc: Global, flatsep: &[u8], given: &VerbWords) -> Result<VerbS
         VerbName::SortWithinRecords => Spec::SortWithinRecords(sort_within_records(given)),
         VerbName::Sparsify => Spec::Sparsify(sparsify(alloc, given)?),
         VerbName::Ssub => Spec::Ssub(ssub(alloc, given)?),
+        VerbName::Stats1 => return Ok(VerbSpec::Stat(StatSpec::Stats1(stats1(alloc, given)?))),
+        VerbName::Step => return Ok(VerbSpec::Stat(StatSpec::Step(step(alloc, given)?))),
         VerbName::Sub => Spec::Sub(sub(alloc, given)?),
         VerbName::Tac => return Ok(VerbSpec::Retain(RetainSpec::Tac)),
         VerbName::Tail => return Ok(VerbSpec::Retain(RetainSpec::Tail(tail(alloc, given)?))),
         VerbName::Template => Spec::Template(template(alloc, given)?),
+        VerbName::Top => return Ok(VerbSpec::Stat(StatSpec::Top(top(alloc, given)?))),
         VerbName::Unflatten => Spec::Unflatten(unflatten(alloc, flatsep, given)?),
         VerbName::Uniq => return Ok(VerbSpec::Retain(RetainSpec::Uniq(uniq(alloc, given)?))),
         VerbName::Unspace => Spec::Unspace(unspace(alloc, given)?),

@@ -5,14 +5,16 @@ use Rattle.mlr_event.specs.Verb.{Verb}
 use Rattle.verbs_seq.specs.Seq.{IsSoundSeq}
 use Rattle.verbs_base.specs.Records.{verb_of}
 use Rattle.verbs_retain.specs.Meaning as retain
+use Rattle.verbs_stat.specs.Meaning as stat
 use Rattle.verbs_stream.specs.Meaning as stream
 use Rattle.verb_specs.specs.declared.verb_spec.VerbSpec.{VerbSpec}
-use Rattle.verb_specs.specs.declared.verb_spec.VerbSpec.TheVariants.{Stream, Retain, Seq}
+use Rattle.verb_specs.specs.declared.verb_spec.VerbSpec.TheVariants.{Stream, Retain, Stat, Seq}
 
 -- a verb that isn't a source, with options that words may give
 abbrev pub IsVerb : VerbSpec → Type 0
 IsVerb (Stream spec) = stream.IsSound spec
 IsVerb (Retain spec) = Unit {0}
+IsVerb (Stat spec) = Unit {0}
 IsVerb (Seq seq) = ⊥
 
 abbrev pub AreVerbs : List VerbSpec → Type 0
@@ -23,6 +25,7 @@ AreVerbs (spec ∷ specs) = IsVerb spec × AreVerbs specs
 abbrev pub IsVerbOrSource : VerbSpec → Type 0
 IsVerbOrSource (Stream spec) = stream.IsSound spec
 IsVerbOrSource (Retain spec) = Unit {0}
+IsVerbOrSource (Stat spec) = Unit {0}
 IsVerbOrSource (Seq seq) = Unit {0}
 
 -- the first verb of a plan may be a source
@@ -30,12 +33,14 @@ abbrev pub AreSound : List VerbSpec → Type 0
 AreSound [] = Unit {0}
 AreSound (Stream spec ∷ specs) = stream.IsSound spec × AreVerbs specs
 AreSound (Retain spec ∷ specs) = AreVerbs specs
+AreSound (Stat spec ∷ specs) = AreVerbs specs
 AreSound (Seq seq ∷ specs) = IsSoundSeq seq × AreVerbs specs
 
 -- the verb of these options with the records of its left file; a source is none
 abbrev pub verb_with : VerbSpec → List Event → List Verb
 verb_with (Stream spec) left = verb_of (stream.meaning_of spec) ∷ []
 verb_with (Retain spec) left = verb_of (retain.meaning_of spec) ∷ []
+verb_with (Stat spec) left = verb_of (stat.meaning_of spec) ∷ []
 verb_with (Seq seq) left = []
 
 -- the verbs without a source, each with the records of its left file
@@ -56,6 +61,7 @@ verbs_of specs = verbs_with specs []
 abbrev pub AreSame : VerbSpec → VerbSpec → Type 0
 AreSame (Stream spec) (Stream copy) = (stream.meaning_of copy ≡ stream.meaning_of spec) × (stream.IsSound spec → stream.IsSound copy)
 AreSame (Retain spec) (Retain copy) = retain.meaning_of copy ≡ retain.meaning_of spec
+AreSame (Stat spec) (Stat copy) = stat.meaning_of copy ≡ stat.meaning_of spec
 AreSame (Seq seq) (Seq copy) = copy ≡ seq
 AreSame _ _ = ⊥
 
@@ -63,6 +69,7 @@ AreSame _ _ = ⊥
 abbrev pub IsShort : VerbSpec → Type 0
 IsShort (Stream spec) = stream.IsShort spec
 IsShort (Retain spec) = retain.IsShort spec
+IsShort (Stat spec) = ⊥
 IsShort (Seq seq) = length seq.field ≤ 16
 
 abbrev pub AreSameVerbs : List VerbSpec → List VerbSpec → Type 0

@@ -1,3 +1,4 @@
 mod Parts
 mod Moved
 mod Filled
+mod SortedInts

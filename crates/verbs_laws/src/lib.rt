@@ -2,7 +2,9 @@
 #![tactic(auto)]
 
 mod groups;
+mod top;
 mod unsparsify;
 
 pub use groups::group_laws;
+pub use top::top_law;
 pub use unsparsify::{unsparsify_fields_law, unsparsify_law};

@@ -1,19 +1,15 @@
 -- `cut`: the fields that it keeps.
 use Rattle.std.specs.Prelude.{◌≡◌, ℕ, Bool, true, false, not, List, if◌then◌else◌}
-use Rattle.std.specs.List.{filter, list_any}
+use Rattle.std.specs.List.{filter}
 use Rattle.mlr_spec.specs.Tree.{Tree}
 use Rattle.mlr_pattern.specs.Several.{patterns_in}
 use Rattle.regex.specs.Patterns.{Re}
 use Rattle.verbs_base.specs.Choosing.{dropped, kept, picked}
 use Rattle.verbs_base.specs.Records.{Fields}
-use Rattle.verbs_pattern.specs.Matching.{has_match}
+use Rattle.verbs_pattern.specs.Matching.{any_matches}
 use Rattle.verbs_pattern.specs.declared.cut.Cut.{Cut}
 use Rattle.verbs_pattern.specs.declared.cut.CutFields.{CutFields}
 use Rattle.verbs_pattern.specs.declared.cut.CutFields.TheVariants.{Names, Patterns}
-
--- whether one of the patterns matches somewhere in the text
-abbrev pub any_matches : List Re → List ℕ → Bool
-any_matches patterns text = list_any (λ re. has_match re text) patterns
 
 -- whether a field is kept: its name matches one of the patterns, or with `complement` none of them
 abbrev pub is_kept : List Re → Bool → List ℕ × Tree → Bool

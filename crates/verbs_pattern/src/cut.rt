@@ -4,16 +4,16 @@ ghost use Rattle.std.specs.Arc.{arc_value};
 ghost use Rattle.regex.specs.Patterns.{Re};
 ghost use Rattle.regex.specs.Bytes.{matcher_pattern, regex_pattern};
 ghost use Rattle.mlr_record.specs.Fields.{pairs_of};
-ghost use Rattle.verbs_pattern.specs.Cut.{any_matches, AreSameFields, ArePatternsOf, cut, kept_matching};
+ghost use Rattle.verbs_pattern.specs.Cut.{AreSameFields, ArePatternsOf, cut, kept_matching};
 ghost use Rattle.verbs_pattern.specs.Matching.{has_match};
 
+use crate::matchers::{any_matches, matchers_of};
 use crate::searching::{Searches, Searching, search_each};
 use mlr_event::{Events, Names};
-use mlr_pattern::{Matcher, Pattern, Patterns};
+use mlr_pattern::{Matcher, Patterns};
 use mlr_record::{Field, Record};
 use mlr_spec::NoMemory;
 use std::alloc::Global;
-use std::sync::Arc;
 use verbs_base::{PerRecord, drop_named, keep_named, pick_named};
 
 /// The options of `cut`.
@@ -171,38 +171,4 @@ fn keep_field(
         kept.push(field)?;
     }
     Ok(())
-}
-
-/// Whether one of the patterns matches somewhere in the text.
-fn any_matches(matchers: &mut [Matcher<'_>], text: &[u8]) -> bool
-    ensures found { result ≡ any_matches (map matcher_pattern matchers.old) text.now }
-    ensures same { map matcher_pattern matchers.new ≡ map matcher_pattern matchers.old }
-{
-    for place in 0..matchers.len() {
-        if is_matched_by(matchers, place, text) {
-            return true;
-        }
-    }
-    false
-}
-
-fn is_matched_by(matchers: &mut [Matcher<'_>], place: usize, text: &[u8]) -> bool
-    requires { place < length matchers.old }
-    ensures found { (re : Re)
-        → result ≡ has_match (slice_index_or (map matcher_pattern matchers.old) place re) text.now }
-    ensures same { map matcher_pattern matchers.new ≡ map matcher_pattern matchers.old }
-{
-    matchers[place].is_match(text)
-}
-
-/// A matcher for each pattern.
-fn matchers_of(alloc: Global, patterns: &[Arc<Pattern>]) -> Result<Vec<Matcher<'_>>, NoMemory>
-    ensures { IfOk result (λ made. map matcher_pattern made.items
-        ≡ map (λ pattern. regex_pattern (arc_value pattern)) patterns.now) }
-{
-    let mut matchers = Vec::with_capacity(alloc, patterns.len())?;
-    for place in 0..patterns.len() {
-        matchers.push(patterns[place].matcher(alloc)?)?;
-    }
-    Ok(matchers)
 }

@@ -1,4 +1,4 @@
-use Rattle.std.proofs.Common.{◌≡◌, ◌++◌, ◌∷◌, [], sym, subst}
+use Rattle.std.proofs.Common.{◌++◌, ◌∷◌, [], sym, subst}
 use Rattle.chain_core.specs.Verbs.{AreNew}
 use Rattle.chain_core.proofs.New.{new-following, one-verb}
 use Rattle.chain_core.proofs.chain.push_new.Goals as goal

@@ -1,0 +1,4 @@
+pub mod Lists
+pub mod Stats1
+pub mod Step
+pub mod Top

@@ -1,0 +1,4 @@
+pub mod Accumulators
+pub mod Outputs
+pub mod Steppers
+pub mod Values

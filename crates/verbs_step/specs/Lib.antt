@@ -1,0 +1,4 @@
+pub mod Step
+pub mod Kept
+pub mod Made
+pub mod Represents

@@ -1,0 +1,5 @@
+pub mod Crosses
+pub mod Keeping
+pub mod Meeting
+pub mod Merging
+pub mod Shortening

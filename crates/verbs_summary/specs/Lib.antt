@@ -1,0 +1,5 @@
+pub mod KeptOfGroup
+pub mod MergeFields
+pub mod Merging
+pub mod Shortened
+pub mod Stats1
