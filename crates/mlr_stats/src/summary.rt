@@ -3,7 +3,7 @@ ghost use Rattle.std.specs.Prelude.{◌≡◌, ◌++◌, ◌∷◌, [], Bool, Li
 ghost use Rattle.mlr_spec.specs.Order.{order_of};
 ghost use Rattle.mlr_spec.specs.declared.arith.Order.TheVariants.{Mixed};
 ghost use Rattle.mlr_sort.specs.InOrder.{in_order};
-ghost use Rattle.mlr_spec.specs.Pairs.{put_each};
+ghost use Rattle.mlr_record.specs.Fields.{pairs_of};
 ghost use Rattle.mlr_spec.specs.Tree.{Tree};
 ghost use Rattle.mlr_value.specs.Value.{tree_of};
 ghost use Rattle.stat_base.specs.Values.{sum_of};
@@ -20,7 +20,7 @@ use crate::needs::Needs;
 use crate::statistics::Statistics;
 use group_state::count_value;
 use mlr_groups::next_count;
-use mlr_record::Record;
+use mlr_record::Field;
 use mlr_spec::{NoMemory, Op};
 use mlr_value::{Bytes, IntValue, Value, arith};
 use stat_base::Accumulator;
@@ -78,7 +78,7 @@ impl Summary {
         add_more(alloc, needs, &mut self.more, value)
     }
 
-    /// Sorts the values that are kept, if any are. It comes before `put_all`. It allocates to sort.
+    /// Sorts the values that are kept, if any are. It comes before `append_all`. It allocates to sort.
     pub fn sort(&mut self) -> Result<(), NoMemory>
         ensures { OnOk result ((accumulators : List SpecAccumulator) (values : List Tree)
             → Summarizes accumulators values self.old → Arranges accumulators values self.new) }
@@ -86,39 +86,41 @@ impl Summary {
         sort_more(&mut self.more)
     }
 
-    /// Puts the statistics of the values, which are sorted, into a record, in fields that are named after this field.
-    pub fn put_all(
+    /// Appends the statistics of the values, which are sorted, as fields that are named after this field.
+    pub fn append_all(
         &self,
         alloc: Global,
         statistics: &Statistics,
         name: &[u8],
-        into: &mut Record,
+        into: &mut Vec<Field>,
     ) -> Result<(), NoMemory>
         ensures { OnOk result ((values : List Tree) → Arranges statistics.now values self.now
-            → into.new ≡ put_each into.old (fields_of statistics.now name.now values)) }
+            → pairs_of into.new.items
+            ≡ pairs_of into.old.items ++ fields_of statistics.now name.now values) }
     {
         for accumulator in statistics.accumulators() {
-            self.put(alloc, *accumulator, name, into)?;
+            self.append(alloc, *accumulator, name, into)?;
         }
         Ok(())
     }
 
-    /// Puts a statistic of the values, which are sorted, into a record.
-    fn put(
+    /// Appends a statistic of the values, which are sorted.
+    fn append(
         &self,
         alloc: Global,
         accumulator: Accumulator,
         name: &[u8],
-        into: &mut Record,
+        into: &mut Vec<Field>,
     ) -> Result<(), NoMemory>
         ensures { OnOk result ((needs : SpecNeeds) (values : List Tree)
             → KeepsAll needs (in_order (order_of Mixed)) values self.now
             → serves needs accumulator ≡ true
-            → into.new ≡ put_each into.old (fields_of (accumulator ∷ []) name.now values)) }
+            → pairs_of into.new.items
+            ≡ pairs_of into.old.items ++ fields_of (accumulator ∷ []) name.now values) }
     {
-        let output = output_of(alloc, name, accumulator)?;
+        let name = output_of(alloc, name, accumulator)?;
         let value = self.statistic(alloc, accumulator)?;
-        into.put(output.as_slice(), value)?;
+        into.push(Field { name, value })?;
         Ok(())
     }
 

@@ -6,7 +6,7 @@ use Rattle.std.specs.Option.{option_map, unwrap_or}
 use Rattle.std.proofs.lemmas.List.{append-nil, map-append, take_more}
 use Rattle.std.proofs.lemmas.List.Elements.{filter-append, filter_map-append}
 use Rattle.std.proofs.lemmas.Option.{get_or_from_slice_get, slice_get-map, slice_get_within}
-use Rattle.mlr_spec.specs.Pairs.{put_at, put_each, value_at}
+use Rattle.mlr_spec.specs.Pairs.{put_each, value_at}
 use Rattle.mlr_spec.specs.Tree.{Tree}
 use Rattle.mlr_spec.proofs.Flattening.{drop-more}
 use Rattle.stat_base.specs.Values.{values_of}
@@ -72,20 +72,16 @@ named-at names found places i place are at =
     told None p eo ep e = absurd (let x : None ≡ Some p = e in cc)
     told (Some name) p eo ep e = let same : Some name ≡ p = cc in (name, eo, ep ∙ sym same)
 
-put-append : (fields more rest : Fields) → put_each fields (more ++ rest) ≡ put_each (put_each fields more) rest
-put-append fields [] rest = refl
-put-append fields (pair ∷ more) rest = put-append (put_at pair.0 pair.1 fields) more rest
-
 -- the statistics of one name and of those after it
 pub made-next : (options : Options) (names : List (List ℕ)) (given : List Fields) (i : ℕ) (name : List ℕ) (into after : Fields) → slice_get names i ≡ Some name
-    → after ≡ put_each into (statistics_made options (name ∷ []) given)
-    → put_each after (statistics_made options (drop (i + 1) names) given) ≡ put_each into (statistics_made options (drop i names) given)
+    → after ≡ into ++ statistics_made options (name ∷ []) given
+    → after ++ statistics_made options (drop (i + 1) names) given ≡ into ++ statistics_made options (drop i names) given
 made-next options names given i name into after at is =
     let own = fields_of options.statistics name (values_of name given) in
     let rest = statistics_made options (drop (i + 1) names) given in
-    ap (λ fields. put_each fields rest) (is ∙ ap (put_each into) (append-nil own))
-    ∙ sym (put-append into own rest)
-    ∙ ap (λ names. put_each into (statistics_made options names given)) (sym (drop-more names i name at))
+    ap (λ fields. fields ++ rest) (is ∙ ap (λ fields. into ++ fields) (append-nil own))
+    ∙ append_assoc into own rest
+    ∙ ap (λ names. into ++ statistics_made options names given) (sym (drop-more names i name at))
 
 -- the grouping fields of the first record, with one more record
 pub first-none : (groups : List (List ℕ)) (rows : List Row) (row : Row) → first_of groups rows ≡ None → first_of groups (rows ++ row ∷ []) ≡ Some (picked groups row.0)

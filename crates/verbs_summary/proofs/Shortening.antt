@@ -1,5 +1,5 @@
 -- The short names of fields, and what is kept for each of them, with one more field.
-use Rattle.std.proofs.Common.{◌≡◌, ℕ, zero, suc, ◌+◌, ◌<◌, Bool, true, false, not, cond, if◌then◌else◌, List, [], ◌∷◌, ◌++◌, drop, take, length, set, Option, Some, None, get_or, slice_get, refl, ap, sym, subst, ◌∙◌, inl, inr, arith}
+use Rattle.std.proofs.Common.{◌≡◌, ℕ, zero, suc, ◌+◌, ◌<◌, Bool, true, false, not, cond, if◌then◌else◌, List, [], ◌∷◌, ◌++◌, drop, take, length, set, Option, Some, None, get_or, slice_get, refl, ap, sym, subst, ◌∙◌, append_assoc, inl, inr, arith}
 use Rattle.std.specs.List.{cons_option, filter, filter_map, flat_map}
 use Rattle.std.specs.Str.{bytes_eq}
 use Rattle.std.proofs.lemmas.Bool.{cases_Bool, or_parts, true≢false}
@@ -12,8 +12,7 @@ use Rattle.mlr_groups.specs.Keys.{entered}
 use Rattle.mlr_groups.proofs.Once.{AreApart, any-at, any-once, each_once-apart, each_once-known, each_once-new, eq-swap}
 use Rattle.mlr_record.specs.Fields.{pair_of, pairs_of}
 use Rattle.mlr_record.specs.declared.record.Field.{Field}
-use Rattle.mlr_spec.proofs.Flattening.{drop-more, put_each-append}
-use Rattle.mlr_spec.specs.Pairs.{put_each}
+use Rattle.mlr_spec.proofs.Flattening.{drop-more}
 use Rattle.mlr_spec.specs.Tree.{Tree}
 use Rattle.mlr_stats.specs.Kept.{Summarizes}
 use Rattle.mlr_stats.specs.declared.summary.Summary.{Summary}
@@ -165,11 +164,11 @@ fields-more fields i field below is =
     take_more (pairs_of fields) i (pair_of field) (omega (arith, below, length-map fields pair_of))
     ∙ ap (λ pair. take i (pairs_of fields) ++ pair ∷ []) (get_or-map pair_of fields i field (pair_of field) below ∙ ap pair_of (sym is))
 
--- what is put for one name and for those after it
-pub made-next : (made : List ℕ → Fields) (names : List (List ℕ)) (i : ℕ) (name : List ℕ) (into after : Fields) → slice_get names i ≡ Some name → after ≡ put_each into (made name)
-    → put_each after (flat_map made (drop (i + 1) names)) ≡ put_each into (flat_map made (drop i names))
+-- what is made for one name and for those after it
+pub made-next : (made : List ℕ → Fields) (names : List (List ℕ)) (i : ℕ) (name : List ℕ) (into after : Fields) → slice_get names i ≡ Some name → after ≡ into ++ made name
+    → after ++ flat_map made (drop (i + 1) names) ≡ into ++ flat_map made (drop i names)
 made-next made names i name into after at is =
     let rest = flat_map made (drop (i + 1) names) in
-    ap (λ fields. put_each fields rest) is
-    ∙ sym (put_each-append into (made name) rest)
-    ∙ ap (λ names. put_each into (flat_map made names)) (sym (drop-more names i name at))
+    ap (λ fields. fields ++ rest) is
+    ∙ append_assoc into (made name) rest
+    ∙ ap (λ names. into ++ flat_map made names) (sym (drop-more names i name at))

@@ -6,7 +6,7 @@ ghost use Rattle.std.specs.Str.{bytes_eq};
 ghost use Rattle.mlr_spec.specs.Pairs.{put_each};
 ghost use Rattle.mlr_spec.specs.Tree.{Tree};
 ghost use Rattle.mlr_value.specs.Value.{tree_of};
-ghost use Rattle.mlr_record.specs.Fields.{pair_of};
+ghost use Rattle.mlr_record.specs.Fields.{pair_of, pairs_of};
 ghost use Rattle.mlr_event.specs.Reading.{is_among};
 ghost use Rattle.mlr_groups.specs.Keys.{entered};
 ghost use Rattle.verbs_base.specs.Choosing.{once};
@@ -17,6 +17,7 @@ ghost use Rattle.mlr_stats.specs.Statistic.{fields_of};
 ghost use Rattle.verbs_summary.specs.KeptOfGroup.{KeepsEach};
 ghost use Rattle.verbs_summary.specs.Shortened.{gathered, short_names, shortened, values_of_short, without};
 
+use crate::putting::put_fields;
 use mlr_event::Names;
 use mlr_groups::KeyTable;
 use mlr_record::split::separator_place;
@@ -52,13 +53,15 @@ pub(crate) fn put_gathered(
     let mut kept = Gathered::new(alloc);
     kept.take_fields(alloc, statistics, texts, fields)?;
     sort_all(&mut kept.summaries)?;
-    put_summaries(
+    let mut made = Vec::new(alloc);
+    append_summaries(
         alloc,
         statistics,
         kept.names.as_slice(),
         &kept.summaries,
-        into,
-    )
+        &mut made,
+    )?;
+    put_fields(alloc, made, into)
 }
 
 /// The place of the first occurrence of a text in a name. Each name holds the empty text.
@@ -252,22 +255,22 @@ pub(crate) fn sort_all(summaries: &mut [Summary]) -> Result<(), NoMemory>
     Ok(())
 }
 
-/// Puts the statistics of each name into a record.
-fn put_summaries(
+/// Appends the statistics of each name as fields.
+fn append_summaries(
     alloc: Global,
     statistics: &Statistics,
     names: &[Bytes],
     summaries: &[Summary],
-    into: &mut Record,
+    into: &mut Vec<Field>,
 ) -> Result<(), NoMemory>
     requires { length summaries.now ≡ length names.now }
     ensures { OnOk result ((values : List ℕ → List Tree)
         → KeepsEach (λ name. Arranges statistics.now (values name)) names.now summaries.now
-        → into.new ≡ put_each into.old
-        (flat_map (λ name. fields_of statistics.now name (values name)) names.now)) }
+        → pairs_of into.new.items ≡ pairs_of into.old.items
+        ++ flat_map (λ name. fields_of statistics.now name (values name)) names.now) }
 {
     for place in 0..names.len() {
-        summaries[place].put_all(alloc, statistics, names[place].as_slice(), into)?;
+        summaries[place].append_all(alloc, statistics, names[place].as_slice(), into)?;
     }
     Ok(())
 }

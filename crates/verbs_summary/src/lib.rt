@@ -3,6 +3,7 @@
 
 mod gathering;
 mod merge_fields;
+mod putting;
 mod stats1;
 
 pub use merge_fields::{MergeFields, MergeFieldsVerb, MergeInputs};

@@ -12,6 +12,7 @@ ghost use Rattle.verbs_base.specs.Choosing.{dropped};
 ghost use Rattle.verbs_summary.specs.MergeFields.{AreSameInputs, merge_fields, values_matching};
 
 use crate::gathering::{holds_any, put_gathered};
+use crate::putting::put_fields;
 use crate::stats1::copy_of;
 use mlr_event::{Events, Names};
 use mlr_list::List;
@@ -225,7 +226,9 @@ fn put_summary(
 {
     let mut summary = summary;
     summary.sort()?;
-    summary.put_all(alloc, statistics, output, into)
+    let mut fields = Vec::new(alloc);
+    summary.append_all(alloc, statistics, output, &mut fields)?;
+    put_fields(alloc, fields, into)
 }
 
 /// A record with the statistics of the fields whose names match.

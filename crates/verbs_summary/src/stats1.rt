@@ -1,17 +1,19 @@
 //! `stats1`: statistics of the values of fields, of all records or of each group.
 ghost use Rattle.std.specs.Prelude.{◌≡◌, ◌++◌, ◌∷◌, [], ℕ, List, length, map, if◌then◌else◌, Some, slice_get, IfOk, OnOk};
 ghost use Rattle.std.specs.Option.{option_map};
+ghost use Rattle.mlr_record.specs.Fields.{pairs_of};
 ghost use Rattle.mlr_spec.specs.Pairs.{put_each};
 ghost use Rattle.verbs_base.specs.Records.{Fields, events_of};
 ghost use Rattle.verbs_summary.specs.Stats1.{is_newly_met, newly_met, stats1};
 ghost use Rattle.verbs_summary.specs.KeptOfGroup.{ArrangesValues, KeepsEach, KeepsValues, group_gives_of, names_at, statistics_made};
 
 use crate::gathering::sort_all;
+use crate::putting::put_fields;
 use group_state::{AtEnd, OfGroup, OfGroups};
 use mlr_event::{Ctx, Event, Events, Names};
 use mlr_groups::GroupBy;
 use mlr_list::List;
-use mlr_record::Record;
+use mlr_record::{Field, Record};
 use mlr_spec::NoMemory;
 use mlr_stats::{Statistics, Summary};
 use stat_base::Accumulator;
@@ -238,41 +240,45 @@ fn push_made(
         ++ events_of ((put_each row.0 (statistics_made options.now names rows), row.1) ∷ [])) }
 {
     let (mut made, ctx) = row;
-    put_met(alloc, options, summaries, met, &mut made)?;
+    let mut fields = Vec::new(alloc);
+    append_met(alloc, options, summaries, met, &mut fields)?;
+    put_fields(alloc, fields, &mut made)?;
     out.push(Event::Rec(made, ctx))
 }
 
-/// Puts the statistics of the names that were met into a record.
-fn put_met(
+/// Appends the statistics of the names that were met as fields.
+fn append_met(
     alloc: Global,
     options: &Options,
     summaries: &[Summary],
     met: &[usize],
-    into: &mut Record,
+    into: &mut Vec<Field>,
 ) -> Result<(), NoMemory>
     ensures { OnOk result ((rows : List Fields) (names : List (List ℕ))
         → KeepsEach (ArrangesValues options.now rows) options.now.names summaries.now
         → names_at options.now.names met.now ≡ map Some names
-        → into.new ≡ put_each into.old (statistics_made options.now names rows)) }
+        → pairs_of into.new.items
+        ≡ pairs_of into.old.items ++ statistics_made options.now names rows) }
 {
     for place in met {
-        put_at(alloc, options, summaries, *place, into)?;
+        append_at(alloc, options, summaries, *place, into)?;
     }
     Ok(())
 }
 
-/// Puts the statistics of the name at a place into a record.
-fn put_at(
+/// Appends the statistics of the name at a place as fields.
+fn append_at(
     alloc: Global,
     options: &Options,
     summaries: &[Summary],
     place: usize,
-    into: &mut Record,
+    into: &mut Vec<Field>,
 ) -> Result<(), NoMemory>
     ensures { OnOk result ((rows : List Fields) (name : List ℕ)
         → KeepsEach (ArrangesValues options.now rows) options.now.names summaries.now
         → slice_get options.now.names place ≡ Some name
-        → into.new ≡ put_each into.old (statistics_made options.now (name ∷ []) rows)) }
+        → pairs_of into.new.items
+        ≡ pairs_of into.old.items ++ statistics_made options.now (name ∷ []) rows) }
 {
     let Some(name) = options.names.at(place) else {
         return Ok(());
@@ -280,7 +286,7 @@ fn put_at(
     let Some(summary) = summary_at(summaries, place) else {
         return Ok(());
     };
-    summary.put_all(alloc, &options.statistics, name.as_slice(), into)
+    summary.append_all(alloc, &options.statistics, name.as_slice(), into)
 }
 
 /// What is kept at a place, if there is such a place.
