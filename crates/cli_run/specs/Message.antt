@@ -1,6 +1,5 @@
 -- The message of each outcome, one line on standard error.
-use Rattle.std.specs.Prelude.{◌≡◌, ℕ, ◌-◌, ◌==◌, if◌then◌else◌, Bool, true, false, List, [], ◌∷◌, codes, slice_get, slice_index_or, Option, Some, None}
-use Rattle.std.specs.List.{flat_map}
+use Rattle.std.specs.Prelude.{◌≡◌, ℕ, ◌-◌, ◌==◌, if◌then◌else◌, List, [], ◌∷◌, ◌++◌, codes, slice_get, slice_index_or, Option, Some, None}
 use Rattle.std.specs.Fmt.{decimal}
 use Rattle.mlr_event.specs.declared.fault.Fault.{Fault}
 use Rattle.mlr_event.specs.declared.fault.Fault.TheVariants as fault
@@ -20,7 +19,6 @@ use Rattle.mlr_world.specs.declared.outputs.Done.TheVariants as done
 use Rattle.mlr_world.specs.Outputs.{IsPrefixOf, with_bytes}
 use Rattle.serial_core.specs.declared.answer.Ended.{Ended}
 use Rattle.serial_core.specs.declared.answer.Ended.TheVariants as answer
-use Rattle.mlr_event.specs.declared.refusal.Refusal.{Refusal}
 use Rattle.mlr_event.specs.declared.refusal.Why.{Why}
 use Rattle.mlr_event.specs.declared.refusal.Why.TheVariants as why
 use Rattle.writers.specs.declared.options.WriteOpts.{WriteOpts}
@@ -43,24 +41,6 @@ abbrev pub file_text : List InputName → FileRef → List ℕ
 file_text inputs (Main number) = named inputs number
 file_text inputs (Left verb) = []
 
--- a fault in an input
-abbrev pub line_pieces : List ℕ → ℕ → List ℕ → List (List ℕ)
-line_pieces file line what = codes "mlr: " ∷ file ∷ codes ": line " ∷ decimal line ∷ what ∷ []
-
-abbrev pub byte_pieces : List ℕ → ℕ → List ℕ → List (List ℕ)
-byte_pieces file byte what = codes "mlr: " ∷ file ∷ codes ": byte " ∷ decimal byte ∷ what ∷ []
-
-abbrev pub length_pieces : List ℕ → ℕ → ℕ → ℕ → List (List ℕ)
-length_pieces file line want have =
-    codes "mlr: " ∷ file ∷ codes ": line " ∷ decimal line ∷ codes ": data length " ∷ decimal have ∷ codes ", header length " ∷ decimal want ∷ codes "\n" ∷ []
-
--- a fault in a verb, at a record
-abbrev pub verb_pieces : ℕ → ℕ → List ℕ → List ℕ → List ℕ → List (List ℕ)
-verb_pieces verb nr what name rest = codes "mlr: verb " ∷ decimal verb ∷ codes ": record " ∷ decimal nr ∷ what ∷ name ∷ rest ∷ []
-
-abbrev pub turns_pieces : ℕ → ℕ → ℕ → List (List ℕ)
-turns_pieces verb nr limit = verb_pieces verb nr (codes ": turn limit ") (decimal limit) (codes " reached\n")
-
 -- how an output was opened, and the format of its style; a style of no row is written by row 0
 abbrev pub mode_text : Mode → List ℕ
 mode_text Fresh = codes "> "
@@ -81,71 +61,79 @@ abbrev pub style_text : List WriteOpts → StyleId → List ℕ
 style_text [] style = []
 style_text (first ∷ styles) style = format_text (slice_index_or (first ∷ styles) style.0 first).format
 
-abbrev pub output_pieces : List ℕ → List ℕ → List ℕ → List ℕ → List ℕ → List (List ℕ)
-output_pieces name first_mode first second_mode second =
-    codes "mlr: output " ∷ name ∷ codes ": first " ∷ first_mode ∷ first ∷ codes ", then " ∷ second_mode ∷ second ∷ codes "\n" ∷ []
+-- the texts of a message, between which it says its values: a row for each answer
+abbrev pub word_texts : Why → List (List ℕ)
+word_texts why.NoVerb = codes "mlr: word " ∷ codes ": no verb\n" ∷ []
+word_texts why.UnknownFlag = codes "mlr: word " ∷ codes ": unknown flag: " ∷ codes "\n" ∷ []
+word_texts why.UnknownVerb = codes "mlr: word " ∷ codes ": unknown verb: " ∷ codes "\n" ∷ []
+word_texts why.MissingArgument = codes "mlr: word " ∷ codes ": missing argument: " ∷ codes "\n" ∷ []
+word_texts why.BadNumber = codes "mlr: word " ∷ codes ": bad number: " ∷ codes "\n" ∷ []
+word_texts why.BadSeparator = codes "mlr: word " ∷ codes ": bad separator: " ∷ codes "\n" ∷ []
+word_texts why.BadPattern = codes "mlr: word " ∷ codes ": bad pattern: " ∷ codes "\n" ∷ []
+word_texts why.PatternSize = codes "mlr: word " ∷ codes ": pattern too large: " ∷ codes "\n" ∷ []
+word_texts why.TooManyVerbs = codes "mlr: word " ∷ codes ": too many verbs: " ∷ codes "\n" ∷ []
+word_texts why.Clash = codes "mlr: word " ∷ codes ": clash: " ∷ codes "\n" ∷ []
+word_texts why.NotBuilt = codes "mlr: word " ∷ codes ": not built: " ∷ codes "\n" ∷ []
 
-abbrev pub fault_pieces : List InputName → List WriteOpts → Fault → List (List ℕ)
-fault_pieces inputs styles (fault.Length file line want have) = length_pieces (file_text inputs file) line want have
-fault_pieces inputs styles (fault.Quote file line) = line_pieces (file_text inputs file) line (codes ": unclosed quote\n")
-fault_pieces inputs styles (fault.Table file line) = line_pieces (file_text inputs file) line (codes ": bad table line\n")
-fault_pieces inputs styles (fault.JsonSyntax file byte) = byte_pieces (file_text inputs file) byte (codes ": bad JSON\n")
-fault_pieces inputs styles (fault.JsonDeep file byte) = byte_pieces (file_text inputs file) byte (codes ": nested deeper than 100\n")
-fault_pieces inputs styles (fault.JsonKind file byte) = byte_pieces (file_text inputs file) byte (codes ": not a map\n")
-fault_pieces inputs styles (fault.Turns verb nr limit) = turns_pieces verb nr limit
-fault_pieces inputs styles (fault.Depth verb nr) = verb_pieces verb nr (codes ": call limit 500 reached") [] (codes "\n")
-fault_pieces inputs styles (fault.Assert verb nr name) = verb_pieces verb nr (codes ": assertion ") name (codes " failed\n")
-fault_pieces inputs styles (fault.WrongType verb nr name) = verb_pieces verb nr (codes ": wrong type for ") name (codes "\n")
-fault_pieces inputs styles (fault.Index verb nr) = verb_pieces verb nr (codes ": bad index") [] (codes "\n")
-fault_pieces inputs styles (fault.OutputTwice name first_mode first second_mode second) =
-    output_pieces name (mode_text first_mode) (style_text styles first) (mode_text second_mode) (style_text styles second)
+abbrev pub fault_texts : Fault → List (List ℕ)
+fault_texts (fault.Length file line want have) = codes "mlr: " ∷ codes ": line " ∷ codes ": data length " ∷ codes ", header length " ∷ codes "\n" ∷ []
+fault_texts (fault.Quote file line) = codes "mlr: " ∷ codes ": line " ∷ codes ": unclosed quote\n" ∷ []
+fault_texts (fault.Table file line) = codes "mlr: " ∷ codes ": line " ∷ codes ": bad table line\n" ∷ []
+fault_texts (fault.JsonSyntax file byte) = codes "mlr: " ∷ codes ": byte " ∷ codes ": bad JSON\n" ∷ []
+fault_texts (fault.JsonDeep file byte) = codes "mlr: " ∷ codes ": byte " ∷ codes ": nested deeper than 100\n" ∷ []
+fault_texts (fault.JsonKind file byte) = codes "mlr: " ∷ codes ": byte " ∷ codes ": not a map\n" ∷ []
+fault_texts (fault.Turns verb nr limit) = codes "mlr: verb " ∷ codes ": record " ∷ codes ": turn limit " ∷ codes " reached\n" ∷ []
+fault_texts (fault.Depth verb nr) = codes "mlr: verb " ∷ codes ": record " ∷ codes ": call limit 500 reached\n" ∷ []
+fault_texts (fault.Assert verb nr name) = codes "mlr: verb " ∷ codes ": record " ∷ codes ": assertion " ∷ codes " failed\n" ∷ []
+fault_texts (fault.WrongType verb nr name) = codes "mlr: verb " ∷ codes ": record " ∷ codes ": wrong type for " ∷ codes "\n" ∷ []
+fault_texts (fault.Index verb nr) = codes "mlr: verb " ∷ codes ": record " ∷ codes ": bad index\n" ∷ []
+fault_texts (fault.OutputTwice name first_mode first second_mode second) = codes "mlr: output " ∷ codes ": first " ∷ [] ∷ codes ", then " ∷ [] ∷ codes "\n" ∷ []
 
--- what is wrong with a word, and whether its message shows the word
-abbrev pub what_text : Why → List ℕ
-what_text why.NoVerb = codes "no verb"
-what_text why.UnknownFlag = codes "unknown flag"
-what_text why.UnknownVerb = codes "unknown verb"
-what_text why.MissingArgument = codes "missing argument"
-what_text why.BadNumber = codes "bad number"
-what_text why.BadSeparator = codes "bad separator"
-what_text why.BadPattern = codes "bad pattern"
-what_text why.PatternSize = codes "pattern too large"
-what_text why.TooManyVerbs = codes "too many verbs"
-what_text why.Clash = codes "clash"
-what_text why.NotBuilt = codes "not built"
+abbrev pub texts_of : Ended → List (List ℕ)
+texts_of answer.Done = []
+texts_of (answer.Refused refusal) = word_texts refusal.why
+texts_of (answer.Data fault) = fault_texts fault
+texts_of (answer.Read name) = codes "mlr: cannot read " ∷ codes "\n" ∷ []
+texts_of (answer.Written target) = codes "mlr: cannot write " ∷ codes "\n" ∷ []
+texts_of answer.TooLong = codes "mlr: input too long\n" ∷ []
+texts_of answer.NoMemory = codes "mlr: out of memory\n" ∷ []
 
-abbrev pub shows_word : Why → Bool
-shows_word why.NoVerb = false
-shows_word why.UnknownFlag = true
-shows_word why.UnknownVerb = true
-shows_word why.MissingArgument = true
-shows_word why.BadNumber = true
-shows_word why.BadSeparator = true
-shows_word why.BadPattern = true
-shows_word why.PatternSize = true
-shows_word why.TooManyVerbs = true
-shows_word why.Clash = true
-shows_word why.NotBuilt = true
+-- the values that a message says
+abbrev pub fault_values : List InputName → List WriteOpts → Fault → List (List ℕ)
+fault_values inputs styles (fault.Length file line want have) = file_text inputs file ∷ decimal line ∷ decimal have ∷ decimal want ∷ []
+fault_values inputs styles (fault.Quote file line) = file_text inputs file ∷ decimal line ∷ []
+fault_values inputs styles (fault.Table file line) = file_text inputs file ∷ decimal line ∷ []
+fault_values inputs styles (fault.JsonSyntax file byte) = file_text inputs file ∷ decimal byte ∷ []
+fault_values inputs styles (fault.JsonDeep file byte) = file_text inputs file ∷ decimal byte ∷ []
+fault_values inputs styles (fault.JsonKind file byte) = file_text inputs file ∷ decimal byte ∷ []
+fault_values inputs styles (fault.Turns verb nr limit) = decimal verb ∷ decimal nr ∷ decimal limit ∷ []
+fault_values inputs styles (fault.Depth verb nr) = decimal verb ∷ decimal nr ∷ []
+fault_values inputs styles (fault.Assert verb nr name) = decimal verb ∷ decimal nr ∷ name ∷ []
+fault_values inputs styles (fault.WrongType verb nr name) = decimal verb ∷ decimal nr ∷ name ∷ []
+fault_values inputs styles (fault.Index verb nr) = decimal verb ∷ decimal nr ∷ []
+fault_values inputs styles (fault.OutputTwice name first_mode first second_mode second) =
+    name ∷ mode_text first_mode ∷ style_text styles first ∷ mode_text second_mode ∷ style_text styles second ∷ []
 
-abbrev pub word_pieces : Bool → ℕ → List ℕ → List ℕ → List (List ℕ)
-word_pieces false number what word = codes "mlr: word " ∷ decimal number ∷ codes ": " ∷ what ∷ codes "\n" ∷ []
-word_pieces true number what word = codes "mlr: word " ∷ decimal number ∷ codes ": " ∷ what ∷ codes ": " ∷ word ∷ codes "\n" ∷ []
+-- a word by its number, and the word itself where there is one
+abbrev pub values_of : List (List ℕ) → List InputName → List WriteOpts → Ended → List (List ℕ)
+values_of words inputs styles answer.Done = []
+values_of words inputs styles (answer.Refused refusal) = decimal refusal.word ∷ word_at words refusal.word ∷ []
+values_of words inputs styles (answer.Data fault) = fault_values inputs styles fault
+values_of words inputs styles (answer.Read name) = input_text name ∷ []
+values_of words inputs styles (answer.Written target) = target_text target ∷ []
+values_of words inputs styles answer.TooLong = []
+values_of words inputs styles answer.NoMemory = []
 
-abbrev pub refusal_pieces : List (List ℕ) → Refusal → List (List ℕ)
-refusal_pieces words refusal = word_pieces (shows_word refusal.why) refusal.word (what_text refusal.why) (word_at words refusal.word)
+-- texts with a value after each but the last
+abbrev pub with_values : List (List ℕ) → List (List ℕ) → List ℕ
+with_values [] values = []
+with_values (text ∷ []) values = text
+with_values (text ∷ next ∷ texts) [] = text ++ with_values (next ∷ texts) []
+with_values (text ∷ next ∷ texts) (value ∷ values) = text ++ value ++ with_values (next ∷ texts) values
 
--- the pieces of a message, by the words of a command line, its inputs and its styles
-abbrev pub pieces_of : List (List ℕ) → List InputName → List WriteOpts → Ended → List (List ℕ)
-pieces_of words inputs styles answer.Done = []
-pieces_of words inputs styles (answer.Refused refusal) = refusal_pieces words refusal
-pieces_of words inputs styles (answer.Data fault) = fault_pieces inputs styles fault
-pieces_of words inputs styles (answer.Read name) = codes "mlr: cannot read " ∷ input_text name ∷ codes "\n" ∷ []
-pieces_of words inputs styles (answer.Written target) = codes "mlr: cannot write " ∷ target_text target ∷ codes "\n" ∷ []
-pieces_of words inputs styles answer.TooLong = codes "mlr: input too long" ∷ [] ∷ codes "\n" ∷ []
-pieces_of words inputs styles answer.NoMemory = codes "mlr: out of memory" ∷ [] ∷ codes "\n" ∷ []
-
+-- the message of an outcome, by the words of a command line, its inputs and its styles
 abbrev pub message_of : List (List ℕ) → List InputName → List WriteOpts → Ended → List ℕ
-message_of words inputs styles ended = flat_map (λ piece. piece) (pieces_of words inputs styles ended)
+message_of words inputs styles ended = with_values (texts_of ended) (values_of words inputs styles ended)
 
 -- a target after a text was written to it in pieces: all of it, or a prefix where a call couldn't write
 abbrev pub Appends : List ℕ → Done → Option (List ℕ) → Option (List ℕ) → Type 0

@@ -1,7 +1,6 @@
 -- What a run of a command line does to the inputs and the outputs, by its outcome.
 use Rattle.std.specs.Prelude.{◌≡◌, ◌⊎◌, ℕ, ◌≤◌, ◌^◌, List, [], ◌++◌, drop, Option, Some, None, IfSome}
 use Rattle.std.specs.Option.{option_map}
-use Rattle.mlr_event.specs.declared.options.Format.{Format}
 use Rattle.mlr_event.specs.declared.names.Target.{Target}
 use Rattle.mlr_event.specs.declared.names.Target.TheVariants.{Stdout, Stderr, File}
 use Rattle.mlr_world.specs.Counts.{Counted, Rose}

@@ -1,11 +1,10 @@
 //! The message of an outcome.
-ghost use Rattle.std.specs.Prelude.{◌≡◌, ◌∷◌, [], ℕ};
+ghost use Rattle.std.specs.Prelude.{◌≡◌, ◌+◌, ◌<◌, ◌++◌, ◌∷◌, [], get_or, length, map};
 ghost use Rattle.std.specs.Fmt.{decimal};
-ghost use Rattle.std.specs.List.{flat_map};
 ghost use Rattle.mlr_event.specs.declared.names.Target.TheVariants.{Stderr};
 ghost use Rattle.mlr_world.specs.Counts.{Counted, Tallied};
 ghost use Rattle.mlr_world.specs.Outputs.{ChangesAt, call_failed, lacked_memory};
-ghost use Rattle.cli_run.specs.Message.{Appends, message_of, fault_pieces, length_pieces, line_pieces, byte_pieces, verb_pieces, turns_pieces, output_pieces, file_text, named, input_text, target_text, mode_text, style_text, format_text, what_text, shows_word, word_pieces, refusal_pieces};
+ghost use Rattle.cli_run.specs.Message.{Appends, fault_texts, fault_values, file_text, format_text, input_text, message_of, mode_text, named, style_text, target_text, texts_of, with_values, word_texts};
 ghost use Rattle.cli_run.specs.Meaning.{word_at};
 
 use chain_core::{Ended, Refusal, Why};
@@ -45,107 +44,105 @@ pub(crate) fn write_message<O: Outputs>(
     if let Ended::Done = ended {
         return Done::Ok;
     }
-    let pieces = message_pieces(words, inputs, styles, ended, digits);
-    write_pieces(outputs, &pieces)
+    write_texts(
+        outputs,
+        texts_of(ended),
+        &values_of(words, inputs, styles, ended, digits),
+    )
 }
 
-/// The pieces of the message of an outcome. Those that it doesn't need are empty.
-fn message_pieces<'a>(
+/// The texts of the message of an outcome, between which it says its values: a row for each.
+fn texts_of(ended: &Ended) -> &'static [&'static [u8]]
+    ensures { map (λ text. text.now) result.now ≡ texts_of ended.now }
+{
+    match ended {
+        Ended::Done => &[],
+        Ended::Refused(refusal) => word_texts(&refusal.why),
+        Ended::Data(fault) => fault_texts(fault),
+        Ended::Read(_) => &[b"mlr: cannot read ", b"\n"],
+        Ended::Written(_) => &[b"mlr: cannot write ", b"\n"],
+        Ended::TooLong => &[b"mlr: input too long\n"],
+        Ended::NoMemory => &[b"mlr: out of memory\n"],
+    }
+}
+
+/// The texts of the message of a word that isn't accepted.
+fn word_texts(why: &Why) -> &'static [&'static [u8]]
+    ensures { map (λ text. text.now) result.now ≡ word_texts why.now }
+{
+    match why {
+        Why::NoVerb => &[b"mlr: word ", b": no verb\n"],
+        Why::UnknownFlag => &[b"mlr: word ", b": unknown flag: ", b"\n"],
+        Why::UnknownVerb => &[b"mlr: word ", b": unknown verb: ", b"\n"],
+        Why::MissingArgument => &[b"mlr: word ", b": missing argument: ", b"\n"],
+        Why::BadNumber => &[b"mlr: word ", b": bad number: ", b"\n"],
+        Why::BadSeparator => &[b"mlr: word ", b": bad separator: ", b"\n"],
+        Why::BadPattern => &[b"mlr: word ", b": bad pattern: ", b"\n"],
+        Why::PatternSize => &[b"mlr: word ", b": pattern too large: ", b"\n"],
+        Why::TooManyVerbs => &[b"mlr: word ", b": too many verbs: ", b"\n"],
+        Why::Clash => &[b"mlr: word ", b": clash: ", b"\n"],
+        Why::NotBuilt => &[b"mlr: word ", b": not built: ", b"\n"],
+    }
+}
+
+/// The texts of the message of a fault.
+fn fault_texts(fault: &Fault) -> &'static [&'static [u8]]
+    ensures { map (λ text. text.now) result.now ≡ fault_texts fault.now }
+{
+    match fault {
+        Fault::Length { .. } => &[
+            b"mlr: ",
+            b": line ",
+            b": data length ",
+            b", header length ",
+            b"\n",
+        ],
+        Fault::Quote { .. } => &[b"mlr: ", b": line ", b": unclosed quote\n"],
+        Fault::Table { .. } => &[b"mlr: ", b": line ", b": bad table line\n"],
+        Fault::JsonSyntax { .. } => &[b"mlr: ", b": byte ", b": bad JSON\n"],
+        Fault::JsonDeep { .. } => &[b"mlr: ", b": byte ", b": nested deeper than 100\n"],
+        Fault::JsonKind { .. } => &[b"mlr: ", b": byte ", b": not a map\n"],
+        Fault::Turns { .. } => &[b"mlr: verb ", b": record ", b": turn limit ", b" reached\n"],
+        Fault::Depth { .. } => &[b"mlr: verb ", b": record ", b": call limit 500 reached\n"],
+        Fault::Assert { .. } => &[b"mlr: verb ", b": record ", b": assertion ", b" failed\n"],
+        Fault::WrongType { .. } => &[b"mlr: verb ", b": record ", b": wrong type for ", b"\n"],
+        Fault::Index { .. } => &[b"mlr: verb ", b": record ", b": bad index\n"],
+        Fault::OutputTwice { .. } => &[b"mlr: output ", b": first ", b"", b", then ", b"", b"\n"],
+    }
+}
+
+/// The values that the message of an outcome says. Those past its own are empty.
+fn values_of<'a>(
     words: &'a [Bytes],
     inputs: &'a NameList,
     styles: &'a [WriteOpts],
     ended: &'a Ended,
     digits: &'a mut Digits,
-) -> [&'a [u8]; 9]
-    ensures { flat_map (λ piece. piece.now) result
+) -> [&'a [u8]; 5]
+    ensures { with_values (texts_of ended.now) (map (λ value. value.now) result)
         ≡ message_of words.now inputs.now styles.now ended.now }
 {
     match ended {
-        Ended::Done => [b""; 9],
-        Ended::Refused(refusal) => return refusal_pieces(words, refusal, digits),
-        Ended::Data(fault) => return fault_pieces(inputs, styles, fault, digits),
-        Ended::Read(name) => one_line(b"mlr: cannot read ", input_text(name)),
-        Ended::Written(target) => one_line(b"mlr: cannot write ", target_text(target)),
-        Ended::TooLong => one_line(b"mlr: input too long", b""),
-        Ended::NoMemory => one_line(b"mlr: out of memory", b""),
+        Ended::Done | Ended::TooLong | Ended::NoMemory => [b""; 5],
+        Ended::Refused(refusal) => {
+            let number = decimal(&mut digits.first, refusal.word);
+            [number, word_at(words, refusal.word), b"", b"", b""]
+        }
+        Ended::Data(fault) => fault_values(inputs, styles, fault, digits),
+        Ended::Read(name) => [input_text(name), b"", b"", b"", b""],
+        Ended::Written(target) => [target_text(target), b"", b"", b"", b""],
     }
 }
 
-/// The pieces of a line of two texts.
-fn one_line<'a>(first: &'a [u8], second: &'a [u8]) -> [&'a [u8]; 9]
-    ensures { flat_map (λ piece. piece.now) result
-        ≡ flat_map (λ piece. piece) (first.now ∷ second.now ∷ (10 ∷ []) ∷ []) }
-{
-    [first, second, b"\n", b"", b"", b"", b"", b"", b""]
-}
-
-/// The pieces of the message of words that aren't accepted.
-fn refusal_pieces<'a>(
-    words: &'a [Bytes],
-    refusal: &'a Refusal,
-    digits: &'a mut Digits,
-) -> [&'a [u8]; 9]
-    ensures { flat_map (λ piece. piece.now) result
-        ≡ flat_map (λ piece. piece) (refusal_pieces words.now refusal.now) }
-{
-    let number = decimal(&mut digits.first, refusal.word);
-    word_pieces(
-        shows_word(&refusal.why),
-        number,
-        what_text(&refusal.why),
-        word_at(words, refusal.word),
-    )
-}
-
-/// The pieces of a line about the word with this number.
-fn word_pieces<'a>(shows: bool, number: &'a [u8], what: &'a [u8], word: &'a [u8]) -> [&'a [u8]; 9]
-    ensures { (value : ℕ) → number.now ≡ decimal value
-        → flat_map (λ piece. piece.now) result
-        ≡ flat_map (λ piece. piece) (word_pieces shows value what.now word.now) }
-{
-    let start: &[u8] = b"mlr: word ";
-    if shows {
-        [start, number, b": ", what, b": ", word, b"\n", b"", b""]
-    } else {
-        [start, number, b": ", what, b"\n", b"", b"", b"", b""]
-    }
-}
-
-/// What is wrong with a word.
-fn what_text(why: &Why) -> &[u8]
-    ensures { result.now ≡ what_text why.now }
-{
-    match why {
-        Why::NoVerb => b"no verb",
-        Why::UnknownFlag => b"unknown flag",
-        Why::UnknownVerb => b"unknown verb",
-        Why::MissingArgument => b"missing argument",
-        Why::BadNumber => b"bad number",
-        Why::BadSeparator => b"bad separator",
-        Why::BadPattern => b"bad pattern",
-        Why::PatternSize => b"pattern too large",
-        Why::TooManyVerbs => b"too many verbs",
-        Why::Clash => b"clash",
-        Why::NotBuilt => b"not built",
-    }
-}
-
-/// Whether the message shows the word.
-fn shows_word(why: &Why) -> bool
-    ensures { result ≡ shows_word why.now }
-{
-    !matches!(why, Why::NoVerb)
-}
-
-/// The pieces of the message of a fault.
-fn fault_pieces<'a>(
+/// The values that the message of a fault says.
+fn fault_values<'a>(
     inputs: &'a NameList,
     styles: &'a [WriteOpts],
     fault: &'a Fault,
     digits: &'a mut Digits,
-) -> [&'a [u8]; 9]
-    ensures { flat_map (λ piece. piece.now) result
-        ≡ flat_map (λ piece. piece) (fault_pieces inputs.now styles.now fault.now) }
+) -> [&'a [u8]; 5]
+    ensures { with_values (fault_texts fault.now) (map (λ value. value.now) result)
+        ≡ with_values (fault_texts fault.now) (fault_values inputs.now styles.now fault.now) }
 {
     match fault {
         Fault::Length {
@@ -153,222 +150,116 @@ fn fault_pieces<'a>(
             line,
             want,
             have,
-        } => { length_pieces(file_text(inputs, *file), *line, *want, *have, digits) }
-        Fault::Quote { file, line } => {
-            line_pieces(
-                file_text(inputs, *file),
-                *line,
-                b": unclosed quote\n",
-                digits,
-            )
+        } => [
+            file_text(inputs, *file),
+            decimal(&mut digits.first, *line),
+            decimal(&mut digits.second, *have),
+            decimal(&mut digits.third, *want),
+            b"",
+        ],
+        Fault::Quote { file, line } | Fault::Table { file, line } => {
+            at_place(file_text(inputs, *file), *line, digits)
         }
-        Fault::Table { file, line } => {
-            line_pieces(
-                file_text(inputs, *file),
-                *line,
-                b": bad table line\n",
-                digits,
-            )
+        Fault::JsonSyntax { file, byte }
+        | Fault::JsonDeep { file, byte }
+        | Fault::JsonKind { file, byte } => at_place(file_text(inputs, *file), *byte, digits),
+        Fault::Turns { verb, nr, limit } => [
+            decimal(&mut digits.first, u64::from(*verb)),
+            decimal(&mut digits.second, *nr),
+            decimal(&mut digits.third, *limit),
+            b"",
+            b"",
+        ],
+        Fault::Depth { verb, nr } | Fault::Index { verb, nr } => {
+            at_record(*verb, *nr, b"", digits)
         }
-        Fault::JsonSyntax { file, byte } => {
-            byte_pieces(file_text(inputs, *file), *byte, b": bad JSON\n", digits)
+        Fault::Assert { verb, nr, name } | Fault::WrongType { verb, nr, name } => {
+            at_record(*verb, *nr, name.as_slice(), digits)
         }
-        Fault::JsonDeep { file, byte } => {
-            byte_pieces(
-                file_text(inputs, *file),
-                *byte,
-                b": nested deeper than 100\n",
-                digits,
-            )
-        }
-        Fault::JsonKind { file, byte } => {
-            byte_pieces(file_text(inputs, *file), *byte, b": not a map\n", digits)
-        }
-        Fault::Turns { verb, nr, limit } => turns_pieces(*verb, *nr, *limit, digits),
-        Fault::Depth { verb, nr } => {
-            verb_pieces(*verb, *nr, b": call limit 500 reached", b"", b"\n", digits)
-        }
-        Fault::Assert { verb, nr, name } => {
-            verb_pieces(
-                *verb,
-                *nr,
-                b": assertion ",
-                name.as_slice(),
-                b" failed\n",
-                digits,
-            )
-        }
-        Fault::WrongType { verb, nr, name } => {
-            verb_pieces(
-                *verb,
-                *nr,
-                b": wrong type for ",
-                name.as_slice(),
-                b"\n",
-                digits,
-            )
-        }
-        Fault::Index { verb, nr } => verb_pieces(*verb, *nr, b": bad index", b"", b"\n", digits),
         Fault::OutputTwice {
             name,
             first_mode,
             first,
             second_mode,
             second,
-        } => return output_pieces(
+        } => [
             name.as_slice(),
             mode_text(first_mode),
             style_text(styles, *first),
             mode_text(second_mode),
             style_text(styles, *second),
-        ),
+        ],
     }
 }
 
-/// The pieces of the message of an output that is opened in two ways.
-fn output_pieces<'a>(
-    name: &'a [u8],
-    first_mode: &'a [u8],
-    first: &'a [u8],
-    second_mode: &'a [u8],
-    second: &'a [u8],
-) -> [&'a [u8]; 9]
-    ensures { flat_map (λ piece. piece.now) result ≡ flat_map (λ piece. piece)
-        (output_pieces name.now first_mode.now first.now second_mode.now second.now) }
+/// The values of a fault in an input, at a line or a byte.
+fn at_place<'a>(file: &'a [u8], number: u64, digits: &'a mut Digits) -> [&'a [u8]; 5]
+    ensures { map (λ value. value.now) result ≡ file.now ∷ decimal number ∷ [] ∷ [] ∷ [] ∷ [] }
+{
+    [file, decimal(&mut digits.first, number), b"", b"", b""]
+}
+
+/// The values of a fault of a verb, at a record.
+fn at_record<'a>(verb: u32, nr: u64, name: &'a [u8], digits: &'a mut Digits) -> [&'a [u8]; 5]
+    ensures { map (λ value. value.now) result
+        ≡ decimal verb ∷ decimal nr ∷ name.now ∷ [] ∷ [] ∷ [] }
 {
     [
-        b"mlr: output ",
+        decimal(&mut digits.first, u64::from(verb)),
+        decimal(&mut digits.second, nr),
         name,
-        b": first ",
-        first_mode,
-        first,
-        b", then ",
-        second_mode,
-        second,
-        b"\n",
-    ]
-}
-
-/// The pieces of the message of a row of another length than its header.
-fn length_pieces<'a>(
-    file: &'a [u8],
-    line: u64,
-    want: u64,
-    have: u64,
-    digits: &'a mut Digits,
-) -> [&'a [u8]; 9]
-    ensures { flat_map (λ piece. piece.now) result
-        ≡ flat_map (λ piece. piece) (length_pieces file.now line want have) }
-{
-    let line = decimal(&mut digits.first, line);
-    let have = decimal(&mut digits.second, have);
-    let want = decimal(&mut digits.third, want);
-    [
-        b"mlr: ",
-        file,
-        b": line ",
-        line,
-        b": data length ",
-        have,
-        b", header length ",
-        want,
-        b"\n",
-    ]
-}
-
-/// The pieces that say what is wrong on a line.
-fn line_pieces<'a>(
-    file: &'a [u8],
-    line: u64,
-    what: &'a [u8],
-    digits: &'a mut Digits,
-) -> [&'a [u8]; 9]
-    ensures { flat_map (λ piece. piece.now) result
-        ≡ flat_map (λ piece. piece) (line_pieces file.now line what.now) }
-{
-    let line = decimal(&mut digits.first, line);
-    [b"mlr: ", file, b": line ", line, what, b"", b"", b"", b""]
-}
-
-/// The pieces that say what is wrong at a byte.
-fn byte_pieces<'a>(
-    file: &'a [u8],
-    byte: u64,
-    what: &'a [u8],
-    digits: &'a mut Digits,
-) -> [&'a [u8]; 9]
-    ensures { flat_map (λ piece. piece.now) result
-        ≡ flat_map (λ piece. piece) (byte_pieces file.now byte what.now) }
-{
-    let byte = decimal(&mut digits.first, byte);
-    [b"mlr: ", file, b": byte ", byte, what, b"", b"", b"", b""]
-}
-
-/// The pieces that say what a verb found wrong at a record.
-fn verb_pieces<'a>(
-    verb: u32,
-    nr: u64,
-    what: &'a [u8],
-    name: &'a [u8],
-    rest: &'a [u8],
-    digits: &'a mut Digits,
-) -> [&'a [u8]; 9]
-    ensures { flat_map (λ piece. piece.now) result
-        ≡ flat_map (λ piece. piece) (verb_pieces verb nr what.now name.now rest.now) }
-{
-    let verb = decimal(&mut digits.first, u64::from(verb));
-    let nr = decimal(&mut digits.second, nr);
-    [
-        b"mlr: verb ",
-        verb,
-        b": record ",
-        nr,
-        what,
-        name,
-        rest,
         b"",
         b"",
     ]
 }
 
-/// The pieces that say that a verb took all its turns at a record.
-fn turns_pieces<'a>(verb: u32, nr: u64, limit: u64, digits: &'a mut Digits) -> [&'a [u8]; 9]
-    ensures { flat_map (λ piece. piece.now) result
-        ≡ flat_map (λ piece. piece) (turns_pieces verb nr limit) }
-{
-    let verb = decimal(&mut digits.first, u64::from(verb));
-    let nr = decimal(&mut digits.second, nr);
-    let limit = decimal(&mut digits.third, limit);
-    [
-        b"mlr: verb ",
-        verb,
-        b": record ",
-        nr,
-        b": turn limit ",
-        limit,
-        b" reached\n",
-        b"",
-        b"",
-    ]
-}
-
-/// Writes the pieces that have bytes to standard error one by one, up to the first that can't be written.
-fn write_pieces<O: Outputs>(outputs: &mut O, pieces: &[&[u8]]) -> Done
-    ensures bytes { ChangesAt Stderr (Appends (flat_map (λ piece. piece.now) pieces.now) result)
+/// Writes texts to standard error, with a value after each but the last, up to the first that can't be written.
+fn write_texts<O: Outputs>(outputs: &mut O, texts: &[&[u8]], values: &[&[u8]]) -> Done
+    ensures bytes { ChangesAt Stderr (Appends (with_values (map (λ text. text.now) texts.now)
+        (map (λ value. value.now) values.now)) result)
         (O.held outputs.old) (O.held outputs.new) }
     ensures counts { Counted (call_failed result) (O.faults outputs.old) (O.faults outputs.new)
         Stderr }
     ensures memory { Tallied (lacked_memory result) (O.shortages outputs.old)
         (O.shortages outputs.new) }
 {
-    for piece in pieces {
-        match write_some(outputs, piece) {
+    for place in 0..texts.len() {
+        let value = value_after(texts, values, place);
+        match write_both(outputs, texts[place], value) {
             Done::Ok => {}
             Done::Failed => return Done::Failed,
             Done::NoMemory => return Done::NoMemory,
         }
     }
     Done::Ok
+}
+
+/// The value after the text at a place: none after the last.
+fn value_after<'a>(texts: &[&[u8]], values: &[&'a [u8]], place: usize) -> &'a [u8]
+    ensures between { place + 1 < length texts.now
+        → result.now ≡ get_or (map (λ value. value.now) values.now) place [] }
+    ensures last { place + 1 ≡ length texts.now → result.now ≡ [] }
+{
+    match values.get(place) {
+        Some(value) if place + 1 < texts.len() => value,
+        _ => b"",
+    }
+}
+
+/// Writes a text and then a value to standard error.
+fn write_both<O: Outputs>(outputs: &mut O, text: &[u8], value: &[u8]) -> Done
+    ensures bytes { ChangesAt Stderr (Appends (text.now ++ value.now) result) (O.held outputs.old)
+        (O.held outputs.new) }
+    ensures counts { Counted (call_failed result) (O.faults outputs.old) (O.faults outputs.new)
+        Stderr }
+    ensures memory { Tallied (lacked_memory result) (O.shortages outputs.old)
+        (O.shortages outputs.new) }
+{
+    match write_some(outputs, text) {
+        Done::Ok => write_some(outputs, value),
+        Done::Failed => Done::Failed,
+        Done::NoMemory => Done::NoMemory,
+    }
 }
 
 /// Writes a piece to standard error, unless it is empty.
