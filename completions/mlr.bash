@@ -1,7 +1,7 @@
 # Completions of mlr for bash, made by tests/generated.
 _mlr() {
     local word=${COMP_WORDS[COMP_CWORD]} verb= place words=
-    local verbs=" altkv cat count count-distinct count-similar cut decimate fill-down fill-empty flatten gap grep group-by group-like gsub having-fields head json-parse json-stringify label least-frequent merge-fields most-frequent nothing regularize rename reorder repeat sec2gmt sec2gmtdate seqgen sort sort-within-records sparsify ssub stats1 step sub tac tail template top unflatten uniq unspace unsparsify "
+    local verbs=" altkv cat count count-distinct count-similar cut decimate fill-down fill-empty flatten gap grep group-by group-like gsub having-fields head json-parse json-stringify label least-frequent merge-fields most-frequent nest nothing regularize rename reorder repeat reshape sec2gmt sec2gmtdate seqgen sort sort-within-records sparsify ssub stats1 step sub tac tail template top unflatten uniq unspace unsparsify "
     for ((place = 1; place < COMP_CWORD; place++)); do
         if [[ $verbs == *" ${COMP_WORDS[place]} "* && (-z $verb || ${COMP_WORDS[place - 1]} == then) ]]; then
             verb=${COMP_WORDS[place]}
@@ -28,9 +28,11 @@ _mlr() {
         least-frequent) words="-f -b -n -o" ;;
         merge-fields) words="-a -f -r -c -o -k" ;;
         most-frequent) words="-f -b -n -o" ;;
+        nest) words="--explode --implode --values --pairs --across-records --across-fields --evar --ivar -f --nested-fs --nested-ps" ;;
         rename) words="-r -g" ;;
         reorder) words="-f -e" ;;
         repeat) words="-n -f" ;;
+        reshape) words="-i -r -o -s" ;;
         seqgen) words="-f --start --stop --step" ;;
         sort) words="-f -r -nf -nr -c -cr" ;;
         sort-within-records) words="-r" ;;

@@ -4,7 +4,7 @@ use Rattle.read_files.specs.Represents.{can_read}
 use Rattle.verbs_seq.specs.Seq.{IsSoundSeq}
 use Rattle.chain_core.specs.declared.plan.Plan.{Plan}
 use Rattle.verb_specs.specs.declared.verb_spec.VerbSpec.{VerbSpec}
-use Rattle.verb_specs.specs.declared.verb_spec.VerbSpec.TheVariants.{Stream, Retain, Stat, Seq}
+use Rattle.verb_specs.specs.declared.verb_spec.VerbSpec.TheVariants.{Stream, Retain, Shape, Stat, Seq}
 use Rattle.chain_core.specs.Plans.{IsCopy, IsSound}
 use Rattle.verb_specs.specs.Verbs.{AreSameVerbs, AreSound, AreVerbs}
 
@@ -14,14 +14,22 @@ verbs-copied [] (copy ∷ copies) same are = absurd same
 verbs-copied (spec ∷ specs) [] same are = absurd same
 verbs-copied (Stream spec ∷ specs) (Stream copy ∷ copies) same are = (same.0.1 are.0, verbs-copied specs copies same.1 are.1)
 verbs-copied (Stream spec ∷ specs) (Retain copy ∷ copies) same are = absurd same.0
+verbs-copied (Stream spec ∷ specs) (Shape copy ∷ copies) same are = absurd same.0
 verbs-copied (Stream spec ∷ specs) (Stat copy ∷ copies) same are = absurd same.0
 verbs-copied (Stream spec ∷ specs) (Seq copy ∷ copies) same are = absurd same.0
 verbs-copied (Retain spec ∷ specs) (Stream copy ∷ copies) same are = absurd same.0
 verbs-copied (Retain spec ∷ specs) (Retain copy ∷ copies) same are = (tt, verbs-copied specs copies same.1 are.1)
+verbs-copied (Retain spec ∷ specs) (Shape copy ∷ copies) same are = absurd same.0
 verbs-copied (Retain spec ∷ specs) (Stat copy ∷ copies) same are = absurd same.0
 verbs-copied (Retain spec ∷ specs) (Seq copy ∷ copies) same are = absurd same.0
+verbs-copied (Shape spec ∷ specs) (Stream copy ∷ copies) same are = absurd same.0
+verbs-copied (Shape spec ∷ specs) (Retain copy ∷ copies) same are = absurd same.0
+verbs-copied (Shape spec ∷ specs) (Shape copy ∷ copies) same are = (tt, verbs-copied specs copies same.1 are.1)
+verbs-copied (Shape spec ∷ specs) (Stat copy ∷ copies) same are = absurd same.0
+verbs-copied (Shape spec ∷ specs) (Seq copy ∷ copies) same are = absurd same.0
 verbs-copied (Stat spec ∷ specs) (Stream copy ∷ copies) same are = absurd same.0
 verbs-copied (Stat spec ∷ specs) (Retain copy ∷ copies) same are = absurd same.0
+verbs-copied (Stat spec ∷ specs) (Shape copy ∷ copies) same are = absurd same.0
 verbs-copied (Stat spec ∷ specs) (Stat copy ∷ copies) same are = (tt, verbs-copied specs copies same.1 are.1)
 verbs-copied (Stat spec ∷ specs) (Seq copy ∷ copies) same are = absurd same.0
 verbs-copied (Seq spec ∷ specs) (copy ∷ copies) same are = absurd are.0
@@ -32,18 +40,27 @@ sound-copied [] (copy ∷ copies) same are = absurd same
 sound-copied (spec ∷ specs) [] same are = absurd same
 sound-copied (Stream spec ∷ specs) (Stream copy ∷ copies) same are = (same.0.1 are.0, verbs-copied specs copies same.1 are.1)
 sound-copied (Stream spec ∷ specs) (Retain copy ∷ copies) same are = absurd same.0
+sound-copied (Stream spec ∷ specs) (Shape copy ∷ copies) same are = absurd same.0
 sound-copied (Stream spec ∷ specs) (Stat copy ∷ copies) same are = absurd same.0
 sound-copied (Stream spec ∷ specs) (Seq copy ∷ copies) same are = absurd same.0
 sound-copied (Retain spec ∷ specs) (Stream copy ∷ copies) same are = absurd same.0
 sound-copied (Retain spec ∷ specs) (Retain copy ∷ copies) same are = verbs-copied specs copies same.1 are
+sound-copied (Retain spec ∷ specs) (Shape copy ∷ copies) same are = absurd same.0
 sound-copied (Retain spec ∷ specs) (Stat copy ∷ copies) same are = absurd same.0
 sound-copied (Retain spec ∷ specs) (Seq copy ∷ copies) same are = absurd same.0
+sound-copied (Shape spec ∷ specs) (Stream copy ∷ copies) same are = absurd same.0
+sound-copied (Shape spec ∷ specs) (Retain copy ∷ copies) same are = absurd same.0
+sound-copied (Shape spec ∷ specs) (Shape copy ∷ copies) same are = verbs-copied specs copies same.1 are
+sound-copied (Shape spec ∷ specs) (Stat copy ∷ copies) same are = absurd same.0
+sound-copied (Shape spec ∷ specs) (Seq copy ∷ copies) same are = absurd same.0
 sound-copied (Stat spec ∷ specs) (Stream copy ∷ copies) same are = absurd same.0
 sound-copied (Stat spec ∷ specs) (Retain copy ∷ copies) same are = absurd same.0
+sound-copied (Stat spec ∷ specs) (Shape copy ∷ copies) same are = absurd same.0
 sound-copied (Stat spec ∷ specs) (Stat copy ∷ copies) same are = verbs-copied specs copies same.1 are
 sound-copied (Stat spec ∷ specs) (Seq copy ∷ copies) same are = absurd same.0
 sound-copied (Seq spec ∷ specs) (Stream copy ∷ copies) same are = absurd same.0
 sound-copied (Seq spec ∷ specs) (Retain copy ∷ copies) same are = absurd same.0
+sound-copied (Seq spec ∷ specs) (Shape copy ∷ copies) same are = absurd same.0
 sound-copied (Seq spec ∷ specs) (Stat copy ∷ copies) same are = absurd same.0
 sound-copied (Seq spec ∷ specs) (Seq copy ∷ copies) same are = (subst IsSoundSeq (sym same.0) are.0, verbs-copied specs copies same.1 are.1)
 

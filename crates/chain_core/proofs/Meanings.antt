@@ -12,13 +12,14 @@ use Rattle.verb_chain.specs.Represents.{made_at}
 use Rattle.verb_chain.proofs.InOrder.{made-at-list}
 use Rattle.verbs_base.specs.Laws.{verb-orderly}
 use Rattle.verbs_base.specs.Records.{verb_of}
+use Rattle.verbs_join_nest.specs.Meaning as shape
 use Rattle.verbs_retain.specs.Meaning as retain
 use Rattle.verbs_stat.specs.Meaning as stat
 use Rattle.verbs_stream.specs.Meaning.{meaning_of}
 use Rattle.serial_core.specs.Command.{Command}
 use Rattle.chain_core.specs.declared.plan.Plan.{Plan}
 use Rattle.verb_specs.specs.declared.verb_spec.VerbSpec.{VerbSpec}
-use Rattle.verb_specs.specs.declared.verb_spec.VerbSpec.TheVariants.{Stream, Retain, Stat, Seq}
+use Rattle.verb_specs.specs.declared.verb_spec.VerbSpec.TheVariants.{Stream, Retain, Shape, Stat, Seq}
 use Rattle.chain_core.specs.Plans.{IsCommandOf}
 use Rattle.verb_specs.specs.Verbs.{verbs_of}
 
@@ -27,6 +28,8 @@ list-of [] quiet events list = list
 list-of (Stream spec ∷ specs) quiet events list = list-of specs (quiet && true) (made_at quiet (verb_of (meaning_of spec)) events) (made-at-list quiet (verb_of (meaning_of spec)) events (verb-orderly (meaning_of spec)) list)
 list-of (Retain spec ∷ specs) quiet events list =
     list-of specs (quiet && true) (made_at quiet (verb_of (retain.meaning_of spec)) events) (made-at-list quiet (verb_of (retain.meaning_of spec)) events (verb-orderly (retain.meaning_of spec)) list)
+list-of (Shape spec ∷ specs) quiet events list =
+    list-of specs (quiet && true) (made_at quiet (verb_of (shape.meaning_of spec [])) events) (made-at-list quiet (verb_of (shape.meaning_of spec [])) events (verb-orderly (shape.meaning_of spec [])) list)
 list-of (Stat spec ∷ specs) quiet events list =
     list-of specs (quiet && true) (made_at quiet (verb_of (stat.meaning_of spec)) events) (made-at-list quiet (verb_of (stat.meaning_of spec)) events (verb-orderly (stat.meaning_of spec)) list)
 list-of (Seq seq ∷ specs) quiet events list = list-of specs quiet events list

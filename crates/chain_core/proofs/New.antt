@@ -6,12 +6,13 @@ use Rattle.mlr_event.specs.declared.event.Event.{Event}
 use Rattle.mlr_event.specs.Verb as meaning
 use Rattle.chain_core.specs.declared.verb.Verb.{Verb}
 use Rattle.verbs_base.specs.Records.{verb_of}
+use Rattle.verbs_join_nest.specs.Meaning as shape
 use Rattle.verbs_retain.specs.Meaning as retain
 use Rattle.verbs_stat.specs.Meaning as stat
 use Rattle.verbs_seq.specs.declared.seq_spec.SeqSpec.{SeqSpec}
 use Rattle.verbs_stream.specs.Meaning as stream
 use Rattle.verb_specs.specs.declared.verb_spec.VerbSpec.{VerbSpec}
-use Rattle.verb_specs.specs.declared.verb_spec.VerbSpec.TheVariants.{Stream, Retain, Stat, Seq}
+use Rattle.verb_specs.specs.declared.verb_spec.VerbSpec.TheVariants.{Stream, Retain, Shape, Stat, Seq}
 use Rattle.verb_specs.specs.Verbs.{AreSound, AreVerbs, IsVerbOrSource, no_lefts, verb_with, verbs_of, verbs_with}
 use Rattle.chain_core.specs.Verbs.{AreNew, IsNew}
 
@@ -23,6 +24,7 @@ verbs-too : (specs : List VerbSpec) → AreVerbs specs → AreVerbsOrSources spe
 verbs-too [] are = tt
 verbs-too (Stream spec ∷ specs) are = (are.0, verbs-too specs are.1)
 verbs-too (Retain spec ∷ specs) are = (tt, verbs-too specs are.1)
+verbs-too (Shape spec ∷ specs) are = (tt, verbs-too specs are.1)
 verbs-too (Stat spec ∷ specs) are = (tt, verbs-too specs are.1)
 verbs-too (Seq seq ∷ specs) are = absurd are.0
 
@@ -30,6 +32,7 @@ pub sound-too : (specs : List VerbSpec) → AreSound specs → AreVerbsOrSources
 sound-too [] are = tt
 sound-too (Stream spec ∷ specs) are = (are.0, verbs-too specs are.1)
 sound-too (Retain spec ∷ specs) are = (tt, verbs-too specs are)
+sound-too (Shape spec ∷ specs) are = (tt, verbs-too specs are)
 sound-too (Stat spec ∷ specs) are = (tt, verbs-too specs are)
 sound-too (Seq seq ∷ specs) are = (tt, verbs-too specs are.1)
 
@@ -37,6 +40,7 @@ sound-too (Seq seq ∷ specs) are = (tt, verbs-too specs are.1)
 pub one-verb : (spec : VerbSpec) (left : List Event) → ((seq : SeqSpec) → spec ≡ Seq seq → ⊥) → (verb : meaning.Verb) × (verb_with spec left ≡ verb ∷ [])
 one-verb (Stream spec) left isnt = (verb_of (stream.meaning_of spec), refl)
 one-verb (Retain spec) left isnt = (verb_of (retain.meaning_of spec), refl)
+one-verb (Shape spec) left isnt = (verb_of (shape.meaning_of spec left), refl)
 one-verb (Stat spec) left isnt = (verb_of (stat.meaning_of spec), refl)
 one-verb (Seq seq) left isnt = absurd (isnt seq refl)
 

@@ -21,12 +21,13 @@ use Rattle.verbs_base.specs.Laws.{verb-quiet}
 use Rattle.verbs_base.specs.Records.{RecordVerb, verb_of}
 use Rattle.verbs_seq.specs.declared.seq_spec.SeqSpec.{SeqSpec}
 use Rattle.verbs_seq.specs.Seq.{seq_context, seq_count, seq_event}
+use Rattle.verbs_join_nest.specs.Meaning as shape
 use Rattle.verbs_retain.specs.Meaning as retain
 use Rattle.verbs_stat.specs.Meaning as stat
 use Rattle.verbs_stream.specs.Meaning.{meaning_of}
 use Rattle.serial_core.specs.Command.{Command, Origin, files, numbers, given_by, result}
 use Rattle.verb_specs.specs.declared.verb_spec.VerbSpec.{VerbSpec}
-use Rattle.verb_specs.specs.declared.verb_spec.VerbSpec.TheVariants.{Stream, Retain, Stat, Seq}
+use Rattle.verb_specs.specs.declared.verb_spec.VerbSpec.TheVariants.{Stream, Retain, Shape, Stat, Seq}
 use Rattle.verb_specs.specs.Verbs.{verbs_of}
 
 abbrev pub is_plain : Event → Bool
@@ -162,6 +163,7 @@ chain-plain : (specs : List VerbSpec) (quiet : Bool) (events : List Event) → a
 chain-plain [] quiet events plain = plain
 chain-plain (Stream spec ∷ specs) quiet events plain = chain-plain specs (quiet && true) (made_at quiet (verb_of (meaning_of spec)) events) (record-plain (meaning_of spec) quiet events plain)
 chain-plain (Retain spec ∷ specs) quiet events plain = chain-plain specs (quiet && true) (made_at quiet (verb_of (retain.meaning_of spec)) events) (record-plain (retain.meaning_of spec) quiet events plain)
+chain-plain (Shape spec ∷ specs) quiet events plain = chain-plain specs (quiet && true) (made_at quiet (verb_of (shape.meaning_of spec [])) events) (record-plain (shape.meaning_of spec []) quiet events plain)
 chain-plain (Stat spec ∷ specs) quiet events plain = chain-plain specs (quiet && true) (made_at quiet (verb_of (stat.meaning_of spec)) events) (record-plain (stat.meaning_of spec) quiet events plain)
 chain-plain (Seq seq ∷ specs) quiet events plain = chain-plain specs quiet events plain
 

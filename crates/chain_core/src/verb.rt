@@ -8,6 +8,7 @@ use mlr_event::{Event, Events, Step};
 use mlr_spec::NoMemory;
 use std::alloc::Global;
 use verb_specs::VerbSpec;
+use verbs_join_nest::ShapeVerb;
 use verbs_retain::RetainVerb;
 use verbs_stat::StatVerb;
 use verbs_stream::StreamVerb;
@@ -18,6 +19,8 @@ pub enum Verb {
     Stream(StreamVerb),
     /// A retaining verb.
     Retain(RetainVerb),
+    /// A shaping verb.
+    Shape(ShapeVerb),
     /// A verb of statistics.
     Stat(StatVerb),
 }
@@ -28,6 +31,7 @@ impl Drop for Verb {
         match self {
             Verb::Stream(verb) => drop(verb),
             Verb::Retain(verb) => drop(verb),
+            Verb::Shape(verb) => drop(verb),
             Verb::Stat(verb) => drop(verb),
         }
     }
@@ -41,7 +45,6 @@ impl Verb {
         ensures { IfOk result (λ made. (verb : SpecVerb) → verb_with spec.now left ≡ verb ∷ []
             → IsNew verb made) }
     {
-        drop(left);
         match spec {
             VerbSpec::Stream(options) => match StreamVerb::of(alloc, options) {
                 Ok(verb) => Ok(Verb::Stream(verb)),
@@ -49,6 +52,10 @@ impl Verb {
             },
             VerbSpec::Retain(options) => match RetainVerb::of(alloc, options) {
                 Ok(verb) => Ok(Verb::Retain(verb)),
+                Err(error) => Err(error),
+            },
+            VerbSpec::Shape(options) => match ShapeVerb::of(alloc, options, left) {
+                Ok(verb) => Ok(Verb::Shape(verb)),
                 Err(error) => Err(error),
             },
             VerbSpec::Stat(options) => match StatVerb::of(alloc, options) {
@@ -69,7 +76,7 @@ impl Verb {
     {
         match self {
             // It makes nothing before them.
-            Verb::Stream(_) | Verb::Retain(_) | Verb::Stat(_) => {
+            Verb::Stream(_) | Verb::Retain(_) | Verb::Shape(_) | Verb::Stat(_) => {
                 let _ = out;
                 Ok(())
             }
@@ -78,8 +85,9 @@ impl Verb {
 }
 
 impl Step for Verb {
-    ghost use Rattle.chain_core.specs.declared.verb.Verb.TheVariants.{Stream, Retain, Stat};
+    ghost use Rattle.chain_core.specs.declared.verb.Verb.TheVariants.{Stream, Retain, Shape, Stat};
     ghost use Rattle.chain_core.specs.Verbs.{WasGiven, meaning_in};
+    ghost use Rattle.verbs_join_nest.specs.contracts.verb.ShapeVerbStep.TheImpl.Laws as shape;
     ghost use Rattle.verbs_retain.specs.contracts.verb.RetainVerbStep.TheImpl.Laws as retain;
     ghost use Rattle.verbs_stat.specs.contracts.verb.StatVerbStep.TheImpl.Laws as stat;
     ghost use Rattle.verbs_stream.specs.contracts.verb.StreamVerbStep.TheImpl.Laws as stream;
@@ -91,30 +99,35 @@ impl Step for Verb {
     ghost broken = { elim [
       | Stream s ↦ ⟦<StreamVerb as Step>⟧.broken s
       | Retain s ↦ ⟦<RetainVerb as Step>⟧.broken s
+      | Shape s ↦ ⟦<ShapeVerb as Step>⟧.broken s
       | Stat s ↦ ⟦<StatVerb as Step>⟧.broken s
     ] };
 
     ghost whole = { elim [
       | Stream s ↦ stream.whole-law s
       | Retain s ↦ retain.whole-law s
+      | Shape s ↦ shape.whole-law s
       | Stat s ↦ stat.whole-law s
     ] };
 
     ghost quiet = { elim [
       | Stream s ↦ stream.quiet-law s
       | Retain s ↦ retain.quiet-law s
+      | Shape s ↦ shape.quiet-law s
       | Stat s ↦ stat.quiet-law s
     ] };
 
     ghost orderly = { elim [
       | Stream s ↦ stream.orderly-law s
       | Retain s ↦ retain.orderly-law s
+      | Shape s ↦ shape.orderly-law s
       | Stat s ↦ stat.orderly-law s
     ] };
 
     ghost closes = { elim [
       | Stream s ↦ stream.closes-law s
       | Retain s ↦ retain.closes-law s
+      | Shape s ↦ shape.closes-law s
       | Stat s ↦ stat.closes-law s
     ] };
 
@@ -122,6 +135,7 @@ impl Step for Verb {
         match self {
             Verb::Stream(verb) => verb.step(event, out)?,
             Verb::Retain(verb) => verb.step(event, out)?,
+            Verb::Shape(verb) => verb.step(event, out)?,
             Verb::Stat(verb) => verb.step(event, out)?,
         }
         Ok(())
@@ -131,6 +145,7 @@ impl Step for Verb {
         match self {
             Verb::Stream(verb) => verb.step_all(events, out),
             Verb::Retain(verb) => verb.step_all(events, out),
+            Verb::Shape(verb) => verb.step_all(events, out),
             Verb::Stat(verb) => verb.step_all(events, out),
         }
     }
@@ -139,6 +154,7 @@ impl Step for Verb {
         match self {
             Verb::Stream(verb) => verb.never_closes(),
             Verb::Retain(verb) => verb.never_closes(),
+            Verb::Shape(verb) => verb.never_closes(),
             Verb::Stat(verb) => verb.never_closes(),
         }
     }
@@ -147,6 +163,7 @@ impl Step for Verb {
         match self {
             Verb::Stream(verb) => verb.closed(),
             Verb::Retain(verb) => verb.closed(),
+            Verb::Shape(verb) => verb.closed(),
             Verb::Stat(verb) => verb.closed(),
         }
     }
@@ -155,6 +172,7 @@ impl Step for Verb {
         match self {
             Verb::Stream(verb) => verb.has_effects(),
             Verb::Retain(verb) => verb.has_effects(),
+            Verb::Shape(verb) => verb.has_effects(),
             Verb::Stat(verb) => verb.has_effects(),
         }
     }
@@ -163,6 +181,7 @@ impl Step for Verb {
         match self {
             Verb::Stream(verb) => verb.passes_all(),
             Verb::Retain(verb) => verb.passes_all(),
+            Verb::Shape(verb) => verb.passes_all(),
             Verb::Stat(verb) => verb.passes_all(),
         }
     }
@@ -171,6 +190,7 @@ impl Step for Verb {
         match self {
             Verb::Stream(verb) => verb.is_broken(),
             Verb::Retain(verb) => verb.is_broken(),
+            Verb::Shape(verb) => verb.is_broken(),
             Verb::Stat(verb) => verb.is_broken(),
         }
     }

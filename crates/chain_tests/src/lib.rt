@@ -3,3 +3,4 @@
 
 #[cfg(test)]
 mod plan_parts;
+mod plans;

@@ -3,17 +3,17 @@
 ghost use Rattle.std.specs.Prelude.{◌≡◌, [], List, true, IfOk, OnOk};
 ghost use Rattle.mlr_event.specs.declared.event.Event.{Event as SpecEvent};
 ghost use Rattle.mlr_event.specs.Verb.{Verb as SpecVerb, is_open};
-ghost use Rattle.read_files.specs.Represents.{can_read};
 ghost use Rattle.verbs_stream.specs.Meaning.{IsSound as IsSoundSpec};
 ghost use Rattle.chain_core.specs.Chains.{Represents};
 ghost use Rattle.chain_core.specs.Plans.{IsSound};
 ghost use Rattle.verb_specs.specs.Verbs.{AreSound};
 
+use crate::plans::plan_of;
 use chain_core::{
-    Chain, Ended, Let, NameList, Outlet, Plan, ReadTurn, Reader, Serial, SerialTurn, StyleList,
-    Verb, VerbList, VerbSpec, no_lefts, run_serial,
+    Chain, Ended, Let, Outlet, Plan, ReadTurn, Reader, Serial, SerialTurn, Verb, VerbList,
+    VerbSpec, no_lefts, run_serial,
 };
-use mlr_event::{Ctx, Event, Events, Format, InputName, Names, ReadOpts, Target};
+use mlr_event::{Ctx, Event, Events, Format, InputName, Names, Target};
 use mlr_list::List;
 use mlr_record::Record;
 use mlr_spec::NoMemory;
@@ -24,48 +24,6 @@ use std::thread;
 use std::thread::Threads;
 use verbs_seq::SeqSpec;
 use verbs_stream::{Cat, FillDown, Head, Sec2Gmt, Spec};
-use writers::WriteOpts;
-
-/// DKVP, as it is read.
-fn read_opts(alloc: Global) -> Result<ReadOpts, NoMemory>
-    ensures { IfOk result (λ opts. can_read opts ≡ true) }
-{
-    ReadOpts::of(alloc, Format::Dkvp)
-}
-
-/// The styles of a plan: this format, and one that standard output doesn't have.
-fn styles(alloc: Global, format: Format) -> Result<StyleList, NoMemory>
-    ensures { IfOk result (λ styles. styles ≡ [] → ⊥) }
-{
-    let mut styles = List::new(alloc);
-    styles.push(WriteOpts::of(alloc, format)?)?;
-    styles.push(WriteOpts::of(alloc, Format::Csv)?)?;
-    Ok(styles)
-}
-
-/// Standard input alone.
-fn stdin(alloc: Global) -> Result<NameList, NoMemory> {
-    let mut names = NameList::new(alloc);
-    names.push(InputName::Stdin)?;
-    Ok(names)
-}
-
-/// A plan that reads standard input as DKVP, and writes this format.
-fn plan_of(alloc: Global, verbs: VerbList, format: Format) -> Result<Plan, NoMemory>
-    requires { AreSound verbs }
-    ensures { IfOk result IsSound }
-{
-    Ok(Plan {
-        read: read_opts(alloc)?,
-        inputs: stdin(alloc)?,
-        no_input: false,
-        verbs,
-        styles: styles(alloc, format)?,
-        per_batch: 500,
-        turns: 1_000_000,
-        serial: true,
-    })
-}
 
 /// Appends a verb.
 fn push(verbs: &mut VerbList, spec: Spec) -> Result<(), NoMemory>

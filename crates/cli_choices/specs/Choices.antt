@@ -49,9 +49,9 @@ int_or default option options = elim (last option options) [ Some word ↦ int_i
 abbrev pub separator_in_word : List ℕ → List ℕ → List ℕ
 separator_in_word default word = elim (separator_in word) [ Some text ↦ text | None ↦ default ]
 
--- the separator after the last `-s`
-abbrev pub separator_or : List ℕ → List Given → List ℕ
-separator_or default options = elim (last (codes "-s") options) [ Some word ↦ separator_in_word default word | None ↦ default ]
+-- the separator after the last option with this name
+abbrev pub separator_or : List ℕ → List ℕ → List Given → List ℕ
+separator_or default option options = elim (last option options) [ Some word ↦ separator_in_word default word | None ↦ default ]
 
 -- the number of an option with this name, or else what came before
 abbrev pub later_number : ℕ → List ℕ → Given → ℕ

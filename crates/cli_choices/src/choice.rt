@@ -98,11 +98,17 @@ fn int_in_word(word: &[u8], default: i64) -> i64
     }
 }
 
-/// The separator after the last `-s`, or a default.
-pub fn separator_or(alloc: Global, given: &VerbWords, default: &[u8]) -> Result<Bytes, NoMemory>
-    ensures { IfOk result (λ text. text ≡ separator_or default.now given.now.options) }
+/// The separator after the last option with this name, or a default.
+pub fn separator_or(
+    alloc: Global,
+    given: &VerbWords,
+    option: &[u8],
+    default: &[u8],
+) -> Result<Bytes, NoMemory>
+    ensures { IfOk result (λ text. text
+        ≡ separator_or default.now option.now given.now.options) }
 {
-    match given.last(b"-s") {
+    match given.last(option) {
         Some(word) => Bytes::copy_of(alloc, separator_in_word(word, default)),
         None => Bytes::copy_of(alloc, default),
     }

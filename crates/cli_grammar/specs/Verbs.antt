@@ -22,10 +22,10 @@ all_verbs =
     verb.Altkv ∷ verb.Cat ∷ verb.Count ∷ verb.CountDistinct ∷ verb.CountSimilar ∷ verb.Cut ∷ verb.Decimate ∷
     verb.FillDown ∷ verb.FillEmpty ∷ verb.Flatten ∷ verb.Gap ∷ verb.Grep ∷ verb.GroupBy ∷ verb.GroupLike ∷ verb.Gsub ∷
     verb.HavingFields ∷ verb.Head ∷ verb.JsonParse ∷ verb.JsonStringify ∷ verb.Label ∷ verb.LeastFrequent ∷
-    verb.MergeFields ∷ verb.MostFrequent ∷ verb.Nothing ∷ verb.Regularize ∷ verb.Rename ∷ verb.Reorder ∷ verb.Repeat ∷
-    verb.Sec2Gmt ∷ verb.Sec2GmtDate ∷ verb.Seqgen ∷ verb.Sort ∷ verb.SortWithinRecords ∷ verb.Sparsify ∷ verb.Ssub ∷
-    verb.Stats1 ∷ verb.Step ∷ verb.Sub ∷ verb.Tac ∷ verb.Tail ∷ verb.Template ∷ verb.Top ∷ verb.Unflatten ∷ verb.Uniq ∷
-    verb.Unspace ∷ verb.Unsparsify ∷ []
+    verb.MergeFields ∷ verb.MostFrequent ∷ verb.Nest ∷ verb.Nothing ∷ verb.Regularize ∷ verb.Rename ∷ verb.Reorder ∷
+    verb.Repeat ∷ verb.Reshape ∷ verb.Sec2Gmt ∷ verb.Sec2GmtDate ∷ verb.Seqgen ∷ verb.Sort ∷ verb.SortWithinRecords ∷
+    verb.Sparsify ∷ verb.Ssub ∷ verb.Stats1 ∷ verb.Step ∷ verb.Sub ∷ verb.Tac ∷ verb.Tail ∷ verb.Template ∷ verb.Top ∷
+    verb.Unflatten ∷ verb.Uniq ∷ verb.Unspace ∷ verb.Unsparsify ∷ []
 
 abbrev pub row_of_verb : VerbName → VerbRow
 row_of_verb verb.Altkv = record {
@@ -166,6 +166,12 @@ row_of_verb verb.MostFrequent = record {
   groups = (codes "-f" ∷ [], true) ∷ [];
   words = [];
 }
+row_of_verb verb.Nest = record {
+  name = codes "nest";
+  options = (codes "--explode", kind.Nothing) ∷ (codes "--implode", kind.Nothing) ∷ (codes "--values", kind.Nothing) ∷ (codes "--pairs", kind.Nothing) ∷ (codes "--across-records", kind.Nothing) ∷ (codes "--across-fields", kind.Nothing) ∷ (codes "--evar", kind.Separator) ∷ (codes "--ivar", kind.Separator) ∷ (codes "-f", kind.Text) ∷ (codes "--nested-fs", kind.Separator) ∷ (codes "--nested-ps", kind.Separator) ∷ [];
+  groups = (codes "--explode" ∷ codes "--implode" ∷ codes "--evar" ∷ codes "--ivar" ∷ [], true) ∷ (codes "--values" ∷ codes "--pairs" ∷ codes "--evar" ∷ codes "--ivar" ∷ [], true) ∷ (codes "--across-records" ∷ codes "--across-fields" ∷ codes "--evar" ∷ codes "--ivar" ∷ [], true) ∷ (codes "--implode" ∷ codes "--pairs" ∷ [], false) ∷ (codes "--implode" ∷ codes "--across-fields" ∷ [], false) ∷ (codes "-f" ∷ [], true) ∷ [];
+  words = [];
+}
 row_of_verb verb.Nothing = record {
   name = codes "nothing";
   options = [];
@@ -194,6 +200,12 @@ row_of_verb verb.Repeat = record {
   name = codes "repeat";
   options = (codes "-n", count) ∷ (codes "-f", kind.Text) ∷ [];
   groups = (codes "-n" ∷ codes "-f" ∷ [], true) ∷ [];
+  words = [];
+}
+row_of_verb verb.Reshape = record {
+  name = codes "reshape";
+  options = (codes "-i", kind.Names) ∷ (codes "-r", kind.Names) ∷ (codes "-o", kind.Names) ∷ (codes "-s", kind.Names) ∷ [];
+  groups = (codes "-i" ∷ codes "-r" ∷ codes "-s" ∷ [], true) ∷ (codes "-o" ∷ codes "-s" ∷ [], true) ∷ [];
   words = [];
 }
 row_of_verb verb.Sec2Gmt = record {

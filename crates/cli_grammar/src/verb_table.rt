@@ -60,11 +60,13 @@ pub enum VerbName {
     LeastFrequent,
     MergeFields,
     MostFrequent,
+    Nest,
     Nothing,
     Regularize,
     Rename,
     Reorder,
     Repeat,
+    Reshape,
     Sec2Gmt,
     Sec2GmtDate,
     Seqgen,
@@ -86,7 +88,7 @@ pub enum VerbName {
 }
 
 /// All verbs that have rows, in the order of their names.
-const VERBS: [VerbName; 46] = [
+const VERBS: [VerbName; 48] = [
     VerbName::Altkv,
     VerbName::Cat,
     VerbName::Count,
@@ -110,11 +112,13 @@ const VERBS: [VerbName; 46] = [
     VerbName::LeastFrequent,
     VerbName::MergeFields,
     VerbName::MostFrequent,
+    VerbName::Nest,
     VerbName::Nothing,
     VerbName::Regularize,
     VerbName::Rename,
     VerbName::Reorder,
     VerbName::Repeat,
+    VerbName::Reshape,
     VerbName::Sec2Gmt,
     VerbName::Sec2GmtDate,
     VerbName::Seqgen,
@@ -562,6 +566,59 @@ const MERGE_FIELDS: VerbRow = VerbRow {
     words: &[],
 };
 
+/// The options that make a form of `nest` together: one of each of the first three groups. An implosion has values and goes across
+/// records.
+const NEST_GROUPS: [Group; 6] = [
+    (&[b"--explode", b"--implode", b"--evar", b"--ivar"], true),
+    (&[b"--values", b"--pairs", b"--evar", b"--ivar"], true),
+    (
+        &[
+            b"--across-records",
+            b"--across-fields",
+            b"--evar",
+            b"--ivar",
+        ],
+        true,
+    ),
+    (&[b"--implode", b"--pairs"], false),
+    (&[b"--implode", b"--across-fields"], false),
+    (&[b"-f"], true),
+];
+
+const NEST: VerbRow = VerbRow {
+    name: b"nest",
+    options: &[
+        (b"--explode", Kind::Nothing),
+        (b"--implode", Kind::Nothing),
+        (b"--values", Kind::Nothing),
+        (b"--pairs", Kind::Nothing),
+        (b"--across-records", Kind::Nothing),
+        (b"--across-fields", Kind::Nothing),
+        (b"--evar", Kind::Separator),
+        (b"--ivar", Kind::Separator),
+        (b"-f", Kind::Text),
+        (b"--nested-fs", Kind::Separator),
+        (b"--nested-ps", Kind::Separator),
+    ],
+    groups: &NEST_GROUPS,
+    words: &[],
+};
+
+/// A direction of `reshape`: what is made long with the names of two fields, or those of two fields that are made wide.
+const RESHAPE_GROUPS: [Group; 2] = [(&[b"-i", b"-r", b"-s"], true), (&[b"-o", b"-s"], true)];
+
+const RESHAPE: VerbRow = VerbRow {
+    name: b"reshape",
+    options: &[
+        (b"-i", Kind::Names),
+        (b"-r", Kind::Names),
+        (b"-o", Kind::Names),
+        (b"-s", Kind::Names),
+    ],
+    groups: &RESHAPE_GROUPS,
+    words: &[],
+};
+
 const STATS1_GROUPS: [Group; 2] = [(&[b"-a"], true), (&[b"-f"], true)];
 
 const STATS1: VerbRow = VerbRow {
@@ -634,11 +691,13 @@ impl VerbName {
             VerbName::LeastFrequent => LEAST_FREQUENT,
             VerbName::MergeFields => MERGE_FIELDS,
             VerbName::MostFrequent => MOST_FREQUENT,
+            VerbName::Nest => NEST,
             VerbName::Nothing => NOTHING,
             VerbName::Regularize => REGULARIZE,
             VerbName::Rename => RENAME,
             VerbName::Reorder => REORDER,
             VerbName::Repeat => REPEAT,
+            VerbName::Reshape => RESHAPE,
             VerbName::Sec2Gmt => SEC2GMT,
             VerbName::Sec2GmtDate => SEC2GMTDATE,
             VerbName::Seqgen => SEQGEN,

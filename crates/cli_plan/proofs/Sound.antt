@@ -6,7 +6,7 @@ use Rattle.std.specs.Str.{bytes_eq}
 use Rattle.std.proofs.lemmas.Bool.{false≢true}
 use Rattle.std.proofs.lemmas.Slice.Eq.{bytes_eq-Decides}
 use Rattle.verb_specs.specs.declared.verb_spec.VerbSpec.{VerbSpec}
-use Rattle.verb_specs.specs.declared.verb_spec.VerbSpec.TheVariants.{Stream, Retain, Seq, Stat}
+use Rattle.verb_specs.specs.declared.verb_spec.VerbSpec.TheVariants.{Stream, Retain, Seq, Shape, Stat}
 use Rattle.chain_core.specs.Plans.{IsSound}
 use Rattle.verb_specs.specs.Verbs.{AreSound, AreVerbs, IsVerb}
 use Rattle.chain_core.specs.declared.plan.Plan.{Plan}
@@ -176,11 +176,13 @@ as-stream given flatsep sep verb.Label fits clear other spec is =
 as-stream given flatsep sep verb.LeastFrequent fits clear other spec is = subst IsVerb (sym is) tt
 as-stream given flatsep sep verb.MergeFields fits clear other spec is = subst IsVerb (sym is.1) tt
 as-stream given flatsep sep verb.MostFrequent fits clear other spec is = subst IsVerb (sym is) tt
+as-stream given flatsep sep verb.Nest fits clear other spec is = subst IsVerb (sym is) tt
 as-stream given flatsep sep verb.Nothing fits clear other spec is = subst IsVerb (sym is) tt
 as-stream given flatsep sep verb.Regularize fits clear other spec is = subst IsVerb (sym is) tt
 as-stream given flatsep sep verb.Rename fits clear other spec is = subst IsVerb (sym is.1) tt
 as-stream given flatsep sep verb.Reorder fits clear other spec is = subst IsVerb (sym is) tt
 as-stream given flatsep sep verb.Repeat fits clear other spec is = subst IsVerb (sym is) tt
+as-stream given flatsep sep verb.Reshape fits clear other spec is = subst IsVerb (sym is.1) tt
 as-stream given flatsep sep verb.Sec2Gmt fits clear other spec is = subst IsVerb (sym is) tt
 as-stream given flatsep sep verb.Sec2GmtDate fits clear other spec is = subst IsVerb (sym is) tt
 as-stream given flatsep sep verb.Seqgen fits clear other spec is = absurd (false≢true (sym other))
@@ -226,11 +228,13 @@ first-is verb.Label given flatsep spec source is = absurd (false≢true source)
 first-is verb.LeastFrequent given flatsep spec source is = absurd (false≢true source)
 first-is verb.MergeFields given flatsep spec source is = absurd (false≢true source)
 first-is verb.MostFrequent given flatsep spec source is = absurd (false≢true source)
+first-is verb.Nest given flatsep spec source is = absurd (false≢true source)
 first-is verb.Nothing given flatsep spec source is = absurd (false≢true source)
 first-is verb.Regularize given flatsep spec source is = absurd (false≢true source)
 first-is verb.Rename given flatsep spec source is = absurd (false≢true source)
 first-is verb.Reorder given flatsep spec source is = absurd (false≢true source)
 first-is verb.Repeat given flatsep spec source is = absurd (false≢true source)
+first-is verb.Reshape given flatsep spec source is = absurd (false≢true source)
 first-is verb.Sec2Gmt given flatsep spec source is = absurd (false≢true source)
 first-is verb.Sec2GmtDate given flatsep spec source is = absurd (false≢true source)
 first-is verb.Sort given flatsep spec source is = absurd (false≢true source)
@@ -274,11 +278,13 @@ source-good verb.Label given source good = absurd (false≢true source)
 source-good verb.LeastFrequent given source good = absurd (false≢true source)
 source-good verb.MergeFields given source good = absurd (false≢true source)
 source-good verb.MostFrequent given source good = absurd (false≢true source)
+source-good verb.Nest given source good = absurd (false≢true source)
 source-good verb.Nothing given source good = absurd (false≢true source)
 source-good verb.Regularize given source good = absurd (false≢true source)
 source-good verb.Rename given source good = absurd (false≢true source)
 source-good verb.Reorder given source good = absurd (false≢true source)
 source-good verb.Repeat given source good = absurd (false≢true source)
+source-good verb.Reshape given source good = absurd (false≢true source)
 source-good verb.Sec2Gmt given source good = absurd (false≢true source)
 source-good verb.Sec2GmtDate given source good = absurd (false≢true source)
 source-good verb.Sort given source good = absurd (false≢true source)
@@ -330,6 +336,7 @@ module _ (flatsep : List ℕ) (sep : 1 ≤ length flatsep) where
       stream-first : (spec : VerbSpec) (specs : List VerbSpec) → IsVerb spec → AreVerbs specs → AreSound (spec ∷ specs)
       stream-first (Stream spec) specs is rest = (is, rest)
       stream-first (Retain spec) specs is rest = rest
+      stream-first (Shape spec) specs is rest = rest
       stream-first (Stat spec) specs is rest = rest
       stream-first (Seq seq) specs is rest = absurd is
 

@@ -10,7 +10,7 @@ use Rattle.cli_grammar.specs.declared.verb_table.VerbName.{VerbName}
 use Rattle.cli_grammar.specs.declared.verb_table.VerbName.TheVariants as verb
 use Rattle.mlr_event.specs.Reading.{is_among}
 use Rattle.mlr_spec.specs.Pairs.{are_distinct}
-use Rattle.cli_choices.specs.Choices.{names_after, number_or, own_word}
+use Rattle.cli_choices.specs.Choices.{names_after, number_or, own_word, word_or}
 use Rattle.cli_choices.specs.Names.{all_names}
 
 -- whether two names are options of a group
@@ -44,6 +44,14 @@ has_repeated given = not (are_distinct (all_names (own_word 0 given)))
 abbrev pub is_odd_rename : VerbWords → Bool
 is_odd_rename given = length (all_names (own_word 0 given)) % 2 == 1
 
+-- the option of `reshape` that names two fields
+abbrev pub direction : VerbWords → List ℕ
+direction given = if has (codes "-s") given.options then codes "-s" else codes "-o"
+
+-- whether the last `-s` or `-o` of `reshape` doesn't have two names
+abbrev pub is_not_of_two : VerbWords → Bool
+is_not_of_two given = not (length (all_names (word_or [] (direction given) given.options)) == 2)
+
 -- whether `top -a` has several names
 abbrev pub is_whole_of_several : VerbWords → Bool
 is_whole_of_several given = has (codes "-a") given.options && nat_lt 1 (length (names_after (codes "-f") given.options))
@@ -52,6 +60,7 @@ is_whole_of_several given = has (codes "-a") given.options && nat_lt 1 (length (
 abbrev pub names_contradict : VerbName → VerbWords → Bool
 names_contradict verb.Label given = has_repeated given
 names_contradict verb.Rename given = is_odd_rename given
+names_contradict verb.Reshape given = is_not_of_two given
 names_contradict verb.Top given = is_whole_of_several given
 names_contradict _ given = false
 
@@ -66,6 +75,7 @@ later_of_whole options = max (first_number (codes "-a") options) (number_or 0 (c
 
 -- the number of the word that contradicts the names, or of the names themselves
 abbrev pub names_number : VerbName → VerbWords → ℕ
+names_number verb.Reshape given = number_or 0 (direction given) given.options
 names_number verb.Top given = later_of_whole given.options
 names_number _ given = given.own
 

@@ -17,10 +17,12 @@ pub mod JsonStringify
 pub mod Label
 pub mod MergeFields
 pub mod OwnPattern
+pub mod PatternOption
 pub mod PatternWords
 pub mod Rename
 pub mod Reorder
 pub mod Repeat
+pub mod Reshape
 pub mod Sec2Gmt
 pub mod Sec2GmtDate
 pub mod Seqgen

@@ -8,5 +8,5 @@ use Rattle.cli_choices.specs.Names.{given_names}
 abbrev pub unflatten_of : List ℕ → VerbWords → Unflatten
 unflatten_of flatsep given = record {
   names = given_names (codes "-f") given.options;
-  separator = separator_or flatsep given.options;
+  separator = separator_or flatsep (codes "-s") given.options;
 }

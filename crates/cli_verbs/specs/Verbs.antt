@@ -1,7 +1,7 @@
 -- The verb that words give.
 use Rattle.std.specs.Prelude.{◌≡◌, ℕ, Bool, false, ◌==◌, if◌then◌else◌, List, [], ◌∷◌, length, codes}
 use Rattle.verb_specs.specs.declared.verb_spec.VerbSpec.{VerbSpec}
-use Rattle.verb_specs.specs.declared.verb_spec.VerbSpec.TheVariants.{Stream, Retain, Seq, Stat}
+use Rattle.verb_specs.specs.declared.verb_spec.VerbSpec.TheVariants.{Stream, Retain, Seq, Shape, Stat}
 use Rattle.cli_grammar.specs.Options.{has}
 use Rattle.cli_grammar.specs.declared.given.VerbWords.{VerbWords}
 use Rattle.cli_grammar.specs.declared.verb_table.VerbName.{VerbName}
@@ -14,6 +14,8 @@ use Rattle.verbs_pattern.specs.declared.having_fields.HavingFields.{HavingFields
 use Rattle.verbs_pattern.specs.declared.rename.Rename.{Rename}
 use Rattle.verbs_pattern.specs.declared.sub.Sub.{Sub}
 use Rattle.verbs_seq.specs.Seq.{IsSoundSeq}
+use Rattle.verbs_join_nest.specs.declared.spec.Spec.TheVariants as shape
+use Rattle.verbs_reshape.specs.declared.reshape.Reshape.{Reshape}
 use Rattle.verbs_retain.specs.declared.spec.Spec.TheVariants as retain
 use Rattle.verbs_stat.specs.declared.spec.Spec.TheVariants as stat
 use Rattle.verbs_stream.specs.declared.spec.Spec.TheVariants as stream
@@ -27,6 +29,7 @@ use Rattle.cli_retain.specs.Sort.{sort_of}
 use Rattle.cli_retain.specs.Tail.{tail_of}
 use Rattle.cli_retain.specs.Uniq.{uniq_of}
 use Rattle.cli_retain.specs.Unsparsify.{unsparsify_of}
+use Rattle.cli_shape.specs.Nest.{nest_of}
 use Rattle.cli_stat.specs.Stats1.{stats1_of}
 use Rattle.cli_stat.specs.Step.{step_of}
 use Rattle.cli_stat.specs.Top.{top_of}
@@ -55,8 +58,10 @@ use Rattle.cli_verbs.specs.Cut.{cut_patterns, IsCutOf}
 use Rattle.cli_verbs.specs.Grep.{grep_patterns, IsGrepOf}
 use Rattle.cli_verbs.specs.Gsub.{IsGsubOf}
 use Rattle.cli_verbs.specs.HavingFields.{having_patterns, IsHavingFieldsOf}
-use Rattle.cli_verbs.specs.MergeFields.{merge_patterns, IsMergeFieldsOf}
+use Rattle.cli_verbs.specs.MergeFields.{IsMergeFieldsOf}
+use Rattle.cli_verbs.specs.PatternOption.{option_patterns}
 use Rattle.cli_verbs.specs.Rename.{rename_patterns, IsRenameOf}
+use Rattle.cli_verbs.specs.Reshape.{IsReshapeOf}
 use Rattle.cli_verbs.specs.Sub.{IsSubOf}
 use Rattle.cli_verbs.specs.Seqgen.{seqgen_of, IsRefusedSeq}
 use Rattle.cli_verbs.specs.OwnPattern.{own_pattern, own_patterns}
@@ -84,6 +89,10 @@ IsStatMergeFields given spec = (options : MergeFields) × (spec ≡ Stat (stat.M
 -- the spec is `rename` with these options
 abbrev pub IsStreamRename : VerbWords → VerbSpec → Type 0
 IsStreamRename given spec = (options : Rename) × (spec ≡ Stream (stream.Rename options)) × IsRenameOf given options
+
+-- the spec is `reshape` with these options
+abbrev pub IsShapeReshape : VerbWords → VerbSpec → Type 0
+IsShapeReshape given spec = (options : Reshape) × (spec ≡ Shape (shape.Reshape options)) × IsReshapeOf given options
 
 -- the spec is `sub` with these options
 abbrev pub IsStreamSub : VerbWords → VerbSpec → Type 0
@@ -114,11 +123,13 @@ IsVerbNamed verb.Label flatsep given spec = spec ≡ Stream (stream.Label (label
 IsVerbNamed verb.LeastFrequent flatsep given spec = spec ≡ Retain (retain.LeastFrequent (frequent_of given))
 IsVerbNamed verb.MergeFields flatsep given spec = IsStatMergeFields given spec
 IsVerbNamed verb.MostFrequent flatsep given spec = spec ≡ Retain (retain.MostFrequent (frequent_of given))
+IsVerbNamed verb.Nest flatsep given spec = spec ≡ Shape (shape.Nest (nest_of given))
 IsVerbNamed verb.Nothing flatsep given spec = spec ≡ Stream stream.Nothing
 IsVerbNamed verb.Regularize flatsep given spec = spec ≡ Stream stream.Regularize
 IsVerbNamed verb.Rename flatsep given spec = IsStreamRename given spec
 IsVerbNamed verb.Reorder flatsep given spec = spec ≡ Stream (stream.Reorder (reorder_of given))
 IsVerbNamed verb.Repeat flatsep given spec = spec ≡ Stream (stream.Repeat (repeat_of given))
+IsVerbNamed verb.Reshape flatsep given spec = IsShapeReshape given spec
 IsVerbNamed verb.Sec2Gmt flatsep given spec = spec ≡ Stream (stream.Sec2Gmt (sec2gmt_of given))
 IsVerbNamed verb.Sec2GmtDate flatsep given spec = spec ≡ Stream (stream.Sec2GmtDate (sec2gmtdate_of given))
 IsVerbNamed verb.Seqgen flatsep given spec = spec ≡ Seq (seqgen_of given)
@@ -148,8 +159,9 @@ verb_patterns verb.Cut given = cut_patterns given
 verb_patterns verb.Grep given = grep_patterns given
 verb_patterns verb.Gsub given = own_patterns given
 verb_patterns verb.HavingFields given = having_patterns given
-verb_patterns verb.MergeFields given = merge_patterns given
+verb_patterns verb.MergeFields given = option_patterns given
 verb_patterns verb.Rename given = rename_patterns given
+verb_patterns verb.Reshape given = option_patterns given
 verb_patterns verb.Sub given = own_patterns given
 verb_patterns _ given = []
 
@@ -179,5 +191,6 @@ patterns_so_far verb.Grep given = own_so_far (has (codes "-i") given.options) gi
 patterns_so_far verb.Gsub given = own_so_far false given
 patterns_so_far verb.Sub given = own_so_far false given
 patterns_so_far verb.HavingFields given = having_patterns given
-patterns_so_far verb.MergeFields given = merge_patterns given
+patterns_so_far verb.MergeFields given = option_patterns given
+patterns_so_far verb.Reshape given = option_patterns given
 patterns_so_far _ given = []

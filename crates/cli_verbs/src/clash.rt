@@ -2,9 +2,9 @@
 ghost use Rattle.std.specs.Prelude.{◌≡◌, [], IfOk, map};
 ghost use Rattle.std.specs.List.{list_any};
 ghost use Rattle.mlr_event.specs.Reading.{is_among};
-ghost use Rattle.cli_verbs.specs.Clash.{are_rivals, clash_after, clash_of, earlier, exclusive_groups, first_number, has_repeated, is_odd_rename, is_whole_of_several, later_of_whole, names_clash, names_contradict, names_number, option_clash, are_in};
+ghost use Rattle.cli_verbs.specs.Clash.{are_rivals, clash_after, clash_of, direction, earlier, exclusive_groups, first_number, has_repeated, is_not_of_two, is_odd_rename, is_whole_of_several, later_of_whole, names_clash, names_contradict, names_number, option_clash, are_in};
 
-use cli_choices::{all_names, names_after, number_or};
+use cli_choices::{all_names, names_after, number_or, word_or};
 use cli_grammar::{Given, Group, VerbName, VerbWords};
 use mlr_record::split::count_parts;
 use mlr_spec::NoMemory;
@@ -109,7 +109,7 @@ fn is_among(names: &[&[u8]], name: &[u8]) -> bool
     false
 }
 
-/// The number of the word where the names of `label`, `rename` or `top` contradict each other or an option.
+/// The number of the word where the names of `label`, `rename`, `reshape` or `top` contradict each other or an option.
 fn names_clash(alloc: Global, given: &VerbWords) -> Result<Option<usize>, NoMemory>
     ensures { IfOk result (λ number. number ≡ names_clash given.now.verb given.now) }
 {
@@ -127,6 +127,7 @@ fn names_contradict(alloc: Global, given: &VerbWords) -> Result<bool, NoMemory>
     match given.verb {
         VerbName::Label => has_repeated(alloc, given),
         VerbName::Rename => Ok(is_odd_rename(given)),
+        VerbName::Reshape => Ok(is_not_of_two(given)),
         VerbName::Top => is_whole_of_several(alloc, given),
         _ => Ok(false),
     }
@@ -137,6 +138,7 @@ fn names_number(given: &VerbWords) -> usize
     ensures { result ≡ names_number given.now.verb given.now }
 {
     match given.verb {
+        VerbName::Reshape => number_or(given.options.as_slice(), direction(given), 0),
         VerbName::Top => later_of_whole(given.options.as_slice()),
         _ => given.own,
     }
@@ -155,6 +157,20 @@ fn is_odd_rename(given: &VerbWords) -> bool
     ensures { result ≡ is_odd_rename given.now }
 {
     count_parts(b",", given.word(0)) % 2 == 1
+}
+
+/// The option of `reshape` that names two fields.
+fn direction(given: &VerbWords) -> &'static [u8]
+    ensures { result.now ≡ direction given.now }
+{
+    if given.has(b"-s") { b"-s" } else { b"-o" }
+}
+
+/// Whether the last `-s` or `-o` of `reshape` doesn't have two names.
+fn is_not_of_two(given: &VerbWords) -> bool
+    ensures { result ≡ is_not_of_two given.now }
+{
+    count_parts(b",", word_or(given, direction(given), b"")) != 2
 }
 
 /// Whether `top -a` has several names.

@@ -14,6 +14,6 @@ pub(crate) fn flatten(alloc: Global, flatsep: &[u8], given: &VerbWords) -> Resul
 {
     Ok(Flatten {
         names: given_names(alloc, given, b"-f")?,
-        separator: separator_or(alloc, given, flatsep)?,
+        separator: separator_or(alloc, given, b"-s", flatsep)?,
     })
 }

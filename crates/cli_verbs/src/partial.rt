@@ -6,8 +6,8 @@ ghost use Rattle.cli_verbs.specs.Verbs.{own_so_far, patterns_so_far};
 
 use crate::fault::Fault;
 use crate::having_fields::check_patterns;
-use crate::merge_fields::check_merge;
 use crate::own_pattern::own_pattern;
+use crate::pattern_option::check_option;
 use cli_grammar::{VerbName, VerbWords};
 use std::alloc::Global;
 
@@ -22,7 +22,7 @@ pub fn partial_fault(alloc: Global, given: &VerbWords) -> Result<(), Fault>
         VerbName::Grep => check_own(alloc, given, given.has(b"-i")),
         VerbName::Gsub | VerbName::Sub => check_own(alloc, given, false),
         VerbName::HavingFields => check_patterns(alloc, given.options.as_slice()),
-        VerbName::MergeFields => check_merge(alloc, given),
+        VerbName::MergeFields | VerbName::Reshape => check_option(alloc, given),
         _ => Ok(()),
     }
 }

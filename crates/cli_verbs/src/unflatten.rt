@@ -18,6 +18,6 @@ pub(crate) fn unflatten(
 {
     Ok(Unflatten {
         names: given_names(alloc, given, b"-f")?,
-        separator: separator_or(alloc, given, flatsep)?,
+        separator: separator_or(alloc, given, b"-s", flatsep)?,
     })
 }

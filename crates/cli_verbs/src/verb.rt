@@ -22,6 +22,7 @@ use crate::merge_fields::merge_fields;
 use crate::rename::rename;
 use crate::reorder::reorder;
 use crate::repeat::repeat;
+use crate::reshape::reshape;
 use crate::sec2gmt::sec2gmt;
 use crate::sec2gmtdate::sec2gmtdate;
 use crate::seqgen::seqgen;
@@ -42,11 +43,13 @@ use cli_retain::sort::sort;
 use cli_retain::tail::tail;
 use cli_retain::uniq::uniq;
 use cli_retain::unsparsify::unsparsify;
+use cli_shape::nest::nest;
 use cli_stat::stats1::stats1;
 use cli_stat::step::step;
 use cli_stat::top::top;
 use std::alloc::Global;
 use verb_specs::VerbSpec;
+use verbs_join_nest::Spec as ShapeSpec;
 use verbs_retain::Spec as RetainSpec;
 use verbs_stat::Spec as StatSpec;
 use verbs_stream::Spec;
@@ -93,11 +96,13 @@ pub fn verb_of(alloc: Global, flatsep: &[u8], given: &VerbWords) -> Result<VerbS
         VerbName::MostFrequent => return Ok(VerbSpec::Retain(RetainSpec::MostFrequent(frequent(
             alloc, given,
         )?))),
+        VerbName::Nest => return Ok(VerbSpec::Shape(ShapeSpec::Nest(nest(alloc, given)?))),
         VerbName::Nothing => Spec::Nothing,
         VerbName::Regularize => Spec::Regularize,
         VerbName::Rename => Spec::Rename(rename(alloc, given)?),
         VerbName::Reorder => Spec::Reorder(reorder(alloc, given)?),
         VerbName::Repeat => Spec::Repeat(repeat(alloc, given)?),
+        VerbName::Reshape => return Ok(VerbSpec::Shape(ShapeSpec::Reshape(reshape(alloc, given)?))),
         VerbName::Sec2Gmt => Spec::Sec2Gmt(sec2gmt(alloc, given)?),
         VerbName::Sec2GmtDate => Spec::Sec2GmtDate(sec2gmtdate(alloc, given)?),
         VerbName::Seqgen => return Ok(VerbSpec::Seq(seqgen(alloc, given)?)),

@@ -253,7 +253,7 @@ fn is_next_numbered() -> bool {
 }
 
 /// Checks options, contexts and lists of events.
-pub fn check_events(rt: &impl Abort, alloc: Global) -> Result<(), NoMemory> {
+pub(crate) fn check_events(rt: &impl Abort, alloc: Global) -> Result<(), NoMemory> {
     assert_eq!(rt; first_misnamed(alloc)?, None);
     assert_eq!(rt; first_wrong_files(alloc)?, None);
     assert!(rt; are_streams(alloc)?);

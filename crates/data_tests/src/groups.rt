@@ -215,7 +215,7 @@ fn first_wrong_entry(alloc: Global) -> Result<Result<usize, usize>, NoMemory> {
 }
 
 /// Checks groups and counts by their tables.
-pub fn check_groups(rt: &impl Abort, alloc: Global) -> Result<(), NoMemory> {
+pub(crate) fn check_groups(rt: &impl Abort, alloc: Global) -> Result<(), NoMemory> {
     assert_eq!(rt; first_wrong_groups(alloc)?, None);
     let mut groups = many_groups(alloc)?;
     assert_eq!(rt; groups.enter(&row_of(alloc, b"a=m|m")?)?, Some(109));

@@ -7,6 +7,7 @@ mod events;
 mod groups;
 #[cfg(test)]
 mod json;
+mod one_field;
 #[cfg(test)]
 mod records;
 #[cfg(test)]

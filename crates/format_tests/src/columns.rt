@@ -1,12 +1,11 @@
 //! Blocks and lines, and what is written of them.
-ghost use Rattle.std.specs.Prelude.{◌≡◌, [], IfOk};
-
+use crate::blocks::used_block;
 use crate::fields::record_of;
 use mlr_record::Record;
 use mlr_spec::NoMemory;
 use mlr_value::{Bytes, Value};
 use std::alloc::Global;
-use text_columns::{Block, append_xtab};
+use text_columns::append_xtab;
 
 /// A way of writing records.
 #[derive(Clone, Copy)]
@@ -24,18 +23,6 @@ const BARRED: Form = Form::Block {
     barred: true,
     headerless: false,
 };
-
-/// A block that held another line before.
-fn used_block(alloc: Global) -> Result<Block, NoMemory>
-    ensures { IfOk result (λ block. block ≡ []) }
-{
-    let mut block = Block::new(alloc);
-    let other = record_of(alloc, b"other=line")?;
-    block.push_keys(&other)?;
-    block.push_values(&other)?;
-    block.clear();
-    Ok(block)
-}
 
 /// The text of a block of these records, each on a line.
 fn block_of(

@@ -134,7 +134,7 @@ fn check_bytes(rt: &impl Abort, alloc: Global) -> Result<(), NoMemory> {
 }
 
 /// Checks the reader of CSV and TSV by its tables.
-pub fn check_csv(rt: &impl Abort, alloc: Global) -> Result<(), NoMemory> {
+pub(crate) fn check_csv(rt: &impl Abort, alloc: Global) -> Result<(), NoMemory> {
     check_groups(rt, alloc)?;
     check_bytes(rt, alloc)?;
     assert!(rt; are_counted_on(alloc)?);

@@ -178,7 +178,7 @@ fn check_bytes(rt: &impl Abort, alloc: Global) -> Result<(), NoMemory> {
 }
 
 /// Checks the readers of DKVP, NIDX and Markdown by their tables.
-pub fn check_dkvp_nidx(rt: &impl Abort, alloc: Global) -> Result<(), NoMemory> {
+pub(crate) fn check_dkvp_nidx(rt: &impl Abort, alloc: Global) -> Result<(), NoMemory> {
     check_groups(rt, alloc)?;
     check_bytes(rt, alloc)?;
     assert!(rt; are_counted_on(alloc)?);

@@ -416,7 +416,7 @@ fn check_groups(rt: &impl Abort, alloc: Global) -> Result<(), NoMemory> {
 }
 
 /// Checks the reader of JSON and JSON Lines by its tables.
-pub fn check_json_lines(rt: &impl Abort, alloc: Global) -> Result<(), NoMemory> {
+pub(crate) fn check_json_lines(rt: &impl Abort, alloc: Global) -> Result<(), NoMemory> {
     check_groups(rt, alloc)?;
     check_levels(rt, alloc)?;
     check_sizes(rt, alloc)?;

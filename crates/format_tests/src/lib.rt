@@ -1,6 +1,7 @@
 //! Tests of the crates of formats: what the readers make of texts, and what the writers make of records.
 #![tactic(auto)]
 
+mod blocks;
 #[cfg(test)]
 mod columns;
 #[cfg(test)]
@@ -9,7 +10,6 @@ mod csv;
 mod csv_files;
 #[cfg(test)]
 mod dkvp_nidx;
-#[cfg(test)]
 mod fields;
 #[cfg(test)]
 mod json_lines;

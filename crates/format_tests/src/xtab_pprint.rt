@@ -180,7 +180,7 @@ fn check_bytes(rt: &impl Abort, alloc: Global) -> Result<(), NoMemory> {
 }
 
 /// Checks the readers of XTAB and PPRINT by their tables.
-pub fn check_xtab_pprint(rt: &impl Abort, alloc: Global) -> Result<(), NoMemory> {
+pub(crate) fn check_xtab_pprint(rt: &impl Abort, alloc: Global) -> Result<(), NoMemory> {
     check_groups(rt, alloc)?;
     check_prefixes(rt, alloc)?;
     check_bytes(rt, alloc)?;

@@ -49,15 +49,12 @@ impl<S: OfGroup + Drop> Stateful for OfGroups<S> {
         (λ group. S.gives (none_of s.groups) group ctx) (grouped (common_of s.groups) rows)) };
 
     fn take(&mut self, fields: Record, ctx: Ctx, _: &mut Events) -> Result<(), NoMemory> {
-        self.groups.add(self.alloc, fields, ctx)
+        self.groups.add(self.alloc, fields, ctx)?;
+        Ok(())
     }
 
     fn finish(&mut self, ctx: Ctx, out: &mut Events) -> Result<(), NoMemory> {
-        let mut states = self.groups.take_states(self.alloc);
-        for state in states.iter_mut() {
-            state.finish(self.alloc, ctx, out)?;
-        }
-        Ok(())
+        self.groups.finish(self.alloc, ctx, out)
     }
 
     fn is_shut(&self) -> bool {

@@ -4,4 +4,5 @@ mod Tables
 pub mod Grouping
 pub mod PerGroup
 mod Counts
+mod Finding
 pub mod Crosses

@@ -1,5 +1,5 @@
 -- The keys of a table as texts.
-use Rattle.std.proofs.Common.{◌≡◌, ℕ, zero, suc, true, false, cond, ◌||◌, List, [], ◌∷◌, ◌++◌, length, Vec, Global, Some, slice_get, refl, ap, sym, ◌∙◌, inl, inr}
+use Rattle.std.proofs.Common.{◌≡◌, ℕ, zero, suc, true, false, cond, ◌||◌, List, [], ◌∷◌, ◌++◌, length, Vec, Global, Option, Some, None, IfSome, position, slice_get, refl, ap, sym, ◌∙◌, inl, inr}
 use Rattle.std.specs.List.{list_any, IsDistinct, AllByRecursion}
 use Rattle.std.specs.Str.{bytes_eq}
 use Rattle.std.proofs.lemmas.Bool.{cases_Bool, not_from_false, and_from, or_from}
@@ -9,7 +9,7 @@ use Rattle.indexmap.specs.IndexSet.{insert_key}
 use Rattle.mlr_spec.specs.Pairs.{are_distinct}
 use Rattle.mlr_event.specs.Reading.{is_among}
 use Rattle.mlr_keys.specs.Keys.{texts_in}
-use Rattle.mlr_keys.proofs.Sets.{Keys, IsAt, is_text}
+use Rattle.mlr_keys.proofs.Sets.{Keys, IsAt, IsAt-position, is_text}
 use Rattle.mlr_groups.specs.Keys.{entered}
 
 pub among-texts : (text : List ℕ) (keys : Keys) → is_among (texts_in keys) text ≡ list_any (is_text text) keys
@@ -31,6 +31,11 @@ among-at text (key ∷ keys) (suc i) at =
       | inl here ↦ ap (λ t. t || is_among (texts_in keys) text) here
       | inr apart ↦ ap (λ t. t || is_among (texts_in keys) text) apart ∙ among-at text keys i at.1
     ]
+
+-- the key that a search found
+pub text-found : (text : List ℕ) (keys : Keys) (place : Option ℕ) → place ≡ position (is_text text) keys → IfSome place (λ i. slice_get (texts_in keys) i ≡ Some text)
+text-found text keys None found = tt
+text-found text keys (Some i) found = text-at text keys i (IsAt-position text keys i found)
 
 -- a new key is added at the end
 pub texts-push : (keys : Keys) (key : Vec ℕ Global) → is_among (texts_in keys) key.items ≡ false

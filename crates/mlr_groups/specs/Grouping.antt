@@ -1,11 +1,12 @@
 -- Records in groups.
-use Rattle.std.specs.Prelude.{◌≡◌, ℕ, Bool, false, not, List, [], ◌∷◌, map, Option, Some, None, MatchOption, slice_get}
-use Rattle.std.specs.List.{filter, filter_map, flat_map}
+use Rattle.std.specs.Prelude.{◌≡◌, ℕ, Bool, false, not, if◌then◌else◌, List, [], ◌∷◌, map, Option, is_some, Some, None, MatchOption, slice_get}
+use Rattle.std.specs.List.{filter, filter_map, flat_map, list_all}
 use Rattle.std.specs.Option.{option_map}
 use Rattle.std.specs.Str.{bytes_eq}
 use Rattle.std.specs.Cmp.Lexicographic.{pointwise}
 use Rattle.mlr_spec.specs.Tree.{Tree}
 use Rattle.mlr_spec.specs.Pairs.{keys_of, value_at}
+use Rattle.mlr_event.specs.Reading.{is_among}
 use Rattle.text_forms.specs.Shown.{shown}
 use Rattle.mlr_groups.specs.declared.group_by.GroupBy.{GroupBy}
 use Rattle.mlr_groups.specs.declared.group_by.GroupBy.TheVariants as group
@@ -30,11 +31,17 @@ texts_of names fields = map (λ name. elim (value_at name fields) [ Some value �
 abbrev pub texts_eq : List (List ℕ) → List (List ℕ) → Bool
 texts_eq texts other = pointwise bytes_eq texts other
 
+-- the fields that have none of these names
+abbrev pub others : List (List ℕ) → Fields → Fields
+others names fields = filter (λ field. not (is_among names field.0)) fields
+
 -- the texts that a record has in common with the others of its group, if it is in one
 abbrev pub common_in : GroupBy → Fields → Option (List (List ℕ))
 common_in (group.Texts names) fields = group_of names fields
 common_in group.Keys fields = Some (keys_of fields)
 common_in group.Fields fields = Some (flat_map (λ field. field.0 ∷ shown field.1 ∷ []) fields)
+common_in (group.Others names) fields =
+    if list_all (λ name. is_some (value_at name fields)) names then Some (flat_map (λ field. field.0 ∷ shown field.1 ∷ []) (others names fields)) else None
 
 -- whether a record is in the group of these texts
 abbrev pub is_in : GroupBy → List (List ℕ) → Fields → Bool

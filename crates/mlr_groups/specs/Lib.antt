@@ -2,3 +2,4 @@ pub mod Grouping
 pub mod Keys
 pub mod Tallying
 pub mod Represents
+pub mod Finding

@@ -14,6 +14,8 @@ pub enum GroupBy {
     Keys,
     /// The names and the texts of all fields, in their order.
     Fields,
+    /// The names and the texts of all other fields, in their order. A record without one of the named fields is in no group.
+    Others(Names),
 }
 
 impl GroupBy {
@@ -25,6 +27,7 @@ impl GroupBy {
             GroupBy::Texts(names) => Ok(GroupBy::Texts(names.copy()?)),
             GroupBy::Keys => Ok(GroupBy::Keys),
             GroupBy::Fields => Ok(GroupBy::Fields),
+            GroupBy::Others(names) => Ok(GroupBy::Others(names.copy()?)),
         }
     }
 
@@ -34,7 +37,7 @@ impl GroupBy {
     {
         match self {
             GroupBy::Texts(names) => names.len() == 0,
-            GroupBy::Keys | GroupBy::Fields => false,
+            GroupBy::Keys | GroupBy::Fields | GroupBy::Others(_) => false,
         }
     }
 }

@@ -1,13 +1,14 @@
 //! Keys: one text for each list of texts, and a table of keys.
-ghost use Rattle.std.specs.Prelude.{◌≡◌, ◌++◌, ◌∷◌, [], false, true, length, if◌then◌else◌, is_ok, IfOk, IsOk, OnOk, Some, None, slice_get};
+ghost use Rattle.std.specs.Prelude.{◌≡◌, ◌<◌, ◌++◌, ◌∷◌, [], false, true, length, if◌then◌else◌, is_ok, IfOk, IfSome, IsOk, OnOk, Some, None, is_some, slice_get};
 ghost use Rattle.std.specs.Option.{option_map};
-ghost use Rattle.std.specs.List.{flat_map};
-ghost use Rattle.mlr_spec.specs.Pairs.{are_distinct, keys_of};
+ghost use Rattle.std.specs.List.{flat_map, list_all};
+ghost use Rattle.mlr_spec.specs.Pairs.{are_distinct, keys_of, value_at};
 ghost use Rattle.mlr_value.specs.Value.{tree_of};
 ghost use Rattle.mlr_event.specs.Reading.{is_among};
 ghost use Rattle.text_forms.specs.Shown.{shown};
-ghost use Rattle.mlr_groups.specs.Grouping.{common_in, group_of, texts_of};
+ghost use Rattle.mlr_groups.specs.Grouping.{common_in, group_of, others, texts_of};
 ghost use Rattle.mlr_groups.specs.Keys.{entered, escaped, key_of};
+ghost use Rattle.mlr_groups.specs.declared.group_by.GroupBy.TheVariants.{Others};
 
 use crate::group_by::GroupBy;
 use indexmap::IndexSet;
@@ -81,6 +82,7 @@ pub(crate) fn append_common(
             append_fields(alloc, fields, key)?;
             Ok(true)
         }
+        GroupBy::Others(names) => append_rest(alloc, names, fields, key),
     }
 }
 
@@ -102,6 +104,51 @@ fn append_fields(alloc: Global, fields: &Record, key: &mut Bytes) -> Result<(), 
     for field in fields.fields() {
         append_text(field.name.as_slice(), key)?;
         append_value(alloc, &field.value, key)?;
+    }
+    Ok(())
+}
+
+/// Appends to `key` the key of the names and the texts of the other fields, if the record has all of the named ones, and
+/// returns whether it has them.
+fn append_rest(
+    alloc: Global,
+    names: &Names,
+    fields: &Record,
+    key: &mut Bytes,
+) -> Result<bool, NoMemory>
+    ensures { IfOk result (λ has. option_map (λ texts. key.old ++ key_of texts)
+        (common_in (Others names.now) fields.now) ≡ (if has then Some key.new else None)) }
+{
+    if !has_all(names, fields) {
+        return Ok(false);
+    }
+    append_others(alloc, names, fields, key)?;
+    Ok(true)
+}
+
+/// Whether the record has a field of each name.
+fn has_all(names: &Names, fields: &Record) -> bool
+    ensures { result ≡ list_all (λ name. is_some (value_at name fields.now)) names.now }
+{
+    let mut names = names.as_slice().iter();
+    names.all(|name| fields.get(name.as_slice()).is_some())
+}
+
+/// Appends to `key` the key of the names and the texts of the fields that have none of the names.
+fn append_others(
+    alloc: Global,
+    names: &Names,
+    fields: &Record,
+    key: &mut Bytes,
+) -> Result<(), NoMemory>
+    ensures { OnOk result (key.new ≡ key.old ++ key_of
+        (flat_map (λ field. field.0 ∷ shown field.1 ∷ []) (others names.now fields.now))) }
+{
+    for field in fields.fields() {
+        if !names.has(field.name.as_slice()) {
+            append_text(field.name.as_slice(), key)?;
+            append_value(alloc, &field.value, key)?;
+        }
     }
     Ok(())
 }
@@ -197,6 +244,22 @@ impl KeyTable {
         ensures distinct { are_distinct self.now ≡ true }
     {
         self.keys.len()
+    }
+
+    /// The place of a key, which counts from 0, if it is there. It doesn't allocate.
+    pub fn place_of(&self, key: &[u8]) -> Option<usize>
+        ensures found { is_some result ≡ is_among self.now key.now }
+        ensures place { IfSome result (λ place. slice_get self.now place ≡ Some key.now) }
+    {
+        self.keys.get_index_of(key)
+    }
+
+    /// The key at a place that the table has.
+    pub fn key_at(&self, place: usize) -> &[u8]
+        requires { place < length self.now }
+        ensures { slice_get self.now place ≡ Some result.now }
+    {
+        self.keys[place].as_slice()
     }
 
     /// The place of a key, which counts from 0; a new key is added at the end. It allocates only for a new

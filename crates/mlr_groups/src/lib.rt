@@ -1,5 +1,5 @@
-//! Records in groups, by the texts of some of their fields, by their names or by all of both: which group a record is in, and how many of its
-//! group came before it.
+//! Records in groups, by the texts of some of their fields, by their names, or by the names and texts of all fields or of
+//! all other fields: which group a record is in, and how many of its group came before it.
 #![tactic(auto)]
 
 mod group_by;

@@ -1,5 +1,6 @@
 //! Tables of words and texts that are patterns, and of texts before and after matches are replaced.
 
+use crate::found::found_pattern;
 use mlr_pattern::{
     Pattern, PatternFault, Patterns, Which, append_replaced, is_heavy, matches, pattern_word,
     read_pattern, replaced, ssub_value, sub_value,
@@ -188,11 +189,7 @@ const IN_VALUES: [Row; 11] = [
 
 /// The pattern of a text that is one.
 fn pattern_of(alloc: Global, text: &[u8], either_case: bool) -> Result<Pattern, Fail> {
-    Ok(
-        read_pattern(alloc, text, either_case)
-            .ok()
-            .ok_or("no pattern")?,
-    )
+    Ok(found_pattern(alloc, text, either_case).ok_or("no pattern")?)
 }
 
 /// Whether the first match and all matches of a row are replaced as it says.

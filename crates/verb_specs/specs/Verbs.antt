@@ -4,16 +4,18 @@ use Rattle.mlr_event.specs.declared.event.Event.{Event}
 use Rattle.mlr_event.specs.Verb.{Verb}
 use Rattle.verbs_seq.specs.Seq.{IsSoundSeq}
 use Rattle.verbs_base.specs.Records.{verb_of}
+use Rattle.verbs_join_nest.specs.Meaning as shape
 use Rattle.verbs_retain.specs.Meaning as retain
 use Rattle.verbs_stat.specs.Meaning as stat
 use Rattle.verbs_stream.specs.Meaning as stream
 use Rattle.verb_specs.specs.declared.verb_spec.VerbSpec.{VerbSpec}
-use Rattle.verb_specs.specs.declared.verb_spec.VerbSpec.TheVariants.{Stream, Retain, Stat, Seq}
+use Rattle.verb_specs.specs.declared.verb_spec.VerbSpec.TheVariants.{Stream, Retain, Shape, Stat, Seq}
 
 -- a verb that isn't a source, with options that words may give
 abbrev pub IsVerb : VerbSpec → Type 0
 IsVerb (Stream spec) = stream.IsSound spec
 IsVerb (Retain spec) = Unit {0}
+IsVerb (Shape spec) = Unit {0}
 IsVerb (Stat spec) = Unit {0}
 IsVerb (Seq seq) = ⊥
 
@@ -25,6 +27,7 @@ AreVerbs (spec ∷ specs) = IsVerb spec × AreVerbs specs
 abbrev pub IsVerbOrSource : VerbSpec → Type 0
 IsVerbOrSource (Stream spec) = stream.IsSound spec
 IsVerbOrSource (Retain spec) = Unit {0}
+IsVerbOrSource (Shape spec) = Unit {0}
 IsVerbOrSource (Stat spec) = Unit {0}
 IsVerbOrSource (Seq seq) = Unit {0}
 
@@ -33,6 +36,7 @@ abbrev pub AreSound : List VerbSpec → Type 0
 AreSound [] = Unit {0}
 AreSound (Stream spec ∷ specs) = stream.IsSound spec × AreVerbs specs
 AreSound (Retain spec ∷ specs) = AreVerbs specs
+AreSound (Shape spec ∷ specs) = AreVerbs specs
 AreSound (Stat spec ∷ specs) = AreVerbs specs
 AreSound (Seq seq ∷ specs) = IsSoundSeq seq × AreVerbs specs
 
@@ -40,6 +44,7 @@ AreSound (Seq seq ∷ specs) = IsSoundSeq seq × AreVerbs specs
 abbrev pub verb_with : VerbSpec → List Event → List Verb
 verb_with (Stream spec) left = verb_of (stream.meaning_of spec) ∷ []
 verb_with (Retain spec) left = verb_of (retain.meaning_of spec) ∷ []
+verb_with (Shape spec) left = verb_of (shape.meaning_of spec left) ∷ []
 verb_with (Stat spec) left = verb_of (stat.meaning_of spec) ∷ []
 verb_with (Seq seq) left = []
 
@@ -61,6 +66,7 @@ verbs_of specs = verbs_with specs []
 abbrev pub AreSame : VerbSpec → VerbSpec → Type 0
 AreSame (Stream spec) (Stream copy) = (stream.meaning_of copy ≡ stream.meaning_of spec) × (stream.IsSound spec → stream.IsSound copy)
 AreSame (Retain spec) (Retain copy) = retain.meaning_of copy ≡ retain.meaning_of spec
+AreSame (Shape spec) (Shape copy) = (left : List Event) → shape.meaning_of copy left ≡ shape.meaning_of spec left
 AreSame (Stat spec) (Stat copy) = stat.meaning_of copy ≡ stat.meaning_of spec
 AreSame (Seq seq) (Seq copy) = copy ≡ seq
 AreSame _ _ = ⊥
@@ -69,6 +75,7 @@ AreSame _ _ = ⊥
 abbrev pub IsShort : VerbSpec → Type 0
 IsShort (Stream spec) = stream.IsShort spec
 IsShort (Retain spec) = retain.IsShort spec
+IsShort (Shape spec) = ⊥
 IsShort (Stat spec) = ⊥
 IsShort (Seq seq) = length seq.field ≤ 16
 

@@ -13,6 +13,8 @@ pub enum VerbSpec {
     Stream(Spec),
     /// A retaining verb.
     Retain(verbs_retain::Spec),
+    /// A shaping verb.
+    Shape(verbs_join_nest::Spec),
     /// A verb of statistics.
     Stat(verbs_stat::Spec),
     /// The source `seqgen`.
@@ -25,6 +27,7 @@ impl Drop for VerbSpec {
         match self {
             VerbSpec::Stream(spec) => drop(spec),
             VerbSpec::Retain(spec) => drop(spec),
+            VerbSpec::Shape(spec) => drop(spec),
             VerbSpec::Stat(spec) => drop(spec),
             VerbSpec::Seq(seq) => drop(seq),
         }
@@ -40,6 +43,7 @@ impl VerbSpec {
         match self {
             VerbSpec::Stream(spec) => Ok(VerbSpec::Stream(spec.copy(alloc)?)),
             VerbSpec::Retain(spec) => Ok(VerbSpec::Retain(spec.copy(alloc)?)),
+            VerbSpec::Shape(spec) => Ok(VerbSpec::Shape(spec.copy(alloc)?)),
             VerbSpec::Stat(spec) => Ok(VerbSpec::Stat(spec.copy(alloc)?)),
             VerbSpec::Seq(seq) => Ok(VerbSpec::Seq(seq.copy(alloc)?)),
         }

@@ -1,5 +1,5 @@
 //! Removes fields by name from a list, or moves them in it.
-ghost use Rattle.std.specs.Prelude.{◌≡◌, ◌++◌, true, length};
+ghost use Rattle.std.specs.Prelude.{◌≡◌, ◌++◌, true, length, take, vec_len, ◌+◌, ◌-◌, ◌<◌};
 ghost use Rattle.std.specs.List.{cons_option};
 ghost use Rattle.std.specs.Option.{is_some, option_map};
 ghost use Rattle.mlr_spec.specs.Pairs.{remove_at, keys_of, are_distinct};
@@ -8,6 +8,7 @@ ghost use Rattle.verbs_base.specs.Choosing.{named, picked, dropped};
 
 use mlr_record::Field;
 use mlr_value::Bytes;
+use std::mem::forget;
 
 /// Removes the field of this name, if there is one, and returns it.
 pub fn take_field(fields: &mut Vec<Field>, name: &Bytes) -> Option<Field>
@@ -58,4 +59,28 @@ fn move_first(fields: &mut [Field], name: &Bytes) -> bool
     };
     fields[..place + 1].rotate_right(1);
     true
+}
+
+/// Drops the fields after the first `count`. Most hold no memory, and then nothing has to be done.
+pub(crate) fn drop_after(fields: &mut Vec<Field>, count: usize)
+    ensures { fields.new.items ≡ take count fields.old.items }
+{
+    while fields.len() > count {
+        drop_last(fields);
+    }
+}
+
+/// Drops the last field.
+#[inline(always)]
+fn drop_last(fields: &mut Vec<Field>)
+    requires { 0 < vec_len fields.old }
+    ensures left { fields.new.items ≡ take (vec_len fields.old - 1) fields.old.items }
+    ensures len { vec_len fields.new + 1 ≡ vec_len fields.old }
+{
+    match fields.last() {
+        Some(field) if field.name.holds_memory() || field.value.holds_memory() => drop(
+            fields.pop(),
+        ),
+        _ => forget(fields.pop()),
+    }
 }

@@ -96,7 +96,8 @@ impl AtEnd for FrequentGroups {
         (group_gives (none_of s.groups)) rows s.groups };
 
     fn add(&mut self, alloc: Global, fields: Record, ctx: Ctx) -> Result<(), NoMemory> {
-        self.groups.add(alloc, fields, ctx)
+        self.groups.add(alloc, fields, ctx)?;
+        Ok(())
     }
 
     fn finish(&mut self, alloc: Global, ctx: Ctx, out: &mut Events) -> Result<(), NoMemory> {

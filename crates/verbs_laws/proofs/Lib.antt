@@ -1,4 +1,5 @@
 mod Parts
 mod Moved
 mod Filled
+mod FirstMet
 mod SortedInts

@@ -13,7 +13,7 @@ of_fields-requires c =
     let pairs = ap pairs_of c.deref_mut.ensures.value ∙ c.into_fields-fields.ensures.fields in
     let whole = ap (take count) (with_items_is c.into_fields-fields.result c.move_named-count.new.fields (c.move_named-count.auto.fields ∙ c.deref_mut.ensures.len)) in
     let first = picked-first c.args.names.now c.args.from c.move_named-count.new.fields count (c.move_named-count.ensures.moved ∙ ap₂ (λ n p. picked n p ++ dropped n p) names pairs) (c.move_named-count.ensures.count ∙ ap₂ (λ n p. length (picked n p)) names pairs) in
-    ap (λ xs. are_distinct (keys_of xs)) (ap pairs_of (c.truncate.ensures.items ∙ whole) ∙ first) ∙ are_distinct-picked c.args.names.now c.args.from
+    ap (λ xs. are_distinct (keys_of xs)) (ap pairs_of (c.drop_after.ensures ∙ whole) ∙ first) ∙ are_distinct-picked c.args.names.now c.args.from
 
 pub returns : goal.returns
 returns c =
@@ -22,5 +22,5 @@ returns c =
     let pairs = ap pairs_of c.deref_mut.ensures.value ∙ c.into_fields-fields.ensures.fields in
     let whole = ap (take count) (with_items_is c.into_fields-fields.result c.move_named-count.new.fields (c.move_named-count.auto.fields ∙ c.deref_mut.ensures.len)) in
     c.of_fields.ensures
-    ∙ ap pairs_of (c.truncate.ensures.items ∙ whole)
+    ∙ ap pairs_of (c.drop_after.ensures ∙ whole)
     ∙ picked-first c.args.names.now c.args.from c.move_named-count.new.fields count (c.move_named-count.ensures.moved ∙ ap₂ (λ n p. picked n p ++ dropped n p) names pairs) (c.move_named-count.ensures.count ∙ ap₂ (λ n p. length (picked n p)) names pairs)

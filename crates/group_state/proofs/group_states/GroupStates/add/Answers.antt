@@ -1,5 +1,4 @@
 use Rattle.std.proofs.Common.{◌≡◌, List, [], ◌∷◌, ◌++◌, ap, sym, subst, ◌∙◌, arith}
-use Rattle.std.proofs.lemmas.Result.{on_ok_weaker}
 use Rattle.mlr_event.specs.declared.event.Ctx.{Ctx}
 use Rattle.mlr_groups.specs.declared.group_by.GroupBy.{GroupBy}
 use Rattle.mlr_groups.specs.Grouping.{IsGroupPlace}
@@ -69,12 +68,9 @@ add-requires g c =
     (has.group, (place-holds g.S.AtEnd.gives g.S.AtEnd.holds c.requires.1 c.if-place-len.self.states.items c.in-Some.place _ _ has c.index_mut.result.now c.index_mut.ensures.value).1)
 
 pub returns-clause-held : goal.returns-clause-held
-returns-clause-held g c =
-    on_ok_weaker c.add.result
-    (λ follows by late before held.
+returns-clause-held g c = λ by late before held.
     let has = room g (goal.at.returns-clause-held g c).Joined-place-len by late before held in (
       entered g (goal.at.returns-clause-held g c).Joined-place-len by before held.0,
       ap g.S.AtEnd.gives (none-stays g (goal.at.returns-clause-held g c).Joined-place-len) ∙ held.1,
-      place-taken g.S.AtEnd.gives g.S.AtEnd.holds late c.if-place-len.self.states.items c.in-Some.place _ _ has c.index_mut.result.now c.add.new.self c.index_mut.ensures.value c.add.ensures.gives follows,
-    ))
-    c.add.ensures.holds
+      place-taken g.S.AtEnd.gives g.S.AtEnd.holds late c.if-place-len.self.states.items c.in-Some.place _ _ has c.index_mut.result.now c.add.new.self c.index_mut.ensures.value c.add.ensures.gives c.in_ok-add.ensures.holds,
+    )

@@ -1,0 +1,4 @@
+//! The options of the shaping verbs without patterns, made of their words.
+#![tactic(auto)]
+
+pub mod nest;

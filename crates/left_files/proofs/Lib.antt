@@ -1,0 +1,11 @@
+pub mod States
+pub mod Finding
+pub mod Files
+pub mod Following
+pub mod Turning
+pub mod Opening
+pub mod Counting
+pub mod Fixed
+pub mod Stopping
+pub mod Crosses
+pub mod Wholes

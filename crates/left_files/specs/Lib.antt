@@ -1,0 +1,3 @@
+pub mod Lefts
+pub mod Represents
+pub mod Steps

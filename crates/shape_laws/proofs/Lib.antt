@@ -1,0 +1,10 @@
+mod Joining
+mod Putting
+mod Gathered
+mod Nested
+mod Contextless
+mod Full
+mod InGroups
+mod LongRecords
+mod Parting
+mod WideAgain

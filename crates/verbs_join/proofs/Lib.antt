@@ -1,0 +1,10 @@
+mod Among
+mod Joining
+mod Members
+mod Entering
+mod Coming
+mod Unpairing
+mod Pushing
+mod Belonging
+mod Exactly
+pub mod Crosses

@@ -1,0 +1,56 @@
+//! The shaping verbs with their options.
+ghost use Rattle.std.specs.Prelude.{◌≡◌, [], List, IfOk};
+ghost use Rattle.mlr_event.specs.declared.event.Event.{Event as SpecEvent};
+ghost use Rattle.verbs_join_nest.specs.Meaning.{meaning_of};
+
+use crate::running::Running;
+use mlr_event::Events;
+use mlr_spec::NoMemory;
+use std::alloc::Global;
+use verbs_base::Stateful;
+use verbs_nest::{Nest, NestVerb};
+use verbs_reshape::{Reshape, ReshapeVerb};
+
+/// A shaping verb, with its options as given on the command line.
+pub enum Spec {
+    /// Gives a record for each piece of a value, or a field for each, or joins the values of records into one.
+    Nest(Nest),
+    /// Gives a record for each of some fields, or one of several such records.
+    Reshape(Reshape),
+}
+
+// Written by hand, so that the crates above call it instead of dropping the options themselves.
+impl Drop for Spec {
+    fn drop(self) {
+        match self {
+            Spec::Nest(options) => drop(options),
+            Spec::Reshape(options) => drop(options),
+        }
+    }
+}
+
+impl Spec {
+    /// A copy, which shares the patterns. It allocates lists, and texts of more than 16 bytes.
+    pub fn copy(&self, alloc: Global) -> Result<Self, NoMemory>
+        ensures { IfOk result (λ copy. (left : List SpecEvent)
+            → meaning_of copy left ≡ meaning_of self.now left) }
+    {
+        match self {
+            Spec::Nest(options) => Ok(Spec::Nest(options.copy(alloc)?)),
+            Spec::Reshape(options) => Ok(Spec::Reshape(options.copy(alloc)?)),
+        }
+    }
+
+    /// The verb with these options and what its left file holds, before the first record. It allocates for the verb's state.
+    pub(crate) fn running(self, alloc: Global, left: Events) -> Result<Running, NoMemory>
+        ensures meaning { IfOk result (λ made. ⟦<Running as Stateful>⟧.meaning made
+            ≡ meaning_of self left) }
+        ensures represents { IfOk result (λ made. ⟦<Running as Stateful>⟧.represents made []) }
+    {
+        drop(left);
+        match self {
+            Spec::Nest(options) => Ok(Running::Nest(NestVerb::new(alloc, options)?)),
+            Spec::Reshape(options) => Ok(Running::Reshape(ReshapeVerb::new(alloc, options)?)),
+        }
+    }
+}

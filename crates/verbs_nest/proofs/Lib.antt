@@ -1,0 +1,5 @@
+mod Cutting
+mod Exploding
+mod Joining
+pub mod Replacing
+pub mod Crosses

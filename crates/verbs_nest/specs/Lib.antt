@@ -1,0 +1,4 @@
+pub mod Across
+pub mod Implode
+pub mod Nest
+pub mod Pieces

@@ -1,0 +1,4 @@
+pub mod Crosses
+mod Marks
+mod Splitting
+mod Wide

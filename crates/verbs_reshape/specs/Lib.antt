@@ -1,0 +1,3 @@
+pub mod Reshape
+pub mod ToLong
+pub mod ToWide
