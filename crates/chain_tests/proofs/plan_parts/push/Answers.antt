@@ -2,7 +2,7 @@ use Rattle.std.proofs.Common.{List, [], ◌∷◌, ◌++◌, sym, subst}
 use Rattle.verbs_stream.specs.declared.spec.Spec.{Spec}
 use Rattle.verbs_stream.specs.Meaning.{IsSound}
 use Rattle.verb_specs.specs.declared.verb_spec.VerbSpec.{VerbSpec}
-use Rattle.verb_specs.specs.declared.verb_spec.VerbSpec.TheVariants.{Stream, Retain, Stat, Seq}
+use Rattle.verb_specs.specs.declared.verb_spec.VerbSpec.TheVariants.{Stream, Retain, Shape, Stat, Seq}
 use Rattle.verb_specs.specs.Verbs.{AreSound, AreVerbs}
 use Rattle.chain_tests.proofs.plan_parts.push.Goals as goal
 
@@ -14,6 +14,7 @@ sound-append : (specs : List VerbSpec) (spec : Spec) → AreSound specs → IsSo
 sound-append [] spec are sound = (sound, tt)
 sound-append (Stream first ∷ specs) spec are sound = (are.0, verbs-append specs spec are.1 sound)
 sound-append (Retain first ∷ specs) spec are sound = verbs-append specs spec are sound
+sound-append (Shape first ∷ specs) spec are sound = verbs-append specs spec are sound
 sound-append (Stat first ∷ specs) spec are sound = verbs-append specs spec are sound
 sound-append (Seq first ∷ specs) spec are sound = (are.0, verbs-append specs spec are.1 sound)
 
