@@ -1,7 +1,7 @@
 # Completions of mlr for bash, made by tests/generated.
 _mlr() {
     local word=${COMP_WORDS[COMP_CWORD]} verb= place words=
-    local verbs=" altkv cat count count-distinct count-similar cut decimate fill-down fill-empty flatten gap grep group-by group-like gsub having-fields head json-parse json-stringify label least-frequent merge-fields most-frequent nest nothing regularize rename reorder repeat reshape sec2gmt sec2gmtdate seqgen sort sort-within-records sparsify ssub stats1 step sub tac tail template top unflatten uniq unspace unsparsify "
+    local verbs=" altkv cat count count-distinct count-similar cut decimate fill-down fill-empty flatten gap grep group-by group-like gsub having-fields head join json-parse json-stringify label least-frequent merge-fields most-frequent nest nothing regularize rename reorder repeat reshape sec2gmt sec2gmtdate seqgen sort sort-within-records sparsify ssub stats1 step sub tac tail template top unflatten uniq unspace unsparsify "
     for ((place = 1; place < COMP_CWORD; place++)); do
         if [[ $verbs == *" ${COMP_WORDS[place]} "* && (-z $verb || ${COMP_WORDS[place - 1]} == then) ]]; then
             verb=${COMP_WORDS[place]}
@@ -23,6 +23,7 @@ _mlr() {
         gsub) words="-f -a" ;;
         having-fields) words="--at-least --at-most --which-are --all-defined --any-defined --all-matching --any-matching" ;;
         head) words="-n -g" ;;
+        join) words="-f -j -l -r --np --ul --ur --lp --rp -i" ;;
         json-parse) words="-f" ;;
         json-stringify) words="-f" ;;
         least-frequent) words="-f -b -n -o" ;;

@@ -1,12 +1,13 @@
 -- A copy of a plan that can be run can be run.
-use Rattle.std.proofs.Common.{List, [], ◌∷◌, ap, sym, ◌∙◌, subst}
+use Rattle.std.proofs.Common.{◌≡◌, true, ◌&&◌, List, [], ◌∷◌, Some, None, refl, ap, ap₂, sym, ◌∙◌, subst}
+use Rattle.std.specs.List.{list_all}
 use Rattle.read_files.specs.Represents.{can_read}
 use Rattle.verbs_seq.specs.Seq.{IsSoundSeq}
 use Rattle.chain_core.specs.declared.plan.Plan.{Plan}
 use Rattle.verb_specs.specs.declared.verb_spec.VerbSpec.{VerbSpec}
 use Rattle.verb_specs.specs.declared.verb_spec.VerbSpec.TheVariants.{Stream, Retain, Shape, Stat, Seq}
-use Rattle.chain_core.specs.Plans.{IsCopy, IsSound}
-use Rattle.verb_specs.specs.Verbs.{AreSameVerbs, AreSound, AreVerbs}
+use Rattle.chain_core.specs.Plans.{IsCopy, IsSound, can_read_left}
+use Rattle.verb_specs.specs.Verbs.{AreSame, AreSameVerbs, AreSound, AreVerbs, left_of}
 
 verbs-copied : (specs copies : List VerbSpec) → AreSameVerbs specs copies → AreVerbs specs → AreVerbs copies
 verbs-copied [] [] same are = tt
@@ -64,9 +65,45 @@ sound-copied (Seq spec ∷ specs) (Shape copy ∷ copies) same are = absurd same
 sound-copied (Seq spec ∷ specs) (Stat copy ∷ copies) same are = absurd same.0
 sound-copied (Seq spec ∷ specs) (Seq copy ∷ copies) same are = (subst IsSoundSeq (sym same.0) are.0, verbs-copied specs copies same.1 are.1)
 
+-- a copy has the left file of its source
+same-left : (spec copy : VerbSpec) → AreSame spec copy → left_of copy ≡ left_of spec
+same-left (Stream spec) (Stream copy) same = refl
+same-left (Stream spec) (Retain copy) same = absurd same
+same-left (Stream spec) (Shape copy) same = absurd same
+same-left (Stream spec) (Stat copy) same = absurd same
+same-left (Stream spec) (Seq copy) same = absurd same
+same-left (Retain spec) (Stream copy) same = absurd same
+same-left (Retain spec) (Retain copy) same = refl
+same-left (Retain spec) (Shape copy) same = absurd same
+same-left (Retain spec) (Stat copy) same = absurd same
+same-left (Retain spec) (Seq copy) same = absurd same
+same-left (Shape spec) (Stream copy) same = absurd same
+same-left (Shape spec) (Retain copy) same = absurd same
+same-left (Shape spec) (Shape copy) same = same.1
+same-left (Shape spec) (Stat copy) same = absurd same
+same-left (Shape spec) (Seq copy) same = absurd same
+same-left (Stat spec) (Stream copy) same = absurd same
+same-left (Stat spec) (Retain copy) same = absurd same
+same-left (Stat spec) (Shape copy) same = absurd same
+same-left (Stat spec) (Stat copy) same = refl
+same-left (Stat spec) (Seq copy) same = absurd same
+same-left (Seq spec) (Stream copy) same = absurd same
+same-left (Seq spec) (Retain copy) same = absurd same
+same-left (Seq spec) (Shape copy) same = absurd same
+same-left (Seq spec) (Stat copy) same = absurd same
+same-left (Seq spec) (Seq copy) same = refl
+
+lefts-copied : (specs copies : List VerbSpec) → AreSameVerbs specs copies → list_all can_read_left copies ≡ list_all can_read_left specs
+lefts-copied [] [] same = refl
+lefts-copied [] (copy ∷ copies) same = absurd same
+lefts-copied (spec ∷ specs) [] same = absurd same
+lefts-copied (spec ∷ specs) (copy ∷ copies) same =
+    ap₂ (λ a b. a && b) (ap (λ file. elim file [ Some file ↦ can_read file.1 | None ↦ true ]) (same-left spec copy same.0)) (lefts-copied specs copies same.1)
+
 pub copy-is-sound : (plan copy : Plan) → IsCopy plan copy → IsSound plan → IsSound copy
 copy-is-sound plan copy is sound = record {
   readable = ap can_read is.read ∙ sound.readable;
   verbs = sound-copied plan.verbs copy.verbs is.verbs sound.verbs;
+  lefts = lefts-copied plan.verbs copy.verbs is.verbs ∙ sound.lefts;
   styled = λ none. sound.styled (sym is.styles ∙ none);
 }

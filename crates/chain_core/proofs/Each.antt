@@ -15,14 +15,12 @@ use Rattle.outlet.proofs.Writing.{nothing-put}
 use Rattle.writers.specs.declared.options.WriteOpts.{WriteOpts}
 use Rattle.serial_core.specs.declared.answer.Ended.{Ended}
 use Rattle.serial_core.specs.declared.answer.Ended.TheVariants as answer
-use Rattle.serial_core.specs.Command.{Command, result, text}
+use Rattle.serial_core.specs.Meaning.{Meaning}
 use Rattle.serial_core.specs.Represents.{Leaves}
 use Rattle.serial_core.specs.Run.{Run}
-use Rattle.verb_specs.specs.declared.verb_spec.VerbSpec.{VerbSpec}
 use Rattle.chain_core.specs.Outputs.{LeavesEach, LeavesFor, clear, clear_after, opened_by, pieces_for, style_by, text_of}
 use Rattle.chain_core.specs.PlanRun.{PlanRun}
-use Rattle.verb_specs.specs.Verbs.{verbs_of}
-use Rattle.chain_core.proofs.Plain.{are_plain, result-plain}
+use Rattle.chain_core.proofs.Plain.{are_plain}
 
 pub no-pieces : (one : Target) (events : List Event) → are_plain events ≡ true → pieces_for one events ≡ []
 no-pieces one [] plain = refl
@@ -78,9 +76,9 @@ module _ (ended : Ended) (first : WriteOpts) (others : List WriteOpts) (events :
       each target.Stderr = stays target.Stderr (λ e. let f = e in cc) (before target.Stderr) (now target.Stderr) (leaves.elsewhere target.Stderr (λ e. let f = e in cc))
       each (target.File name) = stays (target.File name) (λ e. let f = e in cc) (before (target.File name)) (now (target.File name)) (leaves.elsewhere (target.File name) (λ e. let f = e in cc))
 
-pub verbs-run : (specs : List VerbSpec) (command : Command) → command.verbs ≡ verbs_of specs → (others : List WriteOpts) (ended : Ended) (contents : Option Contents) (taken taken' : Option (List Take)) (entry' : Option OpenEntry) (held held' : Option Held)
-    → Run ended command contents taken taken' entry' held held' → PlanRun ended command others contents taken taken' entry' held held'
-verbs-run specs command is others ended contents taken taken' entry' held held' run = record {
+pub plain-run : (meaning : Meaning) → ((given : List Take) → are_plain (meaning.result given) ≡ true) → (others : List WriteOpts) (ended : Ended) (contents : Option Contents) (taken taken' : Option (List Take)) (entry' : Option OpenEntry) (held held' : Option Held)
+    → Run ended meaning contents taken taken' entry' held held' → PlanRun ended meaning others contents taken taken' entry' held held'
+plain-run meaning plain others ended contents taken taken' entry' held held' run = record {
   run = run;
-  each = leaves-each ended command.write others (result command run.given) (result-plain specs command is run.given) held held' run.leaves;
+  each = leaves-each ended meaning.write others (meaning.result run.given) (plain run.given) held held' run.leaves;
 }

@@ -13,7 +13,7 @@ use Rattle.verbs_seq.specs.declared.seq_spec.SeqSpec.{SeqSpec}
 use Rattle.verbs_stream.specs.Meaning as stream
 use Rattle.verb_specs.specs.declared.verb_spec.VerbSpec.{VerbSpec}
 use Rattle.verb_specs.specs.declared.verb_spec.VerbSpec.TheVariants.{Stream, Retain, Shape, Stat, Seq}
-use Rattle.verb_specs.specs.Verbs.{AreSound, AreVerbs, IsVerbOrSource, no_lefts, verb_with, verbs_of, verbs_with}
+use Rattle.verb_specs.specs.Verbs.{AreSound, AreVerbs, IsVerbOrSource, verb_with, verbs_with}
 use Rattle.chain_core.specs.Verbs.{AreNew, IsNew}
 
 abbrev pub AreVerbsOrSources : List VerbSpec → Type 0
@@ -59,15 +59,6 @@ new-first (verb ∷ verbs) one made are = (verb, verbs, refl, are.0, are.1)
 pub new-none : (verbs : List meaning.Verb) → AreNew verbs [] → verbs ≡ []
 new-none [] are = refl
 new-none (verb ∷ verbs) are = absurd are
-
--- verbs without left files, one entry each
-pub no-lefts-same : (specs : List VerbSpec) → verbs_with specs (no_lefts specs) ≡ verbs_of specs
-no-lefts-same [] = refl
-no-lefts-same (spec ∷ specs) = ap (λ verbs. verb_with spec [] ++ verbs) (no-lefts-same specs)
-
-pub no-lefts-many : (specs : List VerbSpec) → length (no_lefts specs) ≡ length specs
-no-lefts-many [] = refl
-no-lefts-many (spec ∷ specs) = ap suc (no-lefts-many specs)
 
 -- the verbs so far are new, and the others are to come
 pub record Making (specs : List VerbSpec) (lefts : List (List Event)) (made : List Verb) (place : ℕ) (remaining : List (List Event)) : Type 0 where

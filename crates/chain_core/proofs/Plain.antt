@@ -1,5 +1,5 @@
 -- Readers and verbs without effects make no pieces.
-use Rattle.std.proofs.Common.{◌≡◌, ℕ, Bool, true, false, ◌&&◌, List, [], ◌∷◌, ◌++◌, Option, Some, None, refl, ap₂, sym, ◌∙◌, subst, cond}
+use Rattle.std.proofs.Common.{◌≡◌, ℕ, Bool, true, false, not, ◌&&◌, List, [], ◌∷◌, ◌++◌, Option, Some, None, refl, ap₂, sym, ◌∙◌, subst, cond}
 use Rattle.std.specs.Prelude.{if◌then◌else◌, map}
 use Rattle.std.specs.List.{find, list_all, list_any, range_with_len}
 use Rattle.std.proofs.lemmas.Bool.{and_parts}
@@ -21,14 +21,8 @@ use Rattle.verbs_base.specs.Laws.{verb-quiet}
 use Rattle.verbs_base.specs.Records.{RecordVerb, verb_of}
 use Rattle.verbs_seq.specs.declared.seq_spec.SeqSpec.{SeqSpec}
 use Rattle.verbs_seq.specs.Seq.{seq_context, seq_count, seq_event}
-use Rattle.verbs_join_nest.specs.Meaning as shape
-use Rattle.verbs_retain.specs.Meaning as retain
-use Rattle.verbs_stat.specs.Meaning as stat
-use Rattle.verbs_stream.specs.Meaning.{meaning_of}
 use Rattle.serial_core.specs.Command.{Command, Origin, files, numbers, given_by, result}
-use Rattle.verb_specs.specs.declared.verb_spec.VerbSpec.{VerbSpec}
-use Rattle.verb_specs.specs.declared.verb_spec.VerbSpec.TheVariants.{Stream, Retain, Shape, Stat, Seq}
-use Rattle.verb_specs.specs.Verbs.{verbs_of}
+use Rattle.chain_core.proofs.OverRecords.{AreOverRecords}
 
 abbrev pub is_plain : Event → Bool
 is_plain (event.Rec pairs ctx) = true
@@ -159,15 +153,11 @@ cut-plain true verb events plain = from (closing verb events) refl
 record-plain : (verb : RecordVerb) (quiet : Bool) (events : List Event) → are_plain events ≡ true → are_plain (made_at quiet (verb_of verb) events) ≡ true
 record-plain verb quiet events plain = made-plain (verb_of verb) (verb-quiet verb refl) (cut quiet (verb_of verb) events) (cut-plain quiet (verb_of verb) events plain)
 
-chain-plain : (specs : List VerbSpec) (quiet : Bool) (events : List Event) → are_plain events ≡ true → are_plain (chain_from quiet (verbs_of specs) events) ≡ true
-chain-plain [] quiet events plain = plain
-chain-plain (Stream spec ∷ specs) quiet events plain = chain-plain specs (quiet && true) (made_at quiet (verb_of (meaning_of spec)) events) (record-plain (meaning_of spec) quiet events plain)
-chain-plain (Retain spec ∷ specs) quiet events plain = chain-plain specs (quiet && true) (made_at quiet (verb_of (retain.meaning_of spec)) events) (record-plain (retain.meaning_of spec) quiet events plain)
-chain-plain (Shape spec ∷ specs) quiet events plain = chain-plain specs (quiet && true) (made_at quiet (verb_of (shape.meaning_of spec [])) events) (record-plain (shape.meaning_of spec []) quiet events plain)
-chain-plain (Stat spec ∷ specs) quiet events plain = chain-plain specs (quiet && true) (made_at quiet (verb_of (stat.meaning_of spec)) events) (record-plain (stat.meaning_of spec) quiet events plain)
-chain-plain (Seq seq ∷ specs) quiet events plain = chain-plain specs quiet events plain
+chain-plain : (verbs : List Verb) → AreOverRecords verbs → (quiet : Bool) (events : List Event) → are_plain events ≡ true → are_plain (chain_from quiet verbs events) ≡ true
+chain-plain [] are quiet events plain = plain
+chain-plain (verb ∷ verbs) are quiet events plain =
+    chain-plain verbs are.1 (quiet && not verb.effects) (made_at quiet verb events) (subst (λ v. are_plain (made_at quiet v events) ≡ true) (sym are.0.1) (record-plain are.0.0 quiet events plain))
 
--- no piece is in the result of a command with the verbs of such options
-pub result-plain : (specs : List VerbSpec) (command : Command) → command.verbs ≡ verbs_of specs → (takes : List Take) → are_plain (result command takes) ≡ true
-result-plain specs command is takes =
-    subst (λ verbs. are_plain (chain verbs (given_by command.origin takes)) ≡ true) (sym is) (chain-plain specs true (given_by command.origin takes) (given-plain command.origin takes))
+-- no piece is in the result of a command whose verbs are over records
+pub result-plain : (command : Command) → AreOverRecords command.verbs → (takes : List Take) → are_plain (result command takes) ≡ true
+result-plain command are takes = chain-plain command.verbs are true (given_by command.origin takes) (given-plain command.origin takes)

@@ -1,17 +1,8 @@
 -- Verbs of lists, one by one.
-use Rattle.std.proofs.Common.{◌≡◌, ℕ, ◌+◌, ◌<◌, List, [], ◌∷◌, ◌++◌, length, get_or, take, refl, ap, sym, ◌∙◌, subst}
+use Rattle.std.proofs.Common.{◌≡◌, ℕ, ◌+◌, ◌<◌, List, [], ◌∷◌, ◌++◌, length, get_or, take, ap, sym, ◌∙◌, subst}
 use Rattle.std.proofs.lemmas.List.{take_more}
 use Rattle.verb_specs.specs.declared.verb_spec.VerbSpec.{VerbSpec}
-use Rattle.verb_specs.specs.declared.verb_spec.VerbSpec.TheVariants.{Stream, Retain, Shape, Stat, Seq}
-use Rattle.verb_specs.specs.Verbs.{AreSame, AreSameVerbs, verbs_of}
-
--- the verbs of a list are those of its first one and of the others
-pub verbs-next : (spec : VerbSpec) (specs : List VerbSpec) → verbs_of (spec ∷ specs) ≡ verbs_of (spec ∷ []) ++ verbs_of specs
-verbs-next (Stream spec) specs = refl
-verbs-next (Retain spec) specs = refl
-verbs-next (Shape spec) specs = refl
-verbs-next (Stat spec) specs = refl
-verbs-next (Seq seq) specs = refl
+use Rattle.verb_specs.specs.Verbs.{AreSame, AreSameVerbs}
 
 -- one more verb is copied
 pub same-verbs-following : (spec copy : VerbSpec) (specs copies : List VerbSpec) → AreSameVerbs specs copies → AreSame spec copy → AreSameVerbs (specs ++ spec ∷ []) (copies ++ copy ∷ [])

@@ -1,4 +1,5 @@
 pub mod Plans
+pub mod Meanings
 pub mod Verbs
 pub mod Chains
 pub mod Parts

@@ -1,4 +1,4 @@
--- How far the reader, the outlet and the run of a plan have come.
+-- How far the readers, the outlet and the run of a plan have come.
 use Rattle.std.specs.Prelude.{◌≡◌, List, ◌∷◌}
 use Rattle.mlr_event.specs.declared.event.Event.{Event}
 use Rattle.mlr_world.specs.Taken.{Take}
@@ -7,12 +7,18 @@ use Rattle.outlet.specs.Represents as outlet
 use Rattle.serial_core.specs.Command.{Command}
 use Rattle.serial_core.specs.Reading.{ReaderRepresents}
 use Rattle.serial_core.specs.Represents.{SerialRepresents}
+use Rattle.left_files.specs.Represents as left
+use Rattle.chain_core.specs.declared.left_reader.LeftReader.{LeftReader}
 use Rattle.chain_core.specs.declared.plan_outlet.Outlet.{Outlet}
 use Rattle.chain_core.specs.declared.plan.Plan.{Plan}
 use Rattle.chain_core.specs.declared.reader.Reader.{Reader}
 use Rattle.chain_core.specs.declared.serial.Serial.{Serial}
-use Rattle.chain_core.specs.Plans.{origin_of}
+use Rattle.chain_core.specs.Plans.{left_files, origin_of}
 use Rattle.chain_core.specs.Verbs.{WasGiven, meaning_in}
+
+-- it reads the left files of this plan, this was taken of them, and it had no fault
+abbrev pub ReadsLefts : Plan → List Take → LeftReader → Type 0
+ReadsLefts plan given one = left.Represents (left_files plan.verbs) given one.reader
 
 -- it reads what this plan reads; this was taken of the inputs, and these events were pushed
 abbrev pub Reads : Plan → List Take → List Event → Reader → Type 0

@@ -1,13 +1,15 @@
--- What a plan means.
-use Rattle.std.specs.Prelude.{◌≡◌, true, if◌then◌else◌, List, [], ◌∷◌}
+-- What a plan says, and which plans can be run.
+use Rattle.std.specs.Prelude.{◌≡◌, ℕ, ◌+◌, ◌-◌, ◌^◌, min, Bool, true, if◌then◌else◌, List, [], ◌∷◌, ◌++◌, Option, Some, None}
+use Rattle.std.specs.List.{list_all}
 use Rattle.mlr_event.specs.declared.names.InputName.{InputName}
+use Rattle.mlr_event.specs.declared.options.ReadOpts.{ReadOpts}
 use Rattle.read_files.specs.Represents.{can_read}
-use Rattle.serial_core.specs.Command.{Command, Origin, files, numbers}
-use Rattle.writers.specs.declared.options.WriteOpts.{WriteOpts}
+use Rattle.left_files.specs.declared.left_file.LeftFile.{LeftFile}
+use Rattle.serial_core.specs.Command.{Origin, files, numbers}
 use Rattle.chain_core.specs.declared.plan.Plan.{Plan}
 use Rattle.verb_specs.specs.declared.verb_spec.VerbSpec.{VerbSpec}
 use Rattle.verb_specs.specs.declared.verb_spec.VerbSpec.TheVariants.{Seq}
-use Rattle.verb_specs.specs.Verbs.{AreSameVerbs, AreSound, verbs_of}
+use Rattle.verb_specs.specs.Verbs.{AreSameVerbs, AreSound, left_of}
 
 -- where the events come from: a source, or else this origin
 abbrev pub origin_or : Origin → List VerbSpec → Origin
@@ -20,17 +22,27 @@ inputs_of plan = if plan.no_input then [] else plan.inputs
 abbrev pub origin_of : Plan → Origin
 origin_of plan = origin_or (files plan.read (inputs_of plan)) plan.verbs
 
--- the command of a plan: standard output is written by the first style
-pub record IsCommandOf (plan : Plan) (command : Command) : Type 0 where
-  pub origin : command.origin ≡ origin_of plan
-  pub verbs : command.verbs ≡ verbs_of plan.verbs
-  pub rest : List WriteOpts
-  pub write : plan.styles ≡ command.write ∷ rest
+-- the left files of verbs, each with the number of its verb; the numbers have 32 bits
+abbrev pub left_file : ℕ → Option (InputName × ReadOpts) → List LeftFile
+left_file number None = []
+left_file number (Some file) = record { number = number; read = file.1; name = file.0 } ∷ []
+
+abbrev pub left_files_from : ℕ → List VerbSpec → List LeftFile
+left_files_from number [] = []
+left_files_from number (spec ∷ specs) = left_file number (left_of spec) ++ left_files_from (min (number + 1) (2 ^ 32 - 1)) specs
+
+abbrev pub left_files : List VerbSpec → List LeftFile
+left_files specs = left_files_from 1 specs
+
+-- the left file of a verb, if it has one, can be read
+abbrev pub can_read_left : VerbSpec → Bool
+can_read_left spec = elim (left_of spec) [ Some file ↦ can_read file.1 | None ↦ true ]
 
 -- a plan that can be run
 pub record IsSound (plan : Plan) : Type 0 where
   pub readable : can_read plan.read ≡ true
   pub verbs : AreSound plan.verbs
+  pub lefts : list_all can_read_left plan.verbs ≡ true
   pub styled : plan.styles ≡ [] → ⊥
 
 pub record IsCopy (plan copy : Plan) : Type 0 where

@@ -1,9 +1,10 @@
 //! A plan says what a command reads, through which verbs its records go, and how they are written. Its parts are a
-//! `Reader`, a `Chain` of verbs and an `Outlet`; `run_serial` runs them one after the other.
+//! `LeftReader`, a `Reader`, a `Chain` of verbs and an `Outlet`; `run_serial` runs them one after the other.
 #![tactic(auto)]
 
 mod chain;
 mod laws;
+mod left_reader;
 mod lefts;
 mod plan;
 mod plan_outlet;
@@ -14,7 +15,9 @@ mod verb;
 
 pub use chain::Chain;
 pub use laws::meaning_laws;
-pub use lefts::{Lefts, no_lefts};
+pub use left_files::{LeftFile, LeftTurn};
+pub use left_reader::LeftReader;
+pub use lefts::{Lefts, left_files_of, lefts_for};
 pub use mlr_event::NameList;
 pub use outlet::Let;
 pub use plan::{Plan, StyleList, VerbList};

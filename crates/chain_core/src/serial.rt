@@ -1,5 +1,5 @@
 //! The run of a plan from turn to turn.
-ghost use Rattle.std.specs.Prelude.{◌≡◌, [], List, Option, IfOk};
+ghost use Rattle.std.specs.Prelude.{◌≡◌, [], List, Option, IfOk, length};
 ghost use Rattle.mlr_event.specs.declared.event.Event.{Event as SpecEvent};
 ghost use Rattle.mlr_event.specs.declared.names.InputName.{InputName};
 ghost use Rattle.mlr_event.specs.declared.names.Target.TheVariants.{Stdout};
@@ -12,11 +12,13 @@ ghost use Rattle.serial_core.specs.Command.{Command};
 ghost use Rattle.serial_core.specs.Run.{HoldsFew, Run};
 ghost use Rattle.serial_core.specs.Represents.{InputCause, Ran, TurnCounts, turn_failed, turn_lacks};
 ghost use Rattle.chain_core.specs.Parts.{Runs};
-ghost use Rattle.chain_core.specs.Plans.{IsCommandOf, IsSound};
+ghost use Rattle.chain_core.specs.Meanings.{IsCommandOf};
+ghost use Rattle.chain_core.specs.Plans.{IsSound};
+ghost use Rattle.serial_core.specs.Meaning.{meaning_of};
 ghost use Rattle.chain_core.specs.Verbs.{WasGiven, meaning_in};
 
 use crate::chain::Chain;
-use crate::lefts::no_lefts;
+use crate::lefts::Lefts;
 use crate::plan::Plan;
 use crate::plan_outlet::Outlet;
 use crate::reader::Reader;
@@ -27,7 +29,7 @@ use mlr_world::{Inputs, Outputs};
 use serial_core::{Ended, SerialTurn};
 use std::alloc::Global;
 
-/// A run of a plan that proceeds from turn to turn. It represents what was taken of the inputs.
+/// A run of a plan whose left files were read, which proceeds from turn to turn. It represents what was taken of the main inputs.
 pub struct Serial {
     serial: serial_core::Serial<Verb>,
 }
@@ -41,15 +43,17 @@ impl Drop for Serial {
 }
 
 impl Serial {
-    /// A run that has read and written nothing. It allocates for the reader, the verbs and the outlet.
-    pub fn new(alloc: Global, plan: &Plan) -> Result<Self, NoMemory>
-        requires { IsSound plan.now }
-        ensures { IfOk result (λ made. (command : Command) → IsCommandOf plan.now command
+    /// A run that has read no main input and written nothing, with what the left files of the plan hold. It allocates for the
+    /// reader, the verbs and the outlet.
+    pub fn new(alloc: Global, plan: &Plan, lefts: Lefts) -> Result<Self, NoMemory>
+        requires sound { IsSound plan.now }
+        requires lefts { length lefts ≡ length plan.now.verbs }
+        ensures { IfOk result (λ made. (command : Command) → IsCommandOf plan.now lefts command
             → Runs command [] [] [] made) }
     {
         let reader = Reader::new(alloc, plan)?;
         let outlet = Outlet::new(alloc, plan)?;
-        let mut chain = Chain::new(alloc, plan, no_lefts(alloc, plan)?)?;
+        let mut chain = Chain::new(alloc, plan, lefts)?;
         let mut made = Events::new(alloc);
         chain.begin(&mut made)?;
         Ok(Serial {
@@ -92,8 +96,9 @@ impl Serial {
     pub fn run<I: Inputs, O: Outputs>(&mut self, inputs: &mut I, outputs: &mut O) -> Ended
         requires { (command : Command) × Runs command [] [] [] self.old }
         ensures run { (command : Command) → Runs command [] [] [] self.old
-            → Run result command (I.contents inputs.old) (I.taken inputs.old) (I.taken inputs.new)
-            (I.open_entry inputs.new) (O.held outputs.old) (O.held outputs.new) }
+            → Run result (meaning_of command) (I.contents inputs.old) (I.taken inputs.old)
+            (I.taken inputs.new) (I.open_entry inputs.new) (O.held outputs.old)
+            (O.held outputs.new) }
         ensures contents { I.contents inputs.new ≡ I.contents inputs.old }
         ensures cause { InputCause result (I.faults inputs.old) (I.faults inputs.new) }
         ensures counts { Counted (has_failed result) (O.faults outputs.old) (O.faults outputs.new)
@@ -102,7 +107,7 @@ impl Serial {
             (O.shortages outputs.new) }
         // Where no input fails, and all hold fewer than 2^60 bytes, the outcome is neither Read nor TooLong.
         ensures completes { (command : Command) → Runs command [] [] [] self.old
-            → HoldsFew command (I.contents inputs.old) (I.taken inputs.old)
+            → HoldsFew (meaning_of command) (I.contents inputs.old) (I.taken inputs.old)
             → ((name : InputName) → ¬ Rose (I.faults inputs.old name) (I.faults inputs.new name))
             → IsOfNoInput result }
     {

@@ -5,13 +5,14 @@ ghost use Rattle.mlr_event.specs.declared.event.Event.{Event as SpecEvent};
 ghost use Rattle.mlr_event.specs.Verb.{Verb as SpecVerb, is_open};
 ghost use Rattle.verbs_stream.specs.Meaning.{IsSound as IsSoundSpec};
 ghost use Rattle.chain_core.specs.Chains.{Represents};
-ghost use Rattle.chain_core.specs.Plans.{IsSound};
-ghost use Rattle.verb_specs.specs.Verbs.{AreSound};
+ghost use Rattle.chain_core.specs.Plans.{IsSound, can_read_left};
+ghost use Rattle.std.specs.List.{list_all};
+ghost use Rattle.verb_specs.specs.Verbs.{AreSound, IsVerb};
 
-use crate::plans::plan_of;
+use crate::plans::{plan_of, read_opts};
 use chain_core::{
-    Chain, Ended, Let, Outlet, Plan, ReadTurn, Reader, Serial, SerialTurn, Verb, VerbList,
-    VerbSpec, no_lefts, run_serial,
+    Chain, Ended, LeftReader, LeftTurn, Let, Outlet, Plan, ReadTurn, Reader, Serial, SerialTurn,
+    Verb, VerbList, VerbSpec, lefts_for, run_serial,
 };
 use mlr_event::{Ctx, Event, Events, Format, InputName, Names, Target};
 use mlr_list::List;
@@ -22,6 +23,7 @@ use mlr_world::{Inputs, MemInputs, MemOutputs, Opened};
 use std::alloc::{AllocError, Global};
 use std::thread;
 use std::thread::Threads;
+use verbs_join_nest::Join;
 use verbs_seq::SeqSpec;
 use verbs_stream::{Cat, FillDown, Head, Sec2Gmt, Spec};
 
@@ -29,7 +31,9 @@ use verbs_stream::{Cat, FillDown, Head, Sec2Gmt, Spec};
 fn push(verbs: &mut VerbList, spec: Spec) -> Result<(), NoMemory>
     requires options { IsSoundSpec spec }
     requires verbs { AreSound verbs.old }
-    ensures { OnOk result (AreSound verbs.new) }
+    ensures verbs { OnOk result (AreSound verbs.new) }
+    ensures lefts { OnOk result (list_all can_read_left verbs.old ≡ true
+        → list_all can_read_left verbs.new ≡ true) }
 {
     verbs.push(VerbSpec::Stream(spec))?;
     Ok(())
@@ -109,7 +113,8 @@ enum Source {
 
 /// A plan's verbs that begin with `seqgen`, or no verbs.
 fn first_verbs(alloc: Global, source: Source) -> Result<VerbList, NoMemory>
-    ensures { IfOk result (λ verbs. AreSound verbs) }
+    ensures verbs { IfOk result (λ verbs. AreSound verbs) }
+    ensures lefts { IfOk result (λ verbs. list_all can_read_left verbs ≡ true) }
 {
     let mut verbs = List::new(alloc);
     if let Source::Numbers(start, stop, step) = source {
@@ -128,7 +133,8 @@ fn first_verbs(alloc: Global, source: Source) -> Result<VerbList, NoMemory>
 
 /// A plan's verbs, of which the first may be `seqgen`.
 fn verbs_of(alloc: Global, source: Source, verbs: &[Words]) -> Result<VerbList, NoMemory>
-    ensures { IfOk result (λ verbs. AreSound verbs) }
+    ensures verbs { IfOk result (λ verbs. AreSound verbs) }
+    ensures lefts { IfOk result (λ verbs. list_all can_read_left verbs ≡ true) }
 {
     let mut made = first_verbs(alloc, source)?;
     for verb in verbs {
@@ -177,7 +183,8 @@ type Row = (&'static [Words], [u64; 4], [u64; 4], bool);
 /// Whether a chain of such verbs makes this of three records.
 fn makes_of_three(alloc: Global, row: &Row) -> Result<bool, NoMemory> {
     let plan = plan_of(alloc, verbs_of(alloc, Source::Stdin, row.0)?, Format::Dkvp)?;
-    let mut chain = Chain::new(alloc, &plan, no_lefts(alloc, &plan)?)?;
+    let lefts = lefts_for(alloc, &plan, Vec::new(alloc))?;
+    let mut chain = Chain::new(alloc, &plan, lefts)?;
     let mut first = Events::new(alloc);
     chain.begin(&mut first)?;
     let mut events = Events::new(alloc);
@@ -355,7 +362,8 @@ fn run_twice<I: Inputs>(alloc: Global, plan: &Plan, inputs: &mut I) -> Result<bo
     requires { IsSound plan.now }
 {
     let mut outputs = outputs_of(alloc)?;
-    let mut serial = Serial::new(alloc, plan)?;
+    let lefts = lefts_for(alloc, plan, Vec::new(alloc))?;
+    let mut serial = Serial::new(alloc, plan, lefts)?;
     match serial.turn(inputs, &mut outputs) {
         SerialTurn::Went => {}
         SerialTurn::Over(_) => return Ok(false),
@@ -364,6 +372,54 @@ fn run_twice<I: Inputs>(alloc: Global, plan: &Plan, inputs: &mut I) -> Result<bo
     let first = outputs.bytes_of(&Target::Stdout) == Some(text.as_bytes());
     let over = serial.turn(inputs, &mut outputs) == SerialTurn::Over(Ended::Done);
     Ok(first && over)
+}
+
+/// A pairing with the file L by the field `id`.
+fn join_of(alloc: Global) -> Result<VerbSpec, NoMemory>
+    ensures { IfOk result (λ spec. IsVerb spec × (can_read_left spec ≡ true)) }
+{
+    Ok(VerbSpec::Shape(verbs_join_nest::Spec::Join(Join {
+        file: InputName::File(Bytes::copy_of(alloc, b"L")?),
+        read: read_opts(alloc)?,
+        left: names(alloc, "id")?,
+        right: names(alloc, "id")?,
+        output: names(alloc, "id")?,
+        pairs: true,
+        left_unpaired: false,
+        right_unpaired: false,
+        left_prefix: None,
+        right_prefix: None,
+    })))
+}
+
+/// Whether two turns read the left file of a plan, which is one with three records.
+fn left_twice<I: Inputs>(alloc: Global, plan: &Plan, inputs: &mut I) -> Result<bool, NoMemory>
+    requires { IsSound plan.now }
+{
+    let mut reader = LeftReader::new(alloc, plan)?;
+    match reader.turn(inputs) {
+        LeftTurn::Went => {}
+        _ => return Ok(false),
+    }
+    match reader.turn(inputs) {
+        LeftTurn::Ended(lefts) => Ok(lefts.len() == 1 && lefts[0].len() == 3),
+        _ => Ok(false),
+    }
+}
+
+/// Whether the left file of a plan is read in two turns.
+fn reads_left(alloc: Global) -> Result<bool, NoMemory> {
+    let mut verbs = List::new(alloc);
+    verbs.push(join_of(alloc)?)?;
+    let plan = plan_of(alloc, verbs, Format::Dkvp)?;
+    let mut contents = Vec::new(alloc);
+    let name = InputName::File(Bytes::copy_of(alloc, b"L")?);
+    contents.push((
+        name,
+        Bytes::copy_of(alloc, b"id=1,a=x\nid=2,a=y\nid=1,a=z\n")?,
+    ))?;
+    let mut inputs = MemInputs::new(alloc, contents, Vec::new(alloc), Vec::new(alloc))?;
+    left_twice(alloc, &plan, &mut inputs)
 }
 
 /// Whether an outlet writes a text at once, and can be shut then.
@@ -428,6 +484,7 @@ fn chains_plans_and_their_parts_make_what_is_wanted(rt: HostRuntime) -> Result<(
     assert_eq!(rt; first_wrong_chain(alloc)?, None);
     assert_eq!(rt; first_wrong_plan(alloc)?, None);
     assert!(rt; parts_give_their_rows(alloc)?);
+    assert!(rt; reads_left(alloc)?);
     assert!(rt; parts_move(&rt, alloc)?);
     Ok(())
 }

@@ -1,7 +1,8 @@
 //! Plans of some verbs, as the tests run them.
 ghost use Rattle.std.specs.Prelude.{◌≡◌, [], true, IfOk};
+ghost use Rattle.std.specs.List.{list_all};
 ghost use Rattle.read_files.specs.Represents.{can_read};
-ghost use Rattle.chain_core.specs.Plans.{IsSound};
+ghost use Rattle.chain_core.specs.Plans.{IsSound, can_read_left};
 ghost use Rattle.verb_specs.specs.Verbs.{AreSound};
 
 use chain_core::{NameList, Plan, StyleList, VerbList};
@@ -12,7 +13,7 @@ use std::alloc::Global;
 use writers::WriteOpts;
 
 /// DKVP, as it is read.
-fn read_opts(alloc: Global) -> Result<ReadOpts, NoMemory>
+pub(crate) fn read_opts(alloc: Global) -> Result<ReadOpts, NoMemory>
     ensures { IfOk result (λ opts. can_read opts ≡ true) }
 {
     ReadOpts::of(alloc, Format::Dkvp)
@@ -37,7 +38,8 @@ fn stdin(alloc: Global) -> Result<NameList, NoMemory> {
 
 /// A plan that reads standard input as DKVP, and writes this format.
 pub(crate) fn plan_of(alloc: Global, verbs: VerbList, format: Format) -> Result<Plan, NoMemory>
-    requires { AreSound verbs }
+    requires sound { AreSound verbs }
+    requires lefts { list_all can_read_left verbs ≡ true }
     ensures { IfOk result IsSound }
 {
     Ok(Plan {

@@ -146,6 +146,7 @@ can-end verb.GroupLike = (refl, needed verb.GroupLike [] (λ n. refl) (λ n. ref
 can-end verb.Gsub = (refl, needed verb.Gsub ((codes "-f", codes "1") ∷ []) (λ n. refl) (λ n. refl))
 can-end verb.HavingFields = (refl, needed verb.HavingFields ((codes "--at-least", codes "1") ∷ []) (λ n. refl) (λ n. refl))
 can-end verb.Head = (refl, needed verb.Head [] (λ n. refl) (λ n. refl))
+can-end verb.Join = (refl, needed verb.Join ((codes "-f", codes "1") ∷ (codes "-j", codes "1") ∷ []) (λ n. refl) (λ n. refl))
 can-end verb.JsonParse = (refl, needed verb.JsonParse [] (λ n. refl) (λ n. refl))
 can-end verb.JsonStringify = (refl, needed verb.JsonStringify [] (λ n. refl) (λ n. refl))
 can-end verb.Label = (refl, needed verb.Label [] (λ n. refl) (λ n. refl))

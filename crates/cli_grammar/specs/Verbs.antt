@@ -21,11 +21,11 @@ abbrev pub all_verbs : List VerbName
 all_verbs =
     verb.Altkv ∷ verb.Cat ∷ verb.Count ∷ verb.CountDistinct ∷ verb.CountSimilar ∷ verb.Cut ∷ verb.Decimate ∷
     verb.FillDown ∷ verb.FillEmpty ∷ verb.Flatten ∷ verb.Gap ∷ verb.Grep ∷ verb.GroupBy ∷ verb.GroupLike ∷ verb.Gsub ∷
-    verb.HavingFields ∷ verb.Head ∷ verb.JsonParse ∷ verb.JsonStringify ∷ verb.Label ∷ verb.LeastFrequent ∷
-    verb.MergeFields ∷ verb.MostFrequent ∷ verb.Nest ∷ verb.Nothing ∷ verb.Regularize ∷ verb.Rename ∷ verb.Reorder ∷
-    verb.Repeat ∷ verb.Reshape ∷ verb.Sec2Gmt ∷ verb.Sec2GmtDate ∷ verb.Seqgen ∷ verb.Sort ∷ verb.SortWithinRecords ∷
-    verb.Sparsify ∷ verb.Ssub ∷ verb.Stats1 ∷ verb.Step ∷ verb.Sub ∷ verb.Tac ∷ verb.Tail ∷ verb.Template ∷ verb.Top ∷
-    verb.Unflatten ∷ verb.Uniq ∷ verb.Unspace ∷ verb.Unsparsify ∷ []
+    verb.HavingFields ∷ verb.Head ∷ verb.Join ∷ verb.JsonParse ∷ verb.JsonStringify ∷ verb.Label ∷
+    verb.LeastFrequent ∷ verb.MergeFields ∷ verb.MostFrequent ∷ verb.Nest ∷ verb.Nothing ∷ verb.Regularize ∷
+    verb.Rename ∷ verb.Reorder ∷ verb.Repeat ∷ verb.Reshape ∷ verb.Sec2Gmt ∷ verb.Sec2GmtDate ∷ verb.Seqgen ∷
+    verb.Sort ∷ verb.SortWithinRecords ∷ verb.Sparsify ∷ verb.Ssub ∷ verb.Stats1 ∷ verb.Step ∷ verb.Sub ∷ verb.Tac ∷
+    verb.Tail ∷ verb.Template ∷ verb.Top ∷ verb.Unflatten ∷ verb.Uniq ∷ verb.Unspace ∷ verb.Unsparsify ∷ []
 
 abbrev pub row_of_verb : VerbName → VerbRow
 row_of_verb verb.Altkv = record {
@@ -128,6 +128,12 @@ row_of_verb verb.Head = record {
   name = codes "head";
   options = (codes "-n", count) ∷ (codes "-g", kind.Names) ∷ [];
   groups = [];
+  words = [];
+}
+row_of_verb verb.Join = record {
+  name = codes "join";
+  options = (codes "-f", kind.File) ∷ (codes "-j", kind.Names) ∷ (codes "-l", kind.Names) ∷ (codes "-r", kind.Names) ∷ (codes "--np", kind.Nothing) ∷ (codes "--ul", kind.Nothing) ∷ (codes "--ur", kind.Nothing) ∷ (codes "--lp", kind.Text) ∷ (codes "--rp", kind.Text) ∷ (codes "-i", kind.Format) ∷ [];
+  groups = (codes "-f" ∷ [], true) ∷ (codes "-j" ∷ codes "-l" ∷ codes "-r" ∷ [], true) ∷ [];
   words = [];
 }
 row_of_verb verb.JsonParse = record {

@@ -8,7 +8,7 @@ use std::marker::Model;
 /// An option, and what the word after it is.
 pub type OptionRow = (&'static [u8], Kind);
 
-/// Options of which at most one may be given, but in `sort`, where each counts, and whether one of them must be.
+/// Options of which at most one may be given, but in `join` and `sort`, where each counts, and whether one of them must be.
 pub type Group = (&'static [&'static [u8]], bool);
 
 /// A verb: its name, its options, and the words of its own that follow them.
@@ -54,6 +54,7 @@ pub enum VerbName {
     Gsub,
     HavingFields,
     Head,
+    Join,
     JsonParse,
     JsonStringify,
     Label,
@@ -88,7 +89,7 @@ pub enum VerbName {
 }
 
 /// All verbs that have rows, in the order of their names.
-const VERBS: [VerbName; 48] = [
+const VERBS: [VerbName; 49] = [
     VerbName::Altkv,
     VerbName::Cat,
     VerbName::Count,
@@ -106,6 +107,7 @@ const VERBS: [VerbName; 48] = [
     VerbName::Gsub,
     VerbName::HavingFields,
     VerbName::Head,
+    VerbName::Join,
     VerbName::JsonParse,
     VerbName::JsonStringify,
     VerbName::Label,
@@ -550,6 +552,27 @@ const UNSPARSIFY: VerbRow = VerbRow {
     words: &[],
 };
 
+/// The left file, and the names of the join fields, of which each option counts.
+const JOIN_GROUPS: [Group; 2] = [(&[b"-f"], true), (&[b"-j", b"-l", b"-r"], true)];
+
+const JOIN: VerbRow = VerbRow {
+    name: b"join",
+    options: &[
+        (b"-f", Kind::File),
+        (b"-j", Kind::Names),
+        (b"-l", Kind::Names),
+        (b"-r", Kind::Names),
+        (b"--np", Kind::Nothing),
+        (b"--ul", Kind::Nothing),
+        (b"--ur", Kind::Nothing),
+        (b"--lp", Kind::Text),
+        (b"--rp", Kind::Text),
+        (b"-i", Kind::Format),
+    ],
+    groups: &JOIN_GROUPS,
+    words: &[],
+};
+
 const MERGE_FIELDS_GROUPS: [Group; 2] = [(&[b"-a"], true), (&[b"-f", b"-r", b"-c"], true)];
 
 const MERGE_FIELDS: VerbRow = VerbRow {
@@ -685,6 +708,7 @@ impl VerbName {
             VerbName::Gsub => GSUB,
             VerbName::HavingFields => HAVING_FIELDS,
             VerbName::Head => HEAD,
+            VerbName::Join => JOIN,
             VerbName::JsonParse => JSON_PARSE,
             VerbName::JsonStringify => JSON_STRINGIFY,
             VerbName::Label => LABEL,

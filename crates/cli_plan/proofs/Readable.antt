@@ -1,6 +1,7 @@
 -- What a command reads can be read: its separators have bytes.
 use Rattle.std.proofs.Common.{◌≡◌, ℕ, Bool, true, false, List, [], ◌∷◌, refl}
 use Rattle.std.specs.Prelude.{Option, Some, None, codes, if◌then◌else◌, not, ◌||◌}
+use Rattle.std.specs.Option.{option_and_then}
 use Rattle.std.specs.Str.{bytes_eq}
 use Rattle.mlr_event.specs.declared.options.Format.{Format}
 use Rattle.mlr_event.specs.declared.options.Format.TheVariants.{Csv, Tsv, Nidx}
@@ -10,7 +11,11 @@ use Rattle.read_files.specs.Represents.{can_read}
 use Rattle.cli_grammar.specs.declared.flag_table.Setting.{Setting}
 use Rattle.cli_grammar.specs.declared.flag_table.Setting.TheVariants as set
 use Rattle.cli_grammar.specs.declared.given.Given.{Given}
+use Rattle.cli_grammar.specs.declared.given.VerbWords.{VerbWords}
+use Rattle.cli_grammar.specs.Kinds.{format_named}
+use Rattle.cli_grammar.specs.Options.{last}
 use Rattle.cli_grammar.specs.Separators.{is_reserved, is_short, named_separator, separator_in}
+use Rattle.cli_shape.specs.Join.{left_read, read_in}
 use Rattle.cli_plan.specs.declared.settings.Settings.{Settings}
 use Rattle.cli_plan.specs.Flags.{setting_of, word_of}
 use Rattle.cli_plan.specs.Options.{flatsep_of, given_or, read_of}
@@ -74,6 +79,14 @@ can_read-bytes fmt [] ips opts h k = cc
 can_read-bytes fmt (b ∷ ifs) [] opts h k = cc
 can_read-bytes Csv (b ∷ ifs) (c ∷ ips) opts h k = refl
 can_read-bytes _ (b ∷ ifs) (c ∷ ips) opts h k = refl
+
+-- a left file can be read where the main inputs can
+can_read-format : (read : ReadOpts) (o : Option Format) → can_read read ≡ true → can_read (elim o [ Some fmt ↦ read_in read fmt | None ↦ read ]) ≡ true
+can_read-format read None h = h
+can_read-format read (Some fmt) h = can_read-bytes fmt (default_separator fmt) (codes "=") read (has_bytes-default fmt) refl
+
+pub can_read-left : (read : ReadOpts) (given : VerbWords) → can_read read ≡ true → can_read (left_read read given) ≡ true
+can_read-left read given h = can_read-format read (option_and_then format_named (last (codes "-i") given.options)) h
 
 -- separators that are given have bytes
 abbrev pub AreUsable : Settings → Type 0

@@ -3,11 +3,11 @@ use Rattle.std.proofs.Common.{◌≡◌, ℕ, zero, suc, ◌≤◌, ℤ, pos, ne
 use Rattle.std.specs.Prelude.{IfOk, IfSome, is_none, ◌^◌, ◌-◌, ◌&&◌, not, length, codes, if◌then◌else◌}
 use Rattle.std.specs.List.{list_all}
 use Rattle.std.specs.Str.{bytes_eq}
-use Rattle.std.proofs.lemmas.Bool.{false≢true}
+use Rattle.std.proofs.lemmas.Bool.{and_from, false≢true}
 use Rattle.std.proofs.lemmas.Slice.Eq.{bytes_eq-Decides}
 use Rattle.verb_specs.specs.declared.verb_spec.VerbSpec.{VerbSpec}
 use Rattle.verb_specs.specs.declared.verb_spec.VerbSpec.TheVariants.{Stream, Retain, Seq, Shape, Stat}
-use Rattle.chain_core.specs.Plans.{IsSound}
+use Rattle.chain_core.specs.Plans.{IsSound, can_read_left}
 use Rattle.verb_specs.specs.Verbs.{AreSound, AreVerbs, IsVerb}
 use Rattle.chain_core.specs.declared.plan.Plan.{Plan}
 use Rattle.read_files.specs.Represents.{can_read}
@@ -24,6 +24,7 @@ use Rattle.cli_grammar.specs.Reading.{kind_in}
 use Rattle.cli_grammar.specs.Separators.{separator_in}
 use Rattle.cli_grammar.specs.Verbs.{positive, row_of_verb}
 use Rattle.mlr_spec.specs.Pairs.{are_distinct}
+use Rattle.mlr_event.specs.declared.options.ReadOpts.{ReadOpts}
 use Rattle.mlr_event.specs.declared.refusal.Why.{Why}
 use Rattle.mlr_event.specs.declared.refusal.Why.TheVariants.{BadNumber}
 use Rattle.verbs_seq.specs.Seq.{IsSoundSeq}
@@ -38,7 +39,7 @@ use Rattle.cli_plan.specs.Accepting.{AreGoodAfter, clash_after, clash_among, is_
 use Rattle.cli_plan.specs.Options.{read_of, write_of}
 use Rattle.cli_plan.specs.Planning.{AreVerbsOf, IsMade}
 use Rattle.cli_plan.specs.declared.settings.Settings.{Settings}
-use Rattle.cli_plan.proofs.Readable.{has_bytes, is_usable, of_separator}
+use Rattle.cli_plan.proofs.Readable.{can_read-left, has_bytes, is_usable, of_separator}
 
 both : (a b : Bool) → (a && b) ≡ true → (a ≡ true) × (b ≡ true)
 both true true is = (refl, refl)
@@ -147,111 +148,113 @@ gap-sound given true least = tt
 gap-sound given false least = least refl
 
 -- a verb that is no source
-as-stream : (given : VerbWords) (flatsep : List ℕ) → 1 ≤ length flatsep → (name : VerbName) → list_all (is_option (row_of_verb name).options) given.options ≡ true
+as-stream : (given : VerbWords) (flatsep : List ℕ) (read : ReadOpts) → 1 ≤ length flatsep → (name : VerbName) → list_all (is_option (row_of_verb name).options) given.options ≡ true
     → earlier (option_clash given) (names_clash name given) ≡ None → is_source name ≡ false
-    → (spec : VerbSpec) → IsVerbNamed name flatsep given spec → IsVerb spec
-as-stream given flatsep sep verb.Altkv fits clear other spec is = subst IsVerb (sym is) tt
-as-stream given flatsep sep verb.Cat fits clear other spec is = subst IsVerb (sym is) tt
-as-stream given flatsep sep verb.Count fits clear other spec is = subst IsVerb (sym is) tt
-as-stream given flatsep sep verb.CountDistinct fits clear other spec is = subst IsVerb (sym is) tt
-as-stream given flatsep sep verb.CountSimilar fits clear other spec is = subst IsVerb (sym is) tt
-as-stream given flatsep sep verb.Cut fits clear other spec is = subst IsVerb (sym is.1) tt
-as-stream given flatsep sep verb.Decimate fits clear other spec is =
+    → (spec : VerbSpec) → IsVerbNamed name flatsep read given spec → IsVerb spec
+as-stream given flatsep read sep verb.Altkv fits clear other spec is = subst IsVerb (sym is) tt
+as-stream given flatsep read sep verb.Cat fits clear other spec is = subst IsVerb (sym is) tt
+as-stream given flatsep read sep verb.Count fits clear other spec is = subst IsVerb (sym is) tt
+as-stream given flatsep read sep verb.CountDistinct fits clear other spec is = subst IsVerb (sym is) tt
+as-stream given flatsep read sep verb.CountSimilar fits clear other spec is = subst IsVerb (sym is) tt
+as-stream given flatsep read sep verb.Cut fits clear other spec is = subst IsVerb (sym is.1) tt
+as-stream given flatsep read sep verb.Decimate fits clear other spec is =
     subst IsVerb (sym is) (count-positive 10 (omega arith) (row_of_verb verb.Decimate).options (codes "-n") refl given.options fits)
-as-stream given flatsep sep verb.FillDown fits clear other spec is = subst IsVerb (sym is) tt
-as-stream given flatsep sep verb.FillEmpty fits clear other spec is = subst IsVerb (sym is) tt
-as-stream given flatsep sep verb.Flatten fits clear other spec is = subst IsVerb (sym is) (separator-some flatsep sep (last (codes "-s") given.options))
-as-stream given flatsep sep verb.Gap fits clear other spec is =
+as-stream given flatsep read sep verb.FillDown fits clear other spec is = subst IsVerb (sym is) tt
+as-stream given flatsep read sep verb.FillEmpty fits clear other spec is = subst IsVerb (sym is) tt
+as-stream given flatsep read sep verb.Flatten fits clear other spec is = subst IsVerb (sym is) (separator-some flatsep sep (last (codes "-s") given.options))
+as-stream given flatsep read sep verb.Gap fits clear other spec is =
     subst IsVerb (sym is) (gap-sound given (has (codes "-g") given.options) (λ _. count-positive 1 (omega arith) (row_of_verb verb.Gap).options (codes "-n") refl given.options fits))
-as-stream given flatsep sep verb.Grep fits clear other spec is = subst IsVerb (sym is.1) tt
-as-stream given flatsep sep verb.GroupBy fits clear other spec is = subst IsVerb (sym is) tt
-as-stream given flatsep sep verb.GroupLike fits clear other spec is = subst IsVerb (sym is) tt
-as-stream given flatsep sep verb.Gsub fits clear other spec is = subst IsVerb (sym is.1) tt
-as-stream given flatsep sep verb.HavingFields fits clear other spec is = subst IsVerb (sym is.1) tt
-as-stream given flatsep sep verb.Head fits clear other spec is = subst IsVerb (sym is) tt
-as-stream given flatsep sep verb.JsonParse fits clear other spec is = subst IsVerb (sym is) tt
-as-stream given flatsep sep verb.JsonStringify fits clear other spec is = subst IsVerb (sym is) tt
-as-stream given flatsep sep verb.Label fits clear other spec is =
+as-stream given flatsep read sep verb.Grep fits clear other spec is = subst IsVerb (sym is.1) tt
+as-stream given flatsep read sep verb.GroupBy fits clear other spec is = subst IsVerb (sym is) tt
+as-stream given flatsep read sep verb.GroupLike fits clear other spec is = subst IsVerb (sym is) tt
+as-stream given flatsep read sep verb.Gsub fits clear other spec is = subst IsVerb (sym is.1) tt
+as-stream given flatsep read sep verb.HavingFields fits clear other spec is = subst IsVerb (sym is.1) tt
+as-stream given flatsep read sep verb.Head fits clear other spec is = subst IsVerb (sym is) tt
+as-stream given flatsep read sep verb.Join fits clear other spec is = subst IsVerb (sym is) tt
+as-stream given flatsep read sep verb.JsonParse fits clear other spec is = subst IsVerb (sym is) tt
+as-stream given flatsep read sep verb.JsonStringify fits clear other spec is = subst IsVerb (sym is) tt
+as-stream given flatsep read sep verb.Label fits clear other spec is =
     subst IsVerb (sym is) (label-distinct given clear)
-as-stream given flatsep sep verb.LeastFrequent fits clear other spec is = subst IsVerb (sym is) tt
-as-stream given flatsep sep verb.MergeFields fits clear other spec is = subst IsVerb (sym is.1) tt
-as-stream given flatsep sep verb.MostFrequent fits clear other spec is = subst IsVerb (sym is) tt
-as-stream given flatsep sep verb.Nest fits clear other spec is = subst IsVerb (sym is) tt
-as-stream given flatsep sep verb.Nothing fits clear other spec is = subst IsVerb (sym is) tt
-as-stream given flatsep sep verb.Regularize fits clear other spec is = subst IsVerb (sym is) tt
-as-stream given flatsep sep verb.Rename fits clear other spec is = subst IsVerb (sym is.1) tt
-as-stream given flatsep sep verb.Reorder fits clear other spec is = subst IsVerb (sym is) tt
-as-stream given flatsep sep verb.Repeat fits clear other spec is = subst IsVerb (sym is) tt
-as-stream given flatsep sep verb.Reshape fits clear other spec is = subst IsVerb (sym is.1) tt
-as-stream given flatsep sep verb.Sec2Gmt fits clear other spec is = subst IsVerb (sym is) tt
-as-stream given flatsep sep verb.Sec2GmtDate fits clear other spec is = subst IsVerb (sym is) tt
-as-stream given flatsep sep verb.Seqgen fits clear other spec is = absurd (false≢true (sym other))
-as-stream given flatsep sep verb.Sort fits clear other spec is = subst IsVerb (sym is) tt
-as-stream given flatsep sep verb.SortWithinRecords fits clear other spec is = subst IsVerb (sym is) tt
-as-stream given flatsep sep verb.Sparsify fits clear other spec is = subst IsVerb (sym is) tt
-as-stream given flatsep sep verb.Ssub fits clear other spec is = subst IsVerb (sym is) tt
-as-stream given flatsep sep verb.Stats1 fits clear other spec is = subst IsVerb (sym is) tt
-as-stream given flatsep sep verb.Step fits clear other spec is = subst IsVerb (sym is) tt
-as-stream given flatsep sep verb.Sub fits clear other spec is = subst IsVerb (sym is.1) tt
-as-stream given flatsep sep verb.Tac fits clear other spec is = subst IsVerb (sym is) tt
-as-stream given flatsep sep verb.Tail fits clear other spec is = subst IsVerb (sym is) tt
-as-stream given flatsep sep verb.Template fits clear other spec is = subst IsVerb (sym is) tt
-as-stream given flatsep sep verb.Top fits clear other spec is = subst IsVerb (sym is) tt
-as-stream given flatsep sep verb.Unflatten fits clear other spec is = subst IsVerb (sym is) (separator-some flatsep sep (last (codes "-s") given.options))
-as-stream given flatsep sep verb.Uniq fits clear other spec is = subst IsVerb (sym is) tt
-as-stream given flatsep sep verb.Unspace fits clear other spec is = subst IsVerb (sym is) tt
-as-stream given flatsep sep verb.Unsparsify fits clear other spec is = subst IsVerb (sym is) tt
+as-stream given flatsep read sep verb.LeastFrequent fits clear other spec is = subst IsVerb (sym is) tt
+as-stream given flatsep read sep verb.MergeFields fits clear other spec is = subst IsVerb (sym is.1) tt
+as-stream given flatsep read sep verb.MostFrequent fits clear other spec is = subst IsVerb (sym is) tt
+as-stream given flatsep read sep verb.Nest fits clear other spec is = subst IsVerb (sym is) tt
+as-stream given flatsep read sep verb.Nothing fits clear other spec is = subst IsVerb (sym is) tt
+as-stream given flatsep read sep verb.Regularize fits clear other spec is = subst IsVerb (sym is) tt
+as-stream given flatsep read sep verb.Rename fits clear other spec is = subst IsVerb (sym is.1) tt
+as-stream given flatsep read sep verb.Reorder fits clear other spec is = subst IsVerb (sym is) tt
+as-stream given flatsep read sep verb.Repeat fits clear other spec is = subst IsVerb (sym is) tt
+as-stream given flatsep read sep verb.Reshape fits clear other spec is = subst IsVerb (sym is.1) tt
+as-stream given flatsep read sep verb.Sec2Gmt fits clear other spec is = subst IsVerb (sym is) tt
+as-stream given flatsep read sep verb.Sec2GmtDate fits clear other spec is = subst IsVerb (sym is) tt
+as-stream given flatsep read sep verb.Seqgen fits clear other spec is = absurd (false≢true (sym other))
+as-stream given flatsep read sep verb.Sort fits clear other spec is = subst IsVerb (sym is) tt
+as-stream given flatsep read sep verb.SortWithinRecords fits clear other spec is = subst IsVerb (sym is) tt
+as-stream given flatsep read sep verb.Sparsify fits clear other spec is = subst IsVerb (sym is) tt
+as-stream given flatsep read sep verb.Ssub fits clear other spec is = subst IsVerb (sym is) tt
+as-stream given flatsep read sep verb.Stats1 fits clear other spec is = subst IsVerb (sym is) tt
+as-stream given flatsep read sep verb.Step fits clear other spec is = subst IsVerb (sym is) tt
+as-stream given flatsep read sep verb.Sub fits clear other spec is = subst IsVerb (sym is.1) tt
+as-stream given flatsep read sep verb.Tac fits clear other spec is = subst IsVerb (sym is) tt
+as-stream given flatsep read sep verb.Tail fits clear other spec is = subst IsVerb (sym is) tt
+as-stream given flatsep read sep verb.Template fits clear other spec is = subst IsVerb (sym is) tt
+as-stream given flatsep read sep verb.Top fits clear other spec is = subst IsVerb (sym is) tt
+as-stream given flatsep read sep verb.Unflatten fits clear other spec is = subst IsVerb (sym is) (separator-some flatsep sep (last (codes "-s") given.options))
+as-stream given flatsep read sep verb.Uniq fits clear other spec is = subst IsVerb (sym is) tt
+as-stream given flatsep read sep verb.Unspace fits clear other spec is = subst IsVerb (sym is) tt
+as-stream given flatsep read sep verb.Unsparsify fits clear other spec is = subst IsVerb (sym is) tt
 
 -- the first verb may be a source, whose numbers were found sound
-first-is : (name : VerbName) (given : VerbWords) (flatsep : List ℕ) (spec : VerbSpec) → is_source name ≡ true → IsVerbNamed name flatsep given spec → spec ≡ Seq (seqgen_of given)
-first-is verb.Seqgen given flatsep spec source is = is
-first-is verb.Altkv given flatsep spec source is = absurd (false≢true source)
-first-is verb.Cat given flatsep spec source is = absurd (false≢true source)
-first-is verb.Count given flatsep spec source is = absurd (false≢true source)
-first-is verb.CountDistinct given flatsep spec source is = absurd (false≢true source)
-first-is verb.CountSimilar given flatsep spec source is = absurd (false≢true source)
-first-is verb.Cut given flatsep spec source is = absurd (false≢true source)
-first-is verb.Decimate given flatsep spec source is = absurd (false≢true source)
-first-is verb.FillDown given flatsep spec source is = absurd (false≢true source)
-first-is verb.FillEmpty given flatsep spec source is = absurd (false≢true source)
-first-is verb.Flatten given flatsep spec source is = absurd (false≢true source)
-first-is verb.Gap given flatsep spec source is = absurd (false≢true source)
-first-is verb.Grep given flatsep spec source is = absurd (false≢true source)
-first-is verb.GroupBy given flatsep spec source is = absurd (false≢true source)
-first-is verb.GroupLike given flatsep spec source is = absurd (false≢true source)
-first-is verb.Gsub given flatsep spec source is = absurd (false≢true source)
-first-is verb.HavingFields given flatsep spec source is = absurd (false≢true source)
-first-is verb.Head given flatsep spec source is = absurd (false≢true source)
-first-is verb.JsonParse given flatsep spec source is = absurd (false≢true source)
-first-is verb.JsonStringify given flatsep spec source is = absurd (false≢true source)
-first-is verb.Label given flatsep spec source is = absurd (false≢true source)
-first-is verb.LeastFrequent given flatsep spec source is = absurd (false≢true source)
-first-is verb.MergeFields given flatsep spec source is = absurd (false≢true source)
-first-is verb.MostFrequent given flatsep spec source is = absurd (false≢true source)
-first-is verb.Nest given flatsep spec source is = absurd (false≢true source)
-first-is verb.Nothing given flatsep spec source is = absurd (false≢true source)
-first-is verb.Regularize given flatsep spec source is = absurd (false≢true source)
-first-is verb.Rename given flatsep spec source is = absurd (false≢true source)
-first-is verb.Reorder given flatsep spec source is = absurd (false≢true source)
-first-is verb.Repeat given flatsep spec source is = absurd (false≢true source)
-first-is verb.Reshape given flatsep spec source is = absurd (false≢true source)
-first-is verb.Sec2Gmt given flatsep spec source is = absurd (false≢true source)
-first-is verb.Sec2GmtDate given flatsep spec source is = absurd (false≢true source)
-first-is verb.Sort given flatsep spec source is = absurd (false≢true source)
-first-is verb.SortWithinRecords given flatsep spec source is = absurd (false≢true source)
-first-is verb.Sparsify given flatsep spec source is = absurd (false≢true source)
-first-is verb.Ssub given flatsep spec source is = absurd (false≢true source)
-first-is verb.Stats1 given flatsep spec source is = absurd (false≢true source)
-first-is verb.Step given flatsep spec source is = absurd (false≢true source)
-first-is verb.Sub given flatsep spec source is = absurd (false≢true source)
-first-is verb.Tac given flatsep spec source is = absurd (false≢true source)
-first-is verb.Tail given flatsep spec source is = absurd (false≢true source)
-first-is verb.Template given flatsep spec source is = absurd (false≢true source)
-first-is verb.Top given flatsep spec source is = absurd (false≢true source)
-first-is verb.Unflatten given flatsep spec source is = absurd (false≢true source)
-first-is verb.Uniq given flatsep spec source is = absurd (false≢true source)
-first-is verb.Unspace given flatsep spec source is = absurd (false≢true source)
-first-is verb.Unsparsify given flatsep spec source is = absurd (false≢true source)
+first-is : (name : VerbName) (given : VerbWords) (flatsep : List ℕ) (read : ReadOpts) (spec : VerbSpec) → is_source name ≡ true → IsVerbNamed name flatsep read given spec → spec ≡ Seq (seqgen_of given)
+first-is verb.Seqgen given flatsep read spec source is = is
+first-is verb.Altkv given flatsep read spec source is = absurd (false≢true source)
+first-is verb.Cat given flatsep read spec source is = absurd (false≢true source)
+first-is verb.Count given flatsep read spec source is = absurd (false≢true source)
+first-is verb.CountDistinct given flatsep read spec source is = absurd (false≢true source)
+first-is verb.CountSimilar given flatsep read spec source is = absurd (false≢true source)
+first-is verb.Cut given flatsep read spec source is = absurd (false≢true source)
+first-is verb.Decimate given flatsep read spec source is = absurd (false≢true source)
+first-is verb.FillDown given flatsep read spec source is = absurd (false≢true source)
+first-is verb.FillEmpty given flatsep read spec source is = absurd (false≢true source)
+first-is verb.Flatten given flatsep read spec source is = absurd (false≢true source)
+first-is verb.Gap given flatsep read spec source is = absurd (false≢true source)
+first-is verb.Grep given flatsep read spec source is = absurd (false≢true source)
+first-is verb.GroupBy given flatsep read spec source is = absurd (false≢true source)
+first-is verb.GroupLike given flatsep read spec source is = absurd (false≢true source)
+first-is verb.Gsub given flatsep read spec source is = absurd (false≢true source)
+first-is verb.HavingFields given flatsep read spec source is = absurd (false≢true source)
+first-is verb.Head given flatsep read spec source is = absurd (false≢true source)
+first-is verb.Join given flatsep read spec source is = absurd (false≢true source)
+first-is verb.JsonParse given flatsep read spec source is = absurd (false≢true source)
+first-is verb.JsonStringify given flatsep read spec source is = absurd (false≢true source)
+first-is verb.Label given flatsep read spec source is = absurd (false≢true source)
+first-is verb.LeastFrequent given flatsep read spec source is = absurd (false≢true source)
+first-is verb.MergeFields given flatsep read spec source is = absurd (false≢true source)
+first-is verb.MostFrequent given flatsep read spec source is = absurd (false≢true source)
+first-is verb.Nest given flatsep read spec source is = absurd (false≢true source)
+first-is verb.Nothing given flatsep read spec source is = absurd (false≢true source)
+first-is verb.Regularize given flatsep read spec source is = absurd (false≢true source)
+first-is verb.Rename given flatsep read spec source is = absurd (false≢true source)
+first-is verb.Reorder given flatsep read spec source is = absurd (false≢true source)
+first-is verb.Repeat given flatsep read spec source is = absurd (false≢true source)
+first-is verb.Reshape given flatsep read spec source is = absurd (false≢true source)
+first-is verb.Sec2Gmt given flatsep read spec source is = absurd (false≢true source)
+first-is verb.Sec2GmtDate given flatsep read spec source is = absurd (false≢true source)
+first-is verb.Sort given flatsep read spec source is = absurd (false≢true source)
+first-is verb.SortWithinRecords given flatsep read spec source is = absurd (false≢true source)
+first-is verb.Sparsify given flatsep read spec source is = absurd (false≢true source)
+first-is verb.Ssub given flatsep read spec source is = absurd (false≢true source)
+first-is verb.Stats1 given flatsep read spec source is = absurd (false≢true source)
+first-is verb.Step given flatsep read spec source is = absurd (false≢true source)
+first-is verb.Sub given flatsep read spec source is = absurd (false≢true source)
+first-is verb.Tac given flatsep read spec source is = absurd (false≢true source)
+first-is verb.Tail given flatsep read spec source is = absurd (false≢true source)
+first-is verb.Template given flatsep read spec source is = absurd (false≢true source)
+first-is verb.Top given flatsep read spec source is = absurd (false≢true source)
+first-is verb.Unflatten given flatsep read spec source is = absurd (false≢true source)
+first-is verb.Uniq given flatsep read spec source is = absurd (false≢true source)
+first-is verb.Unspace given flatsep read spec source is = absurd (false≢true source)
+first-is verb.Unsparsify given flatsep read spec source is = absurd (false≢true source)
 
 source-good : (name : VerbName) (given : VerbWords) → is_source name ≡ true → IsGoodNamed name given → IsSoundSeq (seqgen_of given)
 source-good verb.Seqgen given source good = good
@@ -272,6 +275,7 @@ source-good verb.GroupLike given source good = absurd (false≢true source)
 source-good verb.Gsub given source good = absurd (false≢true source)
 source-good verb.HavingFields given source good = absurd (false≢true source)
 source-good verb.Head given source good = absurd (false≢true source)
+source-good verb.Join given source good = absurd (false≢true source)
 source-good verb.JsonParse given source good = absurd (false≢true source)
 source-good verb.JsonStringify given source good = absurd (false≢true source)
 source-good verb.Label given source good = absurd (false≢true source)
@@ -315,8 +319,8 @@ clear-first None rest clear = (refl, clear)
 options-fit : (given : VerbWords) → is_verb given ≡ true → list_all (is_option (row_of_verb given.verb).options) given.options ≡ true
 options-fit given is = (both (list_all (is_option (row_of_verb given.verb).options) given.options) _ is).0
 
-module _ (flatsep : List ℕ) (sep : 1 ≤ length flatsep) where
-  later-sound : (verbs : List VerbWords) (specs : List VerbSpec) → list_all is_verb verbs ≡ true → clash_among false verbs ≡ None → AreVerbsOf flatsep verbs specs → AreVerbs specs
+module _ (flatsep : List ℕ) (sep : 1 ≤ length flatsep) (read : ReadOpts) where
+  later-sound : (verbs : List VerbWords) (specs : List VerbSpec) → list_all is_verb verbs ≡ true → clash_among false verbs ≡ None → AreVerbsOf flatsep read verbs specs → AreVerbs specs
   later-sound [] [] all clear are = tt
   later-sound [] (spec ∷ specs) all clear are = absurd are
   later-sound (given ∷ verbs) [] all clear are = absurd are
@@ -324,14 +328,14 @@ module _ (flatsep : List ℕ) (sep : 1 ≤ length flatsep) where
       let parts = both (is_verb given) (list_all is_verb verbs) all in
       let split = clear-first (clash_after false given) (clash_among false verbs) clear in
       let here = clear-after given (is_source given.verb) refl split.0 in
-      (as-stream given flatsep sep given.verb (options-fit given parts.0) here.1 here.0 spec are.0, later-sound verbs specs parts.1 split.1 are.1)
+      (as-stream given flatsep read sep given.verb (options-fit given parts.0) here.1 here.0 spec are.0, later-sound verbs specs parts.1 split.1 are.1)
 
-  first-sound : (given : VerbWords) (spec : VerbSpec) (specs : List VerbSpec) (t : Bool) → is_source given.verb ≡ t → is_verb given ≡ true → IsGoodVerb given → clash_of given ≡ None → IsVerbOf flatsep given spec
+  first-sound : (given : VerbWords) (spec : VerbSpec) (specs : List VerbSpec) (t : Bool) → is_source given.verb ≡ t → is_verb given ≡ true → IsGoodVerb given → clash_of given ≡ None → IsVerbOf flatsep read given spec
       → AreVerbs specs → AreSound (spec ∷ specs)
   first-sound given spec specs true source is good clear means rest =
-      subst (λ s. AreSound (s ∷ specs)) (sym (first-is given.verb given flatsep spec source means)) (source-good given.verb given source good, rest)
+      subst (λ s. AreSound (s ∷ specs)) (sym (first-is given.verb given flatsep read spec source means)) (source-good given.verb given source good, rest)
   first-sound given spec specs false source is good clear means rest =
-      stream-first spec specs (as-stream given flatsep sep given.verb (options-fit given is) clear source spec means) rest
+      stream-first spec specs (as-stream given flatsep read sep given.verb (options-fit given is) clear source spec means) rest
     where
       stream-first : (spec : VerbSpec) (specs : List VerbSpec) → IsVerb spec → AreVerbs specs → AreSound (spec ∷ specs)
       stream-first (Stream spec) specs is rest = (is, rest)
@@ -340,7 +344,7 @@ module _ (flatsep : List ℕ) (sep : 1 ≤ length flatsep) where
       stream-first (Stat spec) specs is rest = rest
       stream-first (Seq seq) specs is rest = absurd is
 
-  pub verbs-sound : (verbs : List VerbWords) (specs : List VerbSpec) → list_all is_verb verbs ≡ true → AreGoodAfter 0 verbs → clash_among true verbs ≡ None → AreVerbsOf flatsep verbs specs → AreSound specs
+  pub verbs-sound : (verbs : List VerbWords) (specs : List VerbSpec) → list_all is_verb verbs ≡ true → AreGoodAfter 0 verbs → clash_among true verbs ≡ None → AreVerbsOf flatsep read verbs specs → AreSound specs
   verbs-sound [] [] all good clear are = tt
   verbs-sound [] (spec ∷ specs) all good clear are = absurd are
   verbs-sound (given ∷ verbs) [] all good clear are = absurd are
@@ -349,15 +353,36 @@ module _ (flatsep : List ℕ) (sep : 1 ≤ length flatsep) where
       let split = clear-first (clash_after true given) (clash_among false verbs) clear in
       first-sound given spec specs (is_source given.verb) refl parts.0 good.0.1 split.0 are.0 (later-sound verbs specs parts.1 split.1 are.1)
 
+-- the left file of a verb can be read where the main inputs can, and only `join` has one
+left-readable : (flatsep : List ℕ) (read : ReadOpts) → can_read read ≡ true → (name : VerbName) (given : VerbWords) (spec : VerbSpec) → IsVerbNamed name flatsep read given spec → can_read_left spec ≡ true
+left-readable flatsep read readable verb.Cut given spec is = ap can_read_left is.1
+left-readable flatsep read readable verb.Grep given spec is = ap can_read_left is.1
+left-readable flatsep read readable verb.Gsub given spec is = ap can_read_left is.1
+left-readable flatsep read readable verb.HavingFields given spec is = ap can_read_left is.1
+left-readable flatsep read readable verb.Join given spec is = ap can_read_left is ∙ can_read-left read given readable
+left-readable flatsep read readable verb.MergeFields given spec is = ap can_read_left is.1
+left-readable flatsep read readable verb.Rename given spec is = ap can_read_left is.1
+left-readable flatsep read readable verb.Reshape given spec is = ap can_read_left is.1
+left-readable flatsep read readable verb.Sub given spec is = ap can_read_left is.1
+left-readable flatsep read readable _ given spec is = ap can_read_left is
+
+pub lefts-readable : (flatsep : List ℕ) (read : ReadOpts) → can_read read ≡ true → (verbs : List VerbWords) (specs : List VerbSpec) → AreVerbsOf flatsep read verbs specs → list_all can_read_left specs ≡ true
+lefts-readable flatsep read readable [] [] are = refl
+lefts-readable flatsep read readable [] (spec ∷ specs) are = absurd are
+lefts-readable flatsep read readable (given ∷ verbs) [] are = absurd are
+lefts-readable flatsep read readable (given ∷ verbs) (spec ∷ specs) are =
+    and_from (can_read_left spec) (list_all can_read_left specs) (left-readable flatsep read readable given.verb given spec are.0) (lefts-readable flatsep read readable verbs specs are.1)
+
 -- the first style is that of standard output
 not-nil : {A : Type 0} (x : A) → x ∷ [] ≡ [] → ⊥
 not-nil x e = cc
 
 -- a plan with these verbs can be run
-pub plan-sound : (settings : Settings) (flags : List Given) (names : List (List ℕ)) (specs : List VerbSpec) (plan : Plan) → can_read (read_of settings) ≡ true → AreSound specs → IsMade settings flags names specs plan → IsSound plan
-plan-sound settings flags names specs plan readable sound made = record {
+pub plan-sound : (settings : Settings) (flags : List Given) (names : List (List ℕ)) (specs : List VerbSpec) (plan : Plan) → can_read (read_of settings) ≡ true → AreSound specs → list_all can_read_left specs ≡ true → IsMade settings flags names specs plan → IsSound plan
+plan-sound settings flags names specs plan readable sound lefts made = record {
   readable = ap can_read made.read ∙ readable;
   verbs = subst AreSound (sym made.verbs_are) sound;
+  lefts = ap (list_all can_read_left) made.verbs_are ∙ lefts;
   styled = λ none. not-nil (write_of settings) (sym made.styles ∙ none);
 }
 

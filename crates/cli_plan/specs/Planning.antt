@@ -1,6 +1,7 @@
 -- What words mean: a plan, a text that the program says, or a refusal.
 use Rattle.std.specs.Prelude.{◌≡◌, ℕ, List, [], ◌∷◌, Some, None}
 use Rattle.chain_core.specs.declared.plan.Plan.{Plan}
+use Rattle.mlr_event.specs.declared.options.ReadOpts.{ReadOpts}
 use Rattle.verb_specs.specs.declared.verb_spec.VerbSpec.{VerbSpec}
 use Rattle.cli_grammar.specs.declared.given.Given.{Given}
 use Rattle.cli_grammar.specs.declared.given.VerbWords.{VerbWords}
@@ -16,12 +17,12 @@ use Rattle.cli_plan.specs.Say.{said}
 use Rattle.cli_plan.specs.Settings.{settings_in}
 use Rattle.cli_plan.specs.declared.settings.Settings.{Settings}
 
--- the verbs that words give, in their order
-abbrev pub AreVerbsOf : List ℕ → List VerbWords → List VerbSpec → Type 0
-AreVerbsOf flatsep [] [] = Unit {0}
-AreVerbsOf flatsep [] (spec ∷ specs) = ⊥
-AreVerbsOf flatsep (given ∷ verbs) [] = ⊥
-AreVerbsOf flatsep (given ∷ verbs) (spec ∷ specs) = IsVerbOf flatsep given spec × AreVerbsOf flatsep verbs specs
+-- the verbs that words give, in their order, where names are flattened with this separator and the main inputs are read so
+abbrev pub AreVerbsOf : List ℕ → ReadOpts → List VerbWords → List VerbSpec → Type 0
+AreVerbsOf flatsep read [] [] = Unit {0}
+AreVerbsOf flatsep read [] (spec ∷ specs) = ⊥
+AreVerbsOf flatsep read (given ∷ verbs) [] = ⊥
+AreVerbsOf flatsep read (given ∷ verbs) (spec ∷ specs) = IsVerbOf flatsep read given spec × AreVerbsOf flatsep read verbs specs
 
 -- The plan with these settings and verbs, field by field.
 pub record IsMade (settings : Settings) (flags : List Given) (names : List (List ℕ)) (verbs : List VerbSpec) (plan : Plan) : Type 0 where
@@ -37,7 +38,7 @@ pub record IsMade (settings : Settings) (flags : List Given) (names : List (List
 -- The plan of a command line: its flags give the settings, and its verbs those of the plan.
 pub record IsPlanOf (line : Line) (plan : Plan) : Type 0 where
   pub verbs : List VerbSpec
-  pub given : AreVerbsOf (flatsep_of (settings_in line.flags)) line.verbs verbs
+  pub given : AreVerbsOf (flatsep_of (settings_in line.flags)) (read_of (settings_in line.flags)) line.verbs verbs
   pub made : IsMade (settings_in line.flags) line.flags line.names verbs plan
 
 -- a text that is said, unless there is no memory for it

@@ -9,7 +9,7 @@ ghost use Rattle.mlr_event.specs.declared.refusal.Why.TheVariants.{Clash, TooMan
 ghost use Rattle.cli_verbs.specs.Faults.{IfRefused};
 ghost use Rattle.cli_verbs.specs.Verbs.{IsVerbOf};
 ghost use Rattle.cli_plan.specs.Accepting.{AreGoodAfter, IsAccepted, IsFirstRefusedAfter, IsGoodAfter, IsGoodPartial, IsRefused, IsRefusedAfter, IsRefusedPartial, clash_after, clash_among, clash_with, is_source};
-ghost use Rattle.cli_plan.specs.Options.{flatsep_of};
+ghost use Rattle.cli_plan.specs.Options.{flatsep_of, read_of};
 ghost use Rattle.cli_plan.specs.Planning.{AreVerbsOf, IsMade, IsPlanOf, IsText, Plans};
 ghost use Rattle.cli_plan.specs.Say.{said};
 
@@ -22,7 +22,7 @@ use crate::settings::{Settings, settings_of};
 use chain_core::{Plan, Refusal, VerbList, VerbSpec, Why};
 use cli_grammar::{Given, Line, VerbName, VerbWords, grammar_laws, line_of};
 use cli_verbs::{Fault, clash_of, partial_fault, verb_of};
-use mlr_event::{NameList, Names};
+use mlr_event::{NameList, Names, ReadOpts};
 use mlr_list::List;
 use mlr_spec::NoMemory;
 use mlr_value::Bytes;
@@ -89,22 +89,35 @@ fn plan_of(alloc: Global, line: Line) -> Result<Plan, Fault>
         refusal,
     } = line;
     let settings = settings_of(alloc, flags.as_slice())?;
-    let specs = verbs_of(alloc, flatsep_of(&settings), verbs.as_slice())?;
+    let read = read_options(alloc, &settings)?;
+    let specs = verbs_of(alloc, flatsep_of(&settings), &read, verbs.as_slice())?;
     check_partial(alloc, verbs.len(), &partial)?;
     check_refusal(refusal)?;
     check_clash(alloc, flags.as_slice(), &settings, verbs.as_slice())?;
-    made(alloc, &settings, flags.as_slice(), names.as_slice(), specs)
+    made(
+        alloc,
+        &settings,
+        read,
+        flags.as_slice(),
+        names.as_slice(),
+        specs,
+    )
 }
 
 /// The verbs of a command line, or the first that is refused.
-fn verbs_of(alloc: Global, flatsep: &[u8], verbs: &[VerbWords]) -> Result<VerbList, Fault>
-    ensures verbs { IfOk result (λ specs. AreVerbsOf flatsep.now verbs.now specs) }
+fn verbs_of(
+    alloc: Global,
+    flatsep: &[u8],
+    read: &ReadOpts,
+    verbs: &[VerbWords],
+) -> Result<VerbList, Fault>
+    ensures verbs { IfOk result (λ specs. AreVerbsOf flatsep.now read.now verbs.now specs) }
     ensures good { IfOk result (λ _. AreGoodAfter 0 verbs.now) }
     ensures refused { IfErr result (IfRefused (IsFirstRefusedAfter 0 verbs.now)) }
 {
     let mut specs = List::new(alloc);
     for (before, verb) in verbs.iter().enumerate() {
-        specs.push(verb_after(alloc, flatsep, before, verb)?)?;
+        specs.push(verb_after(alloc, flatsep, read, before, verb)?)?;
     }
     Ok(specs)
 }
@@ -113,17 +126,18 @@ fn verbs_of(alloc: Global, flatsep: &[u8], verbs: &[VerbWords]) -> Result<VerbLi
 fn verb_after(
     alloc: Global,
     flatsep: &[u8],
+    read: &ReadOpts,
     before: usize,
     verb: &VerbWords,
 ) -> Result<VerbSpec, Fault>
-    ensures means { IfOk result (λ spec. IsVerbOf flatsep.now verb.now spec) }
+    ensures means { IfOk result (λ spec. IsVerbOf flatsep.now read.now verb.now spec) }
     ensures good { IfOk result (λ _. IsGoodAfter before verb.now) }
     ensures refused { IfErr result (IfRefused (IsRefusedAfter before verb.now)) }
 {
     if before >= MOST_VERBS {
         return Err(excess(verb));
     }
-    verb_of(alloc, flatsep, verb)
+    verb_of(alloc, flatsep, read, verb)
 }
 
 /// The refusal of a verb after the sixty-fourth.
@@ -217,33 +231,37 @@ fn is_source(verb: VerbName) -> bool
     matches!(verb, VerbName::Seqgen)
 }
 
-/// The plan with these verbs.
+/// The plan with these verbs, where the inputs are read so.
 fn made(
     alloc: Global,
     settings: &Settings,
+    read: ReadOpts,
     flags: &[Given],
     names: &[Bytes],
     verbs: VerbList,
 ) -> Result<Plan, Fault>
+    requires { read ≡ read_of settings.now }
     ensures plan { IfOk result (λ plan. IsMade settings.now flags.now names.now verbs plan) }
     ensures refused { IfErr result (IfRefused (λ _. ⊥)) }
 {
-    Ok(plan_with(alloc, settings, flags, names, verbs)?)
+    Ok(plan_with(alloc, settings, read, flags, names, verbs)?)
 }
 
 fn plan_with(
     alloc: Global,
     settings: &Settings,
+    read: ReadOpts,
     flags: &[Given],
     names: &[Bytes],
     verbs: VerbList,
 ) -> Result<Plan, NoMemory>
+    requires { read ≡ read_of settings.now }
     ensures { IfOk result (λ plan. IsMade settings.now flags.now names.now verbs plan) }
 {
     let mut styles = List::new(alloc);
     styles.push(write_options(alloc, settings)?)?;
     Ok(Plan {
-        read: read_options(alloc, settings)?,
+        read,
         inputs: inputs_of(alloc, flags, names)?,
         no_input: settings.no_input,
         verbs,

@@ -12,14 +12,14 @@ use Rattle.mlr_world.specs.declared.outputs.Done.{Done}
 use Rattle.serial_core.specs.declared.answer.Ended.{Ended}
 use Rattle.serial_core.specs.declared.answer.Ended.TheVariants as answer
 use Rattle.serial_core.specs.Answer.{IsOfNoInput, is_refused}
-use Rattle.serial_core.specs.Command as serial
+use Rattle.serial_core.specs.Meaning.{Meaning, text}
 use Rattle.serial_core.proofs.Running.{following-none}
 use Rattle.serial_core.specs.Run.{HoldsFew}
 use Rattle.serial_core.specs.Whole.{Gets, whole_of}
 use Rattle.serial_core.specs.Represents as outcomes
 use Rattle.chain_core.specs.Outputs.{LeavesEach, WhereTold, clear}
 use Rattle.chain_core.specs.PlanRun.{PlanRun}
-use Rattle.chain_core.specs.Plans.{IsCommandOf}
+use Rattle.chain_core.specs.Meanings.{IsMeaningOf}
 use Rattle.chain_core.specs.declared.plan.Plan.{Plan}
 use Rattle.cli_plan.specs.declared.planned.Planned.{Planned}
 use Rattle.cli_plan.specs.declared.planned.Planned.TheVariants as planned
@@ -27,15 +27,15 @@ use Rattle.cli_run.specs.Meaning.{Answers, Runs}
 use Rattle.cli_run.specs.Message.{Appends}
 use Rattle.cli_run.specs.Run.{LeavesFor, LeavesText, OfWhole, Ran, RanWhole, Stops, Takes}
 
--- where a command was run the outcome isn't Refused
-pub never-refused : (ended : Ended) (command : serial.Command) (given : List Take) → outcomes.Says ended command given → is_refused ended ≡ false
-never-refused answer.Done command given says = refl
-never-refused (answer.Refused refusal) command given says = absurd says
-never-refused (answer.Data fault) command given says = refl
-never-refused (answer.Read name) command given says = refl
-never-refused (answer.Written target) command given says = refl
-never-refused answer.TooLong command given says = refl
-never-refused answer.NoMemory command given says = refl
+-- where a meaning was run the outcome isn't Refused
+pub never-refused : (ended : Ended) (meaning : Meaning) (given : List Take) → outcomes.Says ended meaning given → is_refused ended ≡ false
+never-refused answer.Done meaning given says = refl
+never-refused (answer.Refused refusal) meaning given says = absurd says
+never-refused (answer.Data fault) meaning given says = refl
+never-refused (answer.Read name) meaning given says = refl
+never-refused (answer.Written target) meaning given says = refl
+never-refused answer.TooLong meaning given says = refl
+never-refused answer.NoMemory meaning given says = refl
 
 -- where nothing is run nothing was taken
 told-nothing : (contents : Option Contents) (taken : Option (List Take)) → IfSome contents (λ told. IfSome taken (λ _. Stops None told []))
@@ -104,12 +104,12 @@ told-before (Some told) None taken' given P is holds = tt
 told-before (Some told) (Some before) taken' given P is holds = subst (λ t. IfSome t (λ _. P told)) is holds
 
 -- a run of a plan
-pub ran-plan : (plan : Plan) (command : serial.Command) (is : IsCommandOf plan command) (ended : Ended) (Quiet : Type 0) (contents : Option Contents) (taken taken' : Option (List Take)) (name' : Option OpenEntry) (held held' : Option Held)
-    → PlanRun ended command is.rest contents taken taken' name' held held' → (HoldsFew command contents taken → Quiet → IsOfNoInput ended)
+pub ran-plan : (plan : Plan) (meaning : Meaning) (is : IsMeaningOf plan meaning) (ended : Ended) (Quiet : Type 0) (contents : Option Contents) (taken taken' : Option (List Take)) (name' : Option OpenEntry) (held held' : Option Held)
+    → PlanRun ended meaning is.rest contents taken taken' name' held held' → (HoldsFew meaning contents taken → Quiet → IsOfNoInput ended)
     → Ran (planned.Ok plan) ended Quiet contents taken taken' held held'
-ran-plan plan command is ended Quiet contents taken taken' name' held held' r completes = record {
-  answers = never-refused ended command r.run.given r.run.says;
-  meant = Some command;
+ran-plan plan meaning is ended Quiet contents taken taken' name' held held' r completes = record {
+  answers = never-refused ended meaning r.run.given r.run.says;
+  meant = Some meaning;
   runs = is;
   given = r.run.given;
   takes = record {
@@ -120,7 +120,7 @@ ran-plan plan command is ended Quiet contents taken taken' name' held held' r co
     says = r.run.says;
     early = r.run.early;
   };
-  each = subst (λ others. LeavesEach ended command.write others (clear (serial.result command r.run.given)) held held') (sym (ap (drop 1) is.write)) r.each;
+  each = subst (λ others. LeavesEach ended meaning.write others (clear (meaning.result r.run.given)) held held') (sym (ap (drop 1) is.styles_are)) r.each;
   whole = r.run.whole;
   completes = completes;
 }
@@ -135,10 +135,10 @@ told-following step message result (Some a) None h2 out err = absurd out
 told-following step message result (Some a) (Some b) None out err = err
 told-following step message result (Some a) (Some b) (Some c) out err = subst (step (a Stdout)) (sym (err.elsewhere Stdout apart)) out.here
 
-pub whole-following : (ended : Ended) (meant : Option serial.Command) (message : List ℕ) (result : Done) (h0 h1 h2 : Option Held) (contents : Option Contents) (taken : Option (List Take))
+pub whole-following : (ended : Ended) (meant : Option Meaning) (message : List ℕ) (result : Done) (h0 h1 h2 : Option Held) (contents : Option Contents) (taken : Option (List Take))
     → ChangesAt Stderr (Appends message result) h1 h2 → IfSome contents (λ told. IfSome taken (λ _. RanWhole ended meant told h0 h1)) → IfSome contents (λ told. IfSome taken (λ _. OfWhole ended meant told h0 h2))
 whole-following ended meant message result h0 h1 h2 None taken err whole = tt
 whole-following ended meant message result h0 h1 h2 (Some told) None err whole = tt
 whole-following ended None message result h0 h1 h2 (Some told) (Some takes) err whole = tt
-whole-following ended (Some command) message result h0 h1 h2 (Some told) (Some takes) err whole =
-    (whole.verdict, told-following (Gets ended (serial.text command (whole_of told (serial.names_of command.origin)))) message result h0 h1 h2 whole.gets err)
+whole-following ended (Some meaning) message result h0 h1 h2 (Some told) (Some takes) err whole =
+    (whole.verdict, told-following (Gets ended (text meaning (whole_of told meaning.names))) message result h0 h1 h2 whole.gets err)

@@ -10,6 +10,7 @@ use Rattle.mlr_event.specs.declared.names.Mode.TheVariants.{Fresh, Append}
 use Rattle.mlr_event.specs.declared.names.StyleId.{StyleId}
 use Rattle.mlr_event.specs.declared.options.Format.{Format}
 use Rattle.mlr_event.specs.declared.options.Format.TheVariants.{Csv, Tsv, Json, Jsonl, Dkvp, Nidx, Xtab, Pprint, Markdown}
+use Rattle.mlr_event.specs.declared.options.ReadOpts.{ReadOpts}
 use Rattle.mlr_event.specs.declared.names.InputName.{InputName}
 use Rattle.mlr_event.specs.declared.names.InputName.TheVariants as input
 use Rattle.mlr_event.specs.declared.names.Target.{Target}
@@ -21,6 +22,8 @@ use Rattle.serial_core.specs.declared.answer.Ended.{Ended}
 use Rattle.serial_core.specs.declared.answer.Ended.TheVariants as answer
 use Rattle.mlr_event.specs.declared.refusal.Why.{Why}
 use Rattle.mlr_event.specs.declared.refusal.Why.TheVariants as why
+use Rattle.verb_specs.specs.declared.verb_spec.VerbSpec.{VerbSpec}
+use Rattle.verb_specs.specs.Verbs.{left_of}
 use Rattle.writers.specs.declared.options.WriteOpts.{WriteOpts}
 use Rattle.cli_run.specs.Meaning.{word_at}
 
@@ -37,9 +40,18 @@ target_text (target.File name) = name
 abbrev pub named : List InputName → ℕ → List ℕ
 named inputs number = if number == 0 then [] else elim (slice_get inputs (number - 1)) [ Some name ↦ input_text name | None ↦ [] ]
 
-abbrev pub file_text : List InputName → FileRef → List ℕ
-file_text inputs (Main number) = named inputs number
-file_text inputs (Left verb) = []
+-- the name of a left file; none where a verb has no left file
+abbrev pub left_text : Option (InputName × ReadOpts) → List ℕ
+left_text (Some file) = input_text file.0
+left_text None = []
+
+-- the name of the left file of the verb with this number from 1; none of number 0 or past the last
+abbrev pub left_named : List VerbSpec → ℕ → List ℕ
+left_named verbs number = if number == 0 then [] else elim (slice_get verbs (number - 1)) [ Some spec ↦ left_text (left_of spec) | None ↦ [] ]
+
+abbrev pub file_text : List InputName → List VerbSpec → FileRef → List ℕ
+file_text inputs verbs (Main number) = named inputs number
+file_text inputs verbs (Left number) = left_named verbs number
 
 -- how an output was opened, and the format of its style; a style of no row is written by row 0
 abbrev pub mode_text : Mode → List ℕ
@@ -99,30 +111,30 @@ texts_of answer.TooLong = codes "mlr: input too long\n" ∷ []
 texts_of answer.NoMemory = codes "mlr: out of memory\n" ∷ []
 
 -- the values that a message says
-abbrev pub fault_values : List InputName → List WriteOpts → Fault → List (List ℕ)
-fault_values inputs styles (fault.Length file line want have) = file_text inputs file ∷ decimal line ∷ decimal have ∷ decimal want ∷ []
-fault_values inputs styles (fault.Quote file line) = file_text inputs file ∷ decimal line ∷ []
-fault_values inputs styles (fault.Table file line) = file_text inputs file ∷ decimal line ∷ []
-fault_values inputs styles (fault.JsonSyntax file byte) = file_text inputs file ∷ decimal byte ∷ []
-fault_values inputs styles (fault.JsonDeep file byte) = file_text inputs file ∷ decimal byte ∷ []
-fault_values inputs styles (fault.JsonKind file byte) = file_text inputs file ∷ decimal byte ∷ []
-fault_values inputs styles (fault.Turns verb nr limit) = decimal verb ∷ decimal nr ∷ decimal limit ∷ []
-fault_values inputs styles (fault.Depth verb nr) = decimal verb ∷ decimal nr ∷ []
-fault_values inputs styles (fault.Assert verb nr name) = decimal verb ∷ decimal nr ∷ name ∷ []
-fault_values inputs styles (fault.WrongType verb nr name) = decimal verb ∷ decimal nr ∷ name ∷ []
-fault_values inputs styles (fault.Index verb nr) = decimal verb ∷ decimal nr ∷ []
-fault_values inputs styles (fault.OutputTwice name first_mode first second_mode second) =
+abbrev pub fault_values : List InputName → List VerbSpec → List WriteOpts → Fault → List (List ℕ)
+fault_values inputs verbs styles (fault.Length file line want have) = file_text inputs verbs file ∷ decimal line ∷ decimal have ∷ decimal want ∷ []
+fault_values inputs verbs styles (fault.Quote file line) = file_text inputs verbs file ∷ decimal line ∷ []
+fault_values inputs verbs styles (fault.Table file line) = file_text inputs verbs file ∷ decimal line ∷ []
+fault_values inputs verbs styles (fault.JsonSyntax file byte) = file_text inputs verbs file ∷ decimal byte ∷ []
+fault_values inputs verbs styles (fault.JsonDeep file byte) = file_text inputs verbs file ∷ decimal byte ∷ []
+fault_values inputs verbs styles (fault.JsonKind file byte) = file_text inputs verbs file ∷ decimal byte ∷ []
+fault_values inputs verbs styles (fault.Turns verb nr limit) = decimal verb ∷ decimal nr ∷ decimal limit ∷ []
+fault_values inputs verbs styles (fault.Depth verb nr) = decimal verb ∷ decimal nr ∷ []
+fault_values inputs verbs styles (fault.Assert verb nr name) = decimal verb ∷ decimal nr ∷ name ∷ []
+fault_values inputs verbs styles (fault.WrongType verb nr name) = decimal verb ∷ decimal nr ∷ name ∷ []
+fault_values inputs verbs styles (fault.Index verb nr) = decimal verb ∷ decimal nr ∷ []
+fault_values inputs verbs styles (fault.OutputTwice name first_mode first second_mode second) =
     name ∷ mode_text first_mode ∷ style_text styles first ∷ mode_text second_mode ∷ style_text styles second ∷ []
 
 -- a word by its number, and the word itself where there is one
-abbrev pub values_of : List (List ℕ) → List InputName → List WriteOpts → Ended → List (List ℕ)
-values_of words inputs styles answer.Done = []
-values_of words inputs styles (answer.Refused refusal) = decimal refusal.word ∷ word_at words refusal.word ∷ []
-values_of words inputs styles (answer.Data fault) = fault_values inputs styles fault
-values_of words inputs styles (answer.Read name) = input_text name ∷ []
-values_of words inputs styles (answer.Written target) = target_text target ∷ []
-values_of words inputs styles answer.TooLong = []
-values_of words inputs styles answer.NoMemory = []
+abbrev pub values_of : List (List ℕ) → List InputName → List VerbSpec → List WriteOpts → Ended → List (List ℕ)
+values_of words inputs verbs styles answer.Done = []
+values_of words inputs verbs styles (answer.Refused refusal) = decimal refusal.word ∷ word_at words refusal.word ∷ []
+values_of words inputs verbs styles (answer.Data fault) = fault_values inputs verbs styles fault
+values_of words inputs verbs styles (answer.Read name) = input_text name ∷ []
+values_of words inputs verbs styles (answer.Written target) = target_text target ∷ []
+values_of words inputs verbs styles answer.TooLong = []
+values_of words inputs verbs styles answer.NoMemory = []
 
 -- texts with a value after each but the last
 abbrev pub with_values : List (List ℕ) → List (List ℕ) → List ℕ
@@ -131,9 +143,9 @@ with_values (text ∷ []) values = text
 with_values (text ∷ next ∷ texts) [] = text ++ with_values (next ∷ texts) []
 with_values (text ∷ next ∷ texts) (value ∷ values) = text ++ value ++ with_values (next ∷ texts) values
 
--- the message of an outcome, by the words of a command line, its inputs and its styles
-abbrev pub message_of : List (List ℕ) → List InputName → List WriteOpts → Ended → List ℕ
-message_of words inputs styles ended = with_values (texts_of ended) (values_of words inputs styles ended)
+-- the message of an outcome, by the words of a command line, its inputs, its verbs and its styles
+abbrev pub message_of : List (List ℕ) → List InputName → List VerbSpec → List WriteOpts → Ended → List ℕ
+message_of words inputs verbs styles ended = with_values (texts_of ended) (values_of words inputs verbs styles ended)
 
 -- a target after a text was written to it in pieces: all of it, or a prefix where a call couldn't write
 abbrev pub Appends : List ℕ → Done → Option (List ℕ) → Option (List ℕ) → Type 0

@@ -12,7 +12,7 @@ use Rattle.read_files.specs.Takes.{ArePrefixesTaken, InOrder, total}
 use Rattle.serial_core.specs.declared.answer.Ended.{Ended}
 use Rattle.serial_core.specs.declared.answer.Ended.TheVariants as answer
 use Rattle.serial_core.specs.Answer.{IsOfNoInput, has_failed, lacks_memory}
-use Rattle.serial_core.specs.Command as serial
+use Rattle.serial_core.specs.Meaning.{Meaning, counted, text}
 use Rattle.serial_core.specs.Run.{HoldsFew, StopsEarly}
 use Rattle.serial_core.specs.Whole as all
 use Rattle.serial_core.specs.Whole.{Gets, IsVerdict, whole_of}
@@ -22,18 +22,19 @@ use Rattle.chain_core.specs.Outputs.{WhereTold, clear}
 use Rattle.cli_plan.specs.declared.planned.Planned.{Planned}
 use Rattle.cli_plan.specs.declared.planned.Planned.TheVariants as planned
 use Rattle.cli_plan.specs.Planning.{Plans}
-use Rattle.cli_run.specs.Meaning.{Answers, Runs, inputs_for, inputs_named, styles_named}
+use Rattle.cli_run.specs.Meaning.{Answers, Runs, inputs_for, inputs_named, styles_named, verbs_named}
 use Rattle.cli_run.specs.Message.{message_of}
 
 -- what an outcome says of what was taken of the inputs: nothing was, where nothing is run
-abbrev pub Says : Ended → Option serial.Command → List Take → Type 0
+abbrev pub Says : Ended → Option Meaning → List Take → Type 0
 Says ended None given = given ≡ []
-Says ended (Some command) given = outcomes.Says ended command given
+Says ended (Some meaning) given = outcomes.Says ended meaning given
 
--- little was taken: nothing where the result was fixed before, and else fewer than 65,536 bytes more than fix it
-abbrev pub Stops : Option serial.Command → Contents → List Take → Type 0
+-- little was taken: of the main inputs nothing where the left files fix the result, and of all fewer than 65,536 bytes more than
+-- fix it
+abbrev pub Stops : Option Meaning → Contents → List Take → Type 0
 Stops None told given = Unit {0}
-Stops (Some command) told given = StopsEarly command told given
+Stops (Some meaning) told given = StopsEarly meaning told given
 
 -- The counts of the outputs before the message: the run counted nothing but a failed write and, where memory ran out, a
 -- shortage; a run that is done has no message.
@@ -68,23 +69,28 @@ LeavesSaid (planned.Say text) ended one before now = LeavesText text ended one b
 LeavesSaid planned ended one before now = now ≡ before
 
 -- what a run leaves in a target before its message
-abbrev pub LeavesFor : Planned → Option serial.Command → Ended → List Take → Target → Option (List ℕ) → Option (List ℕ) → Type 0
+abbrev pub LeavesFor : Planned → Option Meaning → Ended → List Take → Target → Option (List ℕ) → Option (List ℕ) → Type 0
 LeavesFor planned None ended given one before now = LeavesSaid planned ended one before now
-LeavesFor planned (Some command) ended given one before now =
-    outputs.LeavesFor ended command.write (drop 1 (styles_named planned)) (clear (serial.result command given)) one before now
+LeavesFor planned (Some meaning) ended given one before now =
+    outputs.LeavesFor ended meaning.write (drop 1 (styles_named planned)) (clear (meaning.result given)) one before now
 
 -- What a run leaves in each target; standard error has its own text, and then the message.
-pub record Leaves (words : List (List ℕ)) (planned : Planned) (meant : Option serial.Command) (ended : Ended) (given : List Take) (Unwritten : Type 0) (before now : Held) : Type 0 where
+pub record Leaves (words : List (List ℕ)) (planned : Planned) (meant : Option Meaning) (ended : Ended) (given : List Take) (Unwritten : Type 0) (before now : Held) : Type 0 where
   pub each : (one : Target) → (one ≡ Stderr → ⊥) → LeavesFor planned meant ended given one (before one) (now one)
   pub own : Option (List ℕ)
   pub err : LeavesFor planned meant ended given Stderr (before Stderr) own
-  pub message : LeavesMessage (message_of words (inputs_named planned) (styles_named planned) ended) Unwritten own (now Stderr)
+  pub message : LeavesMessage (message_of words (inputs_named planned) (verbs_named planned) (styles_named planned) ended) Unwritten own (now Stderr)
 
--- What was taken, and what the outcome says of it: the inputs were opened and read in their order, no more
--- than 2^60 bytes together, and what was taken is what the inputs report, where they report it.
-pub record Takes (meant : Option serial.Command) (ended : Ended) (given : List Take) (contents : Option Contents) (taken taken' : Option (List Take)) : Type 0 where
+-- how many bytes the limit of a run counts
+abbrev pub counted_for : Option Meaning → List Take → ℕ
+counted_for None given = total given
+counted_for (Some meaning) given = counted meaning.lefts given
+
+-- What was taken, and what the outcome says of it: the inputs were opened and read in their order, no more than 2^60 bytes of a
+-- left file, or of all main inputs together, and what was taken is what the inputs report, where they report it.
+pub record Takes (meant : Option Meaning) (ended : Ended) (given : List Take) (contents : Option Contents) (taken taken' : Option (List Take)) : Type 0 where
   pub order : InOrder (inputs_for meant) given
-  pub few : total given ≤ 2 ^ 60
+  pub few : counted_for meant given ≤ 2 ^ 60
   pub entries : taken' ≡ option_map (λ before. before ++ given) taken
   pub prefixes : IfSome contents (λ told. IfSome taken (λ _. ArePrefixesTaken told given))
   pub says : Says ended meant given
@@ -92,15 +98,16 @@ pub record Takes (meant : Option serial.Command) (ended : Ended) (given : List T
 
 -- the outcome and standard output by all that the inputs hold: after Done and Data they are its verdict and its text, and
 -- else standard output has a prefix of its text
-abbrev pub OfWhole : Ended → Option serial.Command → Contents → Option Held → Option Held → Type 0
+abbrev pub OfWhole : Ended → Option Meaning → Contents → Option Held → Option Held → Type 0
 OfWhole ended None told held held' = Unit {0}
-OfWhole ended (Some command) told held held' =
-    IsVerdict ended command (whole_of told (serial.names_of command.origin)) × WhereTold (λ before now. Gets ended (serial.text command (whole_of told (serial.names_of command.origin))) (before Stdout) (now Stdout)) held held'
+OfWhole ended (Some meaning) told held held' =
+    IsVerdict ended meaning (whole_of told meaning.names) × WhereTold (λ before now. Gets ended (text meaning (whole_of told meaning.names)) (before Stdout) (now Stdout)) held held'
 
--- where no input fails, and all hold fewer than 2^60 bytes together, the outcome is neither Read nor TooLong
-abbrev pub Completes : Option serial.Command → Type 0 → Ended → Option Contents → Option (List Take) → Type 0
+-- where no input fails, each left file holds fewer than 2^60 bytes, and the main inputs do together, the outcome is neither Read
+-- nor TooLong
+abbrev pub Completes : Option Meaning → Type 0 → Ended → Option Contents → Option (List Take) → Type 0
 Completes None Quiet ended contents taken = Unit {0}
-Completes (Some command) Quiet ended contents taken = HoldsFew command contents taken → Quiet → IsOfNoInput ended
+Completes (Some meaning) Quiet ended contents taken = HoldsFew meaning contents taken → Quiet → IsOfNoInput ended
 
 -- A run: what the words come to and what is run for them, what was taken, and what the run leaves; and the same by all
 -- that the inputs hold. `Quiet` says that no call on an input failed.
@@ -108,7 +115,7 @@ pub record Run (words : List (List ℕ)) (ended : Ended) (Quiet : Type 0) (conte
   pub planned : Planned
   pub plans : Plans words planned
   pub answers : Answers planned ended
-  pub meant : Option serial.Command
+  pub meant : Option Meaning
   pub runs : Runs planned meant
   pub given : List Take
   pub takes : Takes meant ended given contents taken taken'
@@ -117,14 +124,14 @@ pub record Run (words : List (List ℕ)) (ended : Ended) (Quiet : Type 0) (conte
   pub whole : IfSome contents (λ told. IfSome taken (λ _. OfWhole ended meant told held held'))
   pub completes : Completes meant Quiet ended contents taken
 
-abbrev pub RanWhole : Ended → Option serial.Command → Contents → Option Held → Option Held → Type 0
+abbrev pub RanWhole : Ended → Option Meaning → Contents → Option Held → Option Held → Type 0
 RanWhole ended None told held held' = Unit {0}
-RanWhole ended (Some command) told held held' = all.OfWhole ended command told held held'
+RanWhole ended (Some meaning) told held held' = all.OfWhole ended meaning told held held'
 
 -- The same before its message.
 pub record Ran (planned : Planned) (ended : Ended) (Quiet : Type 0) (contents : Option Contents) (taken taken' : Option (List Take)) (held held' : Option Held) : Type 0 where
   pub answers : Answers planned ended
-  pub meant : Option serial.Command
+  pub meant : Option Meaning
   pub runs : Runs planned meant
   pub given : List Take
   pub takes : Takes meant ended given contents taken taken'

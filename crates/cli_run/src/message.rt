@@ -4,10 +4,11 @@ ghost use Rattle.std.specs.Fmt.{decimal};
 ghost use Rattle.mlr_event.specs.declared.names.Target.TheVariants.{Stderr};
 ghost use Rattle.mlr_world.specs.Counts.{Counted, Tallied};
 ghost use Rattle.mlr_world.specs.Outputs.{ChangesAt, call_failed, lacked_memory};
-ghost use Rattle.cli_run.specs.Message.{Appends, fault_texts, fault_values, file_text, format_text, input_text, message_of, mode_text, named, style_text, target_text, texts_of, with_values, word_texts};
+ghost use Rattle.cli_run.specs.Message.{Appends, fault_texts, fault_values, file_text, format_text, input_text, left_named, left_text, message_of, mode_text, named, style_text, target_text, texts_of, with_values, word_texts};
 ghost use Rattle.cli_run.specs.Meaning.{word_at};
+ghost use Rattle.verb_specs.specs.Verbs.{left_of};
 
-use chain_core::{Ended, Refusal, Why};
+use chain_core::{Ended, Refusal, VerbSpec, Why};
 use itoa::Buffer;
 use mlr_event::{Fault, FileRef, Format, InputName, Mode, NameList, StyleId, Target};
 use mlr_value::Bytes;
@@ -24,18 +25,20 @@ pub(crate) struct Digits {
 
 /// Writes the message of an outcome to standard error, piece by piece from where its texts are. Numbers are
 /// formatted in the buffers, so that a message doesn't allocate. A message names a word, an input by its place among
-/// the inputs, or a format by the place of its style.
+/// the inputs, a left file by the place of its verb, or a format by the place of its style.
 pub(crate) fn write_message<O: Outputs>(
     words: &[Bytes],
     inputs: &NameList,
+    verbs: &[VerbSpec],
     styles: &[WriteOpts],
     ended: &Ended,
     digits: &mut Digits,
     outputs: &mut O,
 ) -> Done
     ensures none { ended.now ≡ Ended.Done → result ≡ Done.Ok }
-    ensures bytes { ChangesAt Stderr (Appends (message_of words.now inputs.now styles.now ended.now)
-        result) (O.held outputs.old) (O.held outputs.new) }
+    ensures bytes { ChangesAt Stderr (Appends
+        (message_of words.now inputs.now verbs.now styles.now ended.now) result)
+        (O.held outputs.old) (O.held outputs.new) }
     ensures counts { Counted (call_failed result) (O.faults outputs.old) (O.faults outputs.new)
         Stderr }
     ensures memory { Tallied (lacked_memory result) (O.shortages outputs.old)
@@ -47,7 +50,7 @@ pub(crate) fn write_message<O: Outputs>(
     write_texts(
         outputs,
         texts_of(ended),
-        &values_of(words, inputs, styles, ended, digits),
+        &values_of(words, inputs, verbs, styles, ended, digits),
     )
 }
 
@@ -115,12 +118,13 @@ fn fault_texts(fault: &Fault) -> &'static [&'static [u8]]
 fn values_of<'a>(
     words: &'a [Bytes],
     inputs: &'a NameList,
+    verbs: &'a [VerbSpec],
     styles: &'a [WriteOpts],
     ended: &'a Ended,
     digits: &'a mut Digits,
 ) -> [&'a [u8]; 5]
     ensures { with_values (texts_of ended.now) (map (λ value. value.now) result)
-        ≡ message_of words.now inputs.now styles.now ended.now }
+        ≡ message_of words.now inputs.now verbs.now styles.now ended.now }
 {
     match ended {
         Ended::Done | Ended::TooLong | Ended::NoMemory => [b""; 5],
@@ -128,7 +132,7 @@ fn values_of<'a>(
             let number = decimal(&mut digits.first, refusal.word);
             [number, word_at(words, refusal.word), b"", b"", b""]
         }
-        Ended::Data(fault) => fault_values(inputs, styles, fault, digits),
+        Ended::Data(fault) => fault_values(inputs, verbs, styles, fault, digits),
         Ended::Read(name) => [input_text(name), b"", b"", b"", b""],
         Ended::Written(target) => [target_text(target), b"", b"", b"", b""],
     }
@@ -137,12 +141,14 @@ fn values_of<'a>(
 /// The values that the message of a fault says.
 fn fault_values<'a>(
     inputs: &'a NameList,
+    verbs: &'a [VerbSpec],
     styles: &'a [WriteOpts],
     fault: &'a Fault,
     digits: &'a mut Digits,
 ) -> [&'a [u8]; 5]
     ensures { with_values (fault_texts fault.now) (map (λ value. value.now) result)
-        ≡ with_values (fault_texts fault.now) (fault_values inputs.now styles.now fault.now) }
+        ≡ with_values (fault_texts fault.now)
+        (fault_values inputs.now verbs.now styles.now fault.now) }
 {
     match fault {
         Fault::Length {
@@ -151,18 +157,22 @@ fn fault_values<'a>(
             want,
             have,
         } => [
-            file_text(inputs, *file),
+            file_text(inputs, verbs, *file),
             decimal(&mut digits.first, *line),
             decimal(&mut digits.second, *have),
             decimal(&mut digits.third, *want),
             b"",
         ],
         Fault::Quote { file, line } | Fault::Table { file, line } => {
-            at_place(file_text(inputs, *file), *line, digits)
+            at_place(file_text(inputs, verbs, *file), *line, digits)
         }
         Fault::JsonSyntax { file, byte }
         | Fault::JsonDeep { file, byte }
-        | Fault::JsonKind { file, byte } => at_place(file_text(inputs, *file), *byte, digits),
+        | Fault::JsonKind { file, byte } => at_place(
+            file_text(inputs, verbs, *file),
+            *byte,
+            digits,
+        ),
         Fault::Turns { verb, nr, limit } => [
             decimal(&mut digits.first, u64::from(*verb)),
             decimal(&mut digits.second, *nr),
@@ -334,13 +344,13 @@ fn word_at(words: &[Bytes], number: u64) -> &[u8]
     }
 }
 
-/// The name of an input of a command line; no bytes if it has none.
-fn file_text(inputs: &NameList, file: FileRef) -> &[u8]
-    ensures { result.now ≡ file_text inputs.now file }
+/// The name of an input or a left file of a command line; no bytes if it has none.
+fn file_text<'a>(inputs: &'a NameList, verbs: &'a [VerbSpec], file: FileRef) -> &'a [u8]
+    ensures { result.now ≡ file_text inputs.now verbs.now file }
 {
     match file {
         FileRef::Main(number) => named(inputs, number),
-        FileRef::Left(_) => b"",
+        FileRef::Left(number) => left_named(verbs, number),
     }
 }
 
@@ -353,6 +363,29 @@ fn named(inputs: &NameList, number: u64) -> &[u8]
     }
     match inputs.at((number - 1) as usize) {
         Some(name) => input_text(name),
+        None => b"",
+    }
+}
+
+/// The name of the left file of the verb with this number from 1, or no bytes if there is none.
+fn left_named(verbs: &[VerbSpec], number: u32) -> &[u8]
+    ensures { result.now ≡ left_named verbs.now number }
+{
+    if number == 0 {
+        return b"";
+    }
+    match verbs.get((number - 1) as usize) {
+        Some(spec) => left_text(spec),
+        None => b"",
+    }
+}
+
+/// The name of the left file of a verb, or no bytes if it has none.
+fn left_text(spec: &VerbSpec) -> &[u8]
+    ensures { result.now ≡ left_text (left_of spec.now) }
+{
+    match spec.left() {
+        Some(left) => input_text(left.name),
         None => b"",
     }
 }

@@ -9,12 +9,12 @@ ghost use Rattle.serial_core.specs.Answer.{has_failed, is_refused, lacks_memory}
 ghost use Rattle.serial_core.specs.Represents.{InputCause};
 ghost use Rattle.chain_core.specs.Plans.{IsSound};
 ghost use Rattle.chain_core.specs.declared.plan.Plan.{Plan as SpecPlan};
-ghost use Rattle.cli_run.specs.Meaning.{inputs_named, styles_named};
+ghost use Rattle.cli_run.specs.Meaning.{inputs_named, styles_named, verbs_named};
 ghost use Rattle.cli_run.specs.Run.{OutputCause, Ran, Run};
 
 use crate::message::{Digits, write_message};
 use crate::say::{copy_of, say};
-use chain_core::{Ended, run_serial};
+use chain_core::{Ended, VerbSpec, run_serial};
 use cli_plan::{Planned, plan};
 use itoa::Buffer;
 use mlr_event::NameList;
@@ -43,8 +43,8 @@ pub fn run_mlr<
     ensures untouched { is_refused result.0 ≡ true → result.1 ≡ inputs }
 
     // What the words come to, what is run for them, what was taken, what the outcome says of it, and what each output
-    // contains; and the outcome and standard output by all that the inputs hold. Where no input fails, and all hold
-    // fewer than 2^60 bytes together, the outcome is neither Read nor TooLong.
+    // contains; and the outcome and standard output by all that the inputs hold. Where no input fails, each left file holds
+    // fewer than 2^60 bytes, and the main inputs do together, the outcome is neither Read nor TooLong.
     ensures run { Run words.now result.0
         ((name : InputName) → ¬ Rose (I.faults inputs name) (I.faults result.1 name))
         (I.contents inputs) (I.taken inputs) (I.taken result.1)
@@ -74,8 +74,8 @@ pub fn run_alone<I: Inputs + Drop, O: Outputs>(
     ensures untouched { is_refused result.0 ≡ true → result.1 ≡ inputs }
 
     // What the words come to, what is run for them, what was taken, what the outcome says of it, and what each output
-    // contains; and the outcome and standard output by all that the inputs hold. Where no input fails, and all hold
-    // fewer than 2^60 bytes together, the outcome is neither Read nor TooLong.
+    // contains; and the outcome and standard output by all that the inputs hold. Where no input fails, each left file holds
+    // fewer than 2^60 bytes, and the main inputs do together, the outcome is neither Read nor TooLong.
     ensures run { Run words.now result.0
         ((name : InputName) → ¬ Rose (I.faults inputs name) (I.faults result.1 name))
         (I.contents inputs) (I.taken inputs) (I.taken result.1)
@@ -99,8 +99,9 @@ pub fn run_alone<I: Inputs + Drop, O: Outputs>(
     let ended = run_planned(alloc, &planned, &mut inputs, outputs);
     let none = NameList::new(alloc);
     let names = inputs_named(&planned, &none);
+    let verbs = verbs_named(&planned);
     let styles = styles_named(&planned);
-    let _ = write_message(words, names, styles, &ended, &mut digits, outputs);
+    let _ = write_message(words, names, verbs, styles, &ended, &mut digits, outputs);
     (ended, inputs)
 }
 
@@ -112,6 +113,16 @@ fn inputs_named<'a>(planned: &'a Planned, none: &'a NameList) -> &'a NameList
     match planned {
         Planned::Ok(plan) => &plan.inputs,
         _ => none,
+    }
+}
+
+/// The verbs whose left files a message may name.
+fn verbs_named(planned: &Planned) -> &[VerbSpec]
+    ensures { result.now ≡ verbs_named planned.now }
+{
+    match planned {
+        Planned::Ok(plan) => plan.verbs.as_slice(),
+        _ => &[],
     }
 }
 

@@ -1,4 +1,4 @@
-//! Command lines, and what they make of standard input and of two files.
+//! Command lines, and what they make of standard input and of files.
 
 /// Words, standard input, standard output, the message, the status.
 pub(crate) type Row = (&'static str, &'static str, &'static str, &'static str, u8);
@@ -165,8 +165,8 @@ pub(crate) const WRITTEN: [Row; 9] = [
     ),
 ];
 
-/// Files in their order.
-pub(crate) const NAMED: [Row; 6] = [
+/// Files in their order, and left files.
+pub(crate) const NAMED: [Row; 10] = [
     ("--icsv cat f", "", "a=1,b=2\n", "", 0),
     (
         "--icsv cat f g f",
@@ -189,6 +189,28 @@ pub(crate) const NAMED: [Row; 6] = [
         "",
         "a=1,b=2\n",
         "mlr: cannot read then\n",
+        1,
+    ),
+    (
+        "join -i csv -l a -r c --ur --lp l_ -f f",
+        "b=3,c=1\nc=2\n",
+        "a=1,l_b=2,b=3\nc=2\n",
+        "",
+        0,
+    ),
+    ("--icsv join --np --ul -j b -f f f", "", "", "", 0),
+    (
+        "--icsv cat then join -j b -f g none",
+        "",
+        "",
+        "mlr: g: line 3: data length 2, header length 1\n",
+        1,
+    ),
+    (
+        "join -j a -f L then join -j a -f none",
+        "",
+        "",
+        "mlr: cannot read none\n",
         1,
     ),
 ];
@@ -255,7 +277,7 @@ pub(crate) const NUMBERS: [Row; 6] = [
 ];
 
 /// Command lines that aren't accepted, and texts that the program says of itself.
-pub(crate) const REFUSED: [Row; 15] = [
+pub(crate) const REFUSED: [Row; 16] = [
     ("then", "", "", "mlr: word 1: unknown verb: then\n", 1),
     ("cat then", "", "", "mlr: word 3: no verb\n", 1),
     ("cat -q", "", "", "mlr: word 2: unknown flag: -q\n", 1),
@@ -277,6 +299,13 @@ pub(crate) const REFUSED: [Row; 15] = [
         1,
     ),
     ("cat then seqgen", "", "", "mlr: word 3: clash: seqgen\n", 1),
+    (
+        "join -f x -j a,b -l c",
+        "",
+        "",
+        "mlr: word 1: clash: join\n",
+        1,
+    ),
     (
         "--skip-comments --json cat",
         "",

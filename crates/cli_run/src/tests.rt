@@ -17,10 +17,14 @@ struct Left {
     outputs: MemOutputs,
 }
 
-/// Two files, which the runs may name.
-const FILES: [(&str, &str); 2] = [("f", "a,b\n1,2\n"), ("g", "b\n3\n4,5\n")];
+/// Files, which the runs may name.
+const FILES: [(&str, &str); 3] = [
+    ("f", "a,b\n1,2\n"),
+    ("g", "b\n3\n4,5\n"),
+    ("L", "id=1,a=x\nid=2,a=y\nid=1,a=z\n"),
+];
 
-/// Runs words over these two files and a standard input, which come in these pieces and fail at these calls.
+/// Runs words over these files and a standard input, which come in these pieces and fail at these calls.
 fn run<R: Threads + Wait + Copy + Send + 'static>(
     rt: &R,
     alloc: Global,

@@ -2,7 +2,7 @@
 use crate::test_rows::Row;
 
 /// A command line, its standard input and what it leaves.
-pub(crate) const WORKED: [Row; 28] = [
+pub(crate) const WORKED: [Row; 30] = [
     (
         "sec2gmt t",
         "t=1500000000,u=hello\n",
@@ -43,6 +43,20 @@ pub(crate) const WORKED: [Row; 28] = [
         "--oxtab cat",
         "a=1,bcd=\na=20,bcd=5\ne=6\n",
         "a   1\nbcd \n\na   20\nbcd 5\n\ne 6\n",
+        "",
+        0,
+    ),
+    (
+        "join --np --ul -j id -f L",
+        "id=9,b=w\n",
+        "id=1,a=x\nid=2,a=y\nid=1,a=z\n",
+        "",
+        0,
+    ),
+    (
+        "join -j id -f L",
+        "id=1,b=w\n",
+        "id=1,a=x,b=w\nid=1,a=z,b=w\n",
         "",
         0,
     ),

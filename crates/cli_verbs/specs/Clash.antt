@@ -12,6 +12,7 @@ use Rattle.mlr_event.specs.Reading.{is_among}
 use Rattle.mlr_spec.specs.Pairs.{are_distinct}
 use Rattle.cli_choices.specs.Choices.{names_after, number_or, own_word, word_or}
 use Rattle.cli_choices.specs.Names.{all_names}
+use Rattle.cli_shape.specs.Join.{is_uneven}
 
 -- whether two names are options of a group
 abbrev pub are_in : List ℕ → List ℕ → List (List ℕ) × Bool → Bool
@@ -27,8 +28,9 @@ clash_after groups before [] = None
 clash_after groups before (given ∷ options) =
     if list_any (λ other. are_rivals groups given.name other.name) before then Some given.number else clash_after groups (before ++ given ∷ []) options
 
--- groups of options of which at most one may be given; of `sort` every flag counts
+-- groups of options of which at most one may be given; of `join` and `sort` every option counts
 abbrev pub exclusive_groups : VerbName → List (List (List ℕ) × Bool)
+exclusive_groups verb.Join = []
 exclusive_groups verb.Sort = []
 exclusive_groups name = (row_of_verb name).groups
 
@@ -58,6 +60,7 @@ is_whole_of_several given = has (codes "-a") given.options && nat_lt 1 (length (
 
 -- whether the names of this verb contradict each other or an option
 abbrev pub names_contradict : VerbName → VerbWords → Bool
+names_contradict verb.Join given = is_uneven given
 names_contradict verb.Label given = has_repeated given
 names_contradict verb.Rename given = is_odd_rename given
 names_contradict verb.Reshape given = is_not_of_two given
@@ -73,8 +76,9 @@ first_number name (given ∷ options) = if bytes_eq given.name name then given.n
 abbrev pub later_of_whole : List Given → ℕ
 later_of_whole options = max (first_number (codes "-a") options) (number_or 0 (codes "-f") options)
 
--- the number of the word that contradicts the names, or of the names themselves
+-- the number of the word that contradicts the names, or of the names themselves; of `join` that of the verb
 abbrev pub names_number : VerbName → VerbWords → ℕ
+names_number verb.Join given = given.number
 names_number verb.Reshape given = number_or 0 (direction given) given.options
 names_number verb.Top given = later_of_whole given.options
 names_number _ given = given.own

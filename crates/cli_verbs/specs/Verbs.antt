@@ -6,6 +6,7 @@ use Rattle.cli_grammar.specs.Options.{has}
 use Rattle.cli_grammar.specs.declared.given.VerbWords.{VerbWords}
 use Rattle.cli_grammar.specs.declared.verb_table.VerbName.{VerbName}
 use Rattle.cli_grammar.specs.declared.verb_table.VerbName.TheVariants as verb
+use Rattle.mlr_event.specs.declared.options.ReadOpts.{ReadOpts}
 use Rattle.mlr_event.specs.declared.refusal.Refusal.{Refusal}
 use Rattle.verbs_pattern.specs.declared.cut.Cut.{Cut}
 use Rattle.verbs_pattern.specs.declared.grep.Grep.{Grep}
@@ -29,6 +30,7 @@ use Rattle.cli_retain.specs.Sort.{sort_of}
 use Rattle.cli_retain.specs.Tail.{tail_of}
 use Rattle.cli_retain.specs.Uniq.{uniq_of}
 use Rattle.cli_retain.specs.Unsparsify.{unsparsify_of}
+use Rattle.cli_shape.specs.Join.{join_of}
 use Rattle.cli_shape.specs.Nest.{nest_of}
 use Rattle.cli_stat.specs.Stats1.{stats1_of}
 use Rattle.cli_stat.specs.Step.{step_of}
@@ -99,59 +101,60 @@ abbrev pub IsStreamSub : VerbWords → VerbSpec → Type 0
 IsStreamSub given spec = (options : Sub) × (spec ≡ Stream (stream.Sub options)) × IsSubOf given options
 
 -- the verb with this name is that which the words give
-abbrev pub IsVerbNamed : VerbName → List ℕ → VerbWords → VerbSpec → Type 0
-IsVerbNamed verb.Altkv flatsep given spec = spec ≡ Stream stream.Altkv
-IsVerbNamed verb.Cat flatsep given spec = spec ≡ Stream (stream.Cat (cat_of given))
-IsVerbNamed verb.Count flatsep given spec = spec ≡ Retain (retain.Count (count_of given))
-IsVerbNamed verb.CountDistinct flatsep given spec = spec ≡ Retain (retain.CountDistinct (count_distinct_of given))
-IsVerbNamed verb.CountSimilar flatsep given spec = spec ≡ Retain (retain.CountSimilar (count_similar_of given))
-IsVerbNamed verb.Cut flatsep given spec = IsStreamCut given spec
-IsVerbNamed verb.Decimate flatsep given spec = spec ≡ Stream (stream.Decimate (decimate_of given))
-IsVerbNamed verb.FillDown flatsep given spec = spec ≡ Stream (stream.FillDown (fill_down_of given))
-IsVerbNamed verb.FillEmpty flatsep given spec = spec ≡ Stream (stream.FillEmpty (fill_empty_of given))
-IsVerbNamed verb.Flatten flatsep given spec = spec ≡ Stream (stream.Flatten (flatten_of flatsep given))
-IsVerbNamed verb.Gap flatsep given spec = spec ≡ Stream (stream.Gap (gap_of given))
-IsVerbNamed verb.Grep flatsep given spec = IsStreamGrep given spec
-IsVerbNamed verb.GroupBy flatsep given spec = spec ≡ Retain (retain.GroupBy (group_by_of given))
-IsVerbNamed verb.GroupLike flatsep given spec = spec ≡ Retain retain.GroupLike
-IsVerbNamed verb.Gsub flatsep given spec = IsStreamGsub given spec
-IsVerbNamed verb.HavingFields flatsep given spec = IsStreamHavingFields given spec
-IsVerbNamed verb.Head flatsep given spec = spec ≡ Stream (stream.Head (head_of given))
-IsVerbNamed verb.JsonParse flatsep given spec = spec ≡ Stream (stream.JsonParse (json_parse_of given))
-IsVerbNamed verb.JsonStringify flatsep given spec = spec ≡ Stream (stream.JsonStringify (json_stringify_of given))
-IsVerbNamed verb.Label flatsep given spec = spec ≡ Stream (stream.Label (label_of given))
-IsVerbNamed verb.LeastFrequent flatsep given spec = spec ≡ Retain (retain.LeastFrequent (frequent_of given))
-IsVerbNamed verb.MergeFields flatsep given spec = IsStatMergeFields given spec
-IsVerbNamed verb.MostFrequent flatsep given spec = spec ≡ Retain (retain.MostFrequent (frequent_of given))
-IsVerbNamed verb.Nest flatsep given spec = spec ≡ Shape (shape.Nest (nest_of given))
-IsVerbNamed verb.Nothing flatsep given spec = spec ≡ Stream stream.Nothing
-IsVerbNamed verb.Regularize flatsep given spec = spec ≡ Stream stream.Regularize
-IsVerbNamed verb.Rename flatsep given spec = IsStreamRename given spec
-IsVerbNamed verb.Reorder flatsep given spec = spec ≡ Stream (stream.Reorder (reorder_of given))
-IsVerbNamed verb.Repeat flatsep given spec = spec ≡ Stream (stream.Repeat (repeat_of given))
-IsVerbNamed verb.Reshape flatsep given spec = IsShapeReshape given spec
-IsVerbNamed verb.Sec2Gmt flatsep given spec = spec ≡ Stream (stream.Sec2Gmt (sec2gmt_of given))
-IsVerbNamed verb.Sec2GmtDate flatsep given spec = spec ≡ Stream (stream.Sec2GmtDate (sec2gmtdate_of given))
-IsVerbNamed verb.Seqgen flatsep given spec = spec ≡ Seq (seqgen_of given)
-IsVerbNamed verb.Sort flatsep given spec = spec ≡ Retain (retain.Sort (sort_of given))
-IsVerbNamed verb.SortWithinRecords flatsep given spec = spec ≡ Stream (stream.SortWithinRecords (sort_within_records_of given))
-IsVerbNamed verb.Sparsify flatsep given spec = spec ≡ Stream (stream.Sparsify (sparsify_of given))
-IsVerbNamed verb.Ssub flatsep given spec = spec ≡ Stream (stream.Ssub (ssub_of given))
-IsVerbNamed verb.Stats1 flatsep given spec = spec ≡ Stat (stat.Stats1 (stats1_of given))
-IsVerbNamed verb.Step flatsep given spec = spec ≡ Stat (stat.Step (step_of given))
-IsVerbNamed verb.Sub flatsep given spec = IsStreamSub given spec
-IsVerbNamed verb.Tac flatsep given spec = spec ≡ Retain retain.Tac
-IsVerbNamed verb.Tail flatsep given spec = spec ≡ Retain (retain.Tail (tail_of given))
-IsVerbNamed verb.Template flatsep given spec = spec ≡ Stream (stream.Template (template_of given))
-IsVerbNamed verb.Top flatsep given spec = spec ≡ Stat (stat.Top (top_of given))
-IsVerbNamed verb.Unflatten flatsep given spec = spec ≡ Stream (stream.Unflatten (unflatten_of flatsep given))
-IsVerbNamed verb.Uniq flatsep given spec = spec ≡ Retain (retain.Uniq (uniq_of given))
-IsVerbNamed verb.Unspace flatsep given spec = spec ≡ Stream (stream.Unspace (unspace_of given))
-IsVerbNamed verb.Unsparsify flatsep given spec = spec ≡ Retain (retain.Unsparsify (unsparsify_of given))
+abbrev pub IsVerbNamed : VerbName → List ℕ → ReadOpts → VerbWords → VerbSpec → Type 0
+IsVerbNamed verb.Altkv flatsep read given spec = spec ≡ Stream stream.Altkv
+IsVerbNamed verb.Cat flatsep read given spec = spec ≡ Stream (stream.Cat (cat_of given))
+IsVerbNamed verb.Count flatsep read given spec = spec ≡ Retain (retain.Count (count_of given))
+IsVerbNamed verb.CountDistinct flatsep read given spec = spec ≡ Retain (retain.CountDistinct (count_distinct_of given))
+IsVerbNamed verb.CountSimilar flatsep read given spec = spec ≡ Retain (retain.CountSimilar (count_similar_of given))
+IsVerbNamed verb.Cut flatsep read given spec = IsStreamCut given spec
+IsVerbNamed verb.Decimate flatsep read given spec = spec ≡ Stream (stream.Decimate (decimate_of given))
+IsVerbNamed verb.FillDown flatsep read given spec = spec ≡ Stream (stream.FillDown (fill_down_of given))
+IsVerbNamed verb.FillEmpty flatsep read given spec = spec ≡ Stream (stream.FillEmpty (fill_empty_of given))
+IsVerbNamed verb.Flatten flatsep read given spec = spec ≡ Stream (stream.Flatten (flatten_of flatsep given))
+IsVerbNamed verb.Gap flatsep read given spec = spec ≡ Stream (stream.Gap (gap_of given))
+IsVerbNamed verb.Grep flatsep read given spec = IsStreamGrep given spec
+IsVerbNamed verb.GroupBy flatsep read given spec = spec ≡ Retain (retain.GroupBy (group_by_of given))
+IsVerbNamed verb.GroupLike flatsep read given spec = spec ≡ Retain retain.GroupLike
+IsVerbNamed verb.Gsub flatsep read given spec = IsStreamGsub given spec
+IsVerbNamed verb.HavingFields flatsep read given spec = IsStreamHavingFields given spec
+IsVerbNamed verb.Head flatsep read given spec = spec ≡ Stream (stream.Head (head_of given))
+IsVerbNamed verb.Join flatsep read given spec = spec ≡ Shape (shape.Join (join_of read given))
+IsVerbNamed verb.JsonParse flatsep read given spec = spec ≡ Stream (stream.JsonParse (json_parse_of given))
+IsVerbNamed verb.JsonStringify flatsep read given spec = spec ≡ Stream (stream.JsonStringify (json_stringify_of given))
+IsVerbNamed verb.Label flatsep read given spec = spec ≡ Stream (stream.Label (label_of given))
+IsVerbNamed verb.LeastFrequent flatsep read given spec = spec ≡ Retain (retain.LeastFrequent (frequent_of given))
+IsVerbNamed verb.MergeFields flatsep read given spec = IsStatMergeFields given spec
+IsVerbNamed verb.MostFrequent flatsep read given spec = spec ≡ Retain (retain.MostFrequent (frequent_of given))
+IsVerbNamed verb.Nest flatsep read given spec = spec ≡ Shape (shape.Nest (nest_of given))
+IsVerbNamed verb.Nothing flatsep read given spec = spec ≡ Stream stream.Nothing
+IsVerbNamed verb.Regularize flatsep read given spec = spec ≡ Stream stream.Regularize
+IsVerbNamed verb.Rename flatsep read given spec = IsStreamRename given spec
+IsVerbNamed verb.Reorder flatsep read given spec = spec ≡ Stream (stream.Reorder (reorder_of given))
+IsVerbNamed verb.Repeat flatsep read given spec = spec ≡ Stream (stream.Repeat (repeat_of given))
+IsVerbNamed verb.Reshape flatsep read given spec = IsShapeReshape given spec
+IsVerbNamed verb.Sec2Gmt flatsep read given spec = spec ≡ Stream (stream.Sec2Gmt (sec2gmt_of given))
+IsVerbNamed verb.Sec2GmtDate flatsep read given spec = spec ≡ Stream (stream.Sec2GmtDate (sec2gmtdate_of given))
+IsVerbNamed verb.Seqgen flatsep read given spec = spec ≡ Seq (seqgen_of given)
+IsVerbNamed verb.Sort flatsep read given spec = spec ≡ Retain (retain.Sort (sort_of given))
+IsVerbNamed verb.SortWithinRecords flatsep read given spec = spec ≡ Stream (stream.SortWithinRecords (sort_within_records_of given))
+IsVerbNamed verb.Sparsify flatsep read given spec = spec ≡ Stream (stream.Sparsify (sparsify_of given))
+IsVerbNamed verb.Ssub flatsep read given spec = spec ≡ Stream (stream.Ssub (ssub_of given))
+IsVerbNamed verb.Stats1 flatsep read given spec = spec ≡ Stat (stat.Stats1 (stats1_of given))
+IsVerbNamed verb.Step flatsep read given spec = spec ≡ Stat (stat.Step (step_of given))
+IsVerbNamed verb.Sub flatsep read given spec = IsStreamSub given spec
+IsVerbNamed verb.Tac flatsep read given spec = spec ≡ Retain retain.Tac
+IsVerbNamed verb.Tail flatsep read given spec = spec ≡ Retain (retain.Tail (tail_of given))
+IsVerbNamed verb.Template flatsep read given spec = spec ≡ Stream (stream.Template (template_of given))
+IsVerbNamed verb.Top flatsep read given spec = spec ≡ Stat (stat.Top (top_of given))
+IsVerbNamed verb.Unflatten flatsep read given spec = spec ≡ Stream (stream.Unflatten (unflatten_of flatsep given))
+IsVerbNamed verb.Uniq flatsep read given spec = spec ≡ Retain (retain.Uniq (uniq_of given))
+IsVerbNamed verb.Unspace flatsep read given spec = spec ≡ Stream (stream.Unspace (unspace_of given))
+IsVerbNamed verb.Unsparsify flatsep read given spec = spec ≡ Retain (retain.Unsparsify (unsparsify_of given))
 
--- the verb is that which the words give, where names are flattened with this separator
-abbrev pub IsVerbOf : List ℕ → VerbWords → VerbSpec → Type 0
-IsVerbOf flatsep given spec = IsVerbNamed given.verb flatsep given spec
+-- the verb is that which the words give, where names are flattened with this separator and the main inputs are read so
+abbrev pub IsVerbOf : List ℕ → ReadOpts → VerbWords → VerbSpec → Type 0
+IsVerbOf flatsep read given spec = IsVerbNamed given.verb flatsep read given spec
 
 -- the patterns in the words of the verb with this name
 abbrev pub verb_patterns : VerbName → VerbWords → List PatternWord

@@ -6,6 +6,7 @@ ghost use Rattle.cli_verbs.specs.Clash.{are_rivals, clash_after, clash_of, direc
 
 use cli_choices::{all_names, names_after, number_or, word_or};
 use cli_grammar::{Given, Group, VerbName, VerbWords};
+use cli_shape::join::is_uneven;
 use mlr_record::split::count_parts;
 use mlr_spec::NoMemory;
 use std::alloc::Global;
@@ -37,13 +38,13 @@ fn option_clash(given: &VerbWords) -> Option<usize>
     first_clash(exclusive_groups(given.verb), given.options.as_slice())
 }
 
-/// Groups of options of which at most one may be given. Of `sort` every flag counts.
+/// Groups of options of which at most one may be given. Of `join` and `sort` every option counts.
 fn exclusive_groups(verb: VerbName) -> &'static [Group]
     ensures { map (λ group. (map (λ name. name.now) group.0.now, group.1)) result.now
         ≡ exclusive_groups verb }
 {
     match verb {
-        VerbName::Sort => &[],
+        VerbName::Join | VerbName::Sort => &[],
         _ => verb.row().groups,
     }
 }
@@ -109,7 +110,7 @@ fn is_among(names: &[&[u8]], name: &[u8]) -> bool
     false
 }
 
-/// The number of the word where the names of `label`, `rename`, `reshape` or `top` contradict each other or an option.
+/// The number of the word where the names of `join`, `label`, `rename`, `reshape` or `top` contradict each other or an option.
 fn names_clash(alloc: Global, given: &VerbWords) -> Result<Option<usize>, NoMemory>
     ensures { IfOk result (λ number. number ≡ names_clash given.now.verb given.now) }
 {
@@ -125,6 +126,7 @@ fn names_contradict(alloc: Global, given: &VerbWords) -> Result<bool, NoMemory>
     ensures { IfOk result (λ contradict. contradict ≡ names_contradict given.now.verb given.now) }
 {
     match given.verb {
+        VerbName::Join => Ok(is_uneven(given)),
         VerbName::Label => has_repeated(alloc, given),
         VerbName::Rename => Ok(is_odd_rename(given)),
         VerbName::Reshape => Ok(is_not_of_two(given)),
@@ -133,11 +135,12 @@ fn names_contradict(alloc: Global, given: &VerbWords) -> Result<bool, NoMemory>
     }
 }
 
-/// The number of the word that contradicts the names, or of the names themselves.
+/// The number of the word that contradicts the names, or of the names themselves; of `join` that of the verb.
 fn names_number(given: &VerbWords) -> usize
     ensures { result ≡ names_number given.now.verb given.now }
 {
     match given.verb {
+        VerbName::Join => given.number,
         VerbName::Reshape => number_or(given.options.as_slice(), direction(given), 0),
         VerbName::Top => later_of_whole(given.options.as_slice()),
         _ => given.own,

@@ -43,10 +43,12 @@ use cli_retain::sort::sort;
 use cli_retain::tail::tail;
 use cli_retain::uniq::uniq;
 use cli_retain::unsparsify::unsparsify;
+use cli_shape::join::join;
 use cli_shape::nest::nest;
 use cli_stat::stats1::stats1;
 use cli_stat::step::step;
 use cli_stat::top::top;
+use mlr_event::ReadOpts;
 use std::alloc::Global;
 use verb_specs::VerbSpec;
 use verbs_join_nest::Spec as ShapeSpec;
@@ -54,9 +56,15 @@ use verbs_retain::Spec as RetainSpec;
 use verbs_stat::Spec as StatSpec;
 use verbs_stream::Spec;
 
-/// The verb that words give, with its options. Names are flattened with this separator by default.
-pub fn verb_of(alloc: Global, flatsep: &[u8], given: &VerbWords) -> Result<VerbSpec, Fault>
-    ensures means { IfOk result (IsVerbOf flatsep.now given.now) }
+/// The verb that words give, with its options. Names are flattened with this separator by default, and a left file is read as
+/// the main inputs are.
+pub fn verb_of(
+    alloc: Global,
+    flatsep: &[u8],
+    read: &ReadOpts,
+    given: &VerbWords,
+) -> Result<VerbSpec, Fault>
+    ensures means { IfOk result (IsVerbOf flatsep.now read.now given.now) }
     ensures good { IfOk result (λ _. IsGoodVerb given.now) }
     ensures refused { IfErr result (IfRefused (IsRefusedVerb given.now)) }
 {
@@ -84,6 +92,7 @@ pub fn verb_of(alloc: Global, flatsep: &[u8], given: &VerbWords) -> Result<VerbS
         VerbName::Gsub => Spec::Gsub(gsub(alloc, given)?),
         VerbName::HavingFields => Spec::HavingFields(having_fields(alloc, given)?),
         VerbName::Head => Spec::Head(head(alloc, given)?),
+        VerbName::Join => return Ok(VerbSpec::Shape(ShapeSpec::Join(join(alloc, read, given)?))),
         VerbName::JsonParse => Spec::JsonParse(json_parse(alloc, given)?),
         VerbName::JsonStringify => Spec::JsonStringify(json_stringify(alloc, given)?),
         VerbName::Label => Spec::Label(label(alloc, given)?),

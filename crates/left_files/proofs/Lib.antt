@@ -3,6 +3,7 @@ pub mod Finding
 pub mod Files
 pub mod Following
 pub mod Turning
+pub mod Open
 pub mod Opening
 pub mod Counting
 pub mod Fixed

@@ -12,18 +12,23 @@ use Rattle.left_files.specs.declared.left_file.LeftFile.{LeftFile}
 use Rattle.left_files.specs.declared.open_left.OpenLeft.{OpenLeft}
 use Rattle.left_files.specs.declared.reader.LeftReader.{LeftReader}
 use Rattle.left_files.specs.declared.reader.LeftTurn.TheVariants.{Went, NoMemory}
-use Rattle.left_files.specs.Represents.{NoneRepresents, OpenRepresents, ReadsFile, Represents, Turned, with_open}
+use Rattle.left_files.specs.Lefts.{names_of}
+use Rattle.left_files.specs.Represents.{NoneRepresents, OpenRepresents, ReadsFile, Represents, Turned, open_bytes, with_open}
+use Rattle.left_files.proofs.Open.{open-read}
 
 -- where none is open
 module _ (all : List LeftFile) (before : Option (List Take)) (given : List Take) (reader : LeftReader) (s : Represents all given reader) (contents : Option Contents) (taken : Option (List Take)) (entry : Option OpenEntry) (following : After before given contents taken entry) where
   -- there was no memory
-  pub none-begun : (reader' : LeftReader) → Turned NoMemory all before given reader' contents taken entry
-  none-begun reader' = record {
+  pub none-begun : reader.current ≡ None → (reader' : LeftReader) → Turned NoMemory all before given reader' contents taken entry
+  none-begun closed reader' = record {
     given' = given;
     order = s.order;
     goes_on = goes_on-same given;
     following = following;
     one_read = omega arith;
+    few =
+        let none = subst (λ o. OpenRepresents o s.prefix (reverse reader.files.items) s.done all given) closed s.current in
+        omega (arith, ap open_bytes none.given_is, open-read (names_of s.prefix) s.done s.read);
     says = tt;
     more = λ went. absurd (let e : NoMemory ≡ Went = went in cc);
     represents = λ went. absurd (let e : NoMemory ≡ Went = went in cc);

@@ -1,5 +1,5 @@
 -- A read of one left file, as a turn of the reader of all.
-use Rattle.std.proofs.Common.{◌≡◌, ◌+◌, ◌<◌, ◌≤◌, true, List, [], ◌∷◌, ◌++◌, length, Option, Some, None, refl, ap, sym, ◌∙◌, subst, append_assoc, inr, arith}
+use Rattle.std.proofs.Common.{◌≡◌, ◌+◌, ◌<◌, ◌≤◌, ◌^◌, true, List, [], ◌∷◌, ◌++◌, length, Option, Some, None, refl, ap, sym, ◌∙◌, subst, append_assoc, inr, arith}
 use Rattle.std.specs.Prelude.{if◌then◌else◌, reverse}
 use Rattle.std.specs.Option.{option_and_then}
 use Rattle.std.proofs.lemmas.List.{append-nil, length-reverse, map-append}
@@ -12,7 +12,7 @@ use Rattle.mlr_world.specs.Taken.{Take, OpenEntry}
 use Rattle.read_files.specs.declared.reader.FileReader.{FileReader}
 use Rattle.read_files.specs.declared.reader.ReadTurn.{ReadTurn}
 use Rattle.read_files.specs.declared.reader.ReadTurn.TheVariants as read
-use Rattle.read_files.specs.Takes.{After, GoesOn, InOrder, ends, last_take, stops_at, total}
+use Rattle.read_files.specs.Takes.{After, GoesOn, InOrder, ends, stops_at, total}
 use Rattle.read_files.specs.Sources.{source}
 use Rattle.read_files.specs.Represents as files
 use Rattle.read_files.specs.Represents.{AllRead}
@@ -23,10 +23,11 @@ use Rattle.left_files.specs.declared.reader.LeftReader.{LeftReader}
 use Rattle.left_files.specs.declared.reader.LeftTurn.{LeftTurn}
 use Rattle.left_files.specs.declared.reader.LeftTurn.TheVariants.{Went, Ended, Faulted, Failed, TooLong, NoMemory}
 use Rattle.left_files.specs.Lefts.{at_left, fault_of, faulted, left_state, lefts_of, names_of, reading, then_state, whole}
-use Rattle.left_files.specs.Represents.{OpenRepresents, Represents, Says, Turned, left, with_open}
+use Rattle.left_files.specs.Represents.{OpenRepresents, Represents, Says, Turned, left, open_bytes, with_open}
 use Rattle.left_files.specs.Steps.{Closed, ClosedBy, Kept}
 use Rattle.left_files.proofs.Files.{FileClosed, file-closed, left-order, one-long, open-ends, open-reading, open-stops, open-taken}
-use Rattle.left_files.proofs.Following.{and_done, following-all, following-of, goes_on-following, last-following, total-on}
+use Rattle.left_files.proofs.Following.{and_done, following-all, following-of, goes_on-following, total-on}
+use Rattle.left_files.proofs.Open.{open-after, open-ended, open-unended}
 use Rattle.left_files.proofs.States.{lefts-following}
 
 module _ (all : List LeftFile) (before : Option (List Take)) (given : List Take) (reader : LeftReader) (input : OpenLeft) (s : Represents all given (with_open input reader)) where
@@ -70,6 +71,7 @@ module _ (all : List LeftFile) (before : Option (List Take)) (given : List Take)
       order = order-now;
       goes_on = subst (λ g. GoesOn g given-now) (sym s.current.given_is) (goes_on-following s.done takes t.given' t.goes_on);
       following = following-all before s.done contents taken' entry' (names_of s.prefix) s.read takes t.given' taken entry (subst (λ g. After before g contents taken entry) s.current.given_is following) t.following;
+      few = omega (arith, open-after (names_of s.prefix) s.done t.given' s.read, t.few);
       one_read = omega (arith, t.one_read, ap total s.current.given_is, total-append s.done takes, total-append s.done t.given');
       says = says;
       more = more;
@@ -79,6 +81,10 @@ module _ (all : List LeftFile) (before : Option (List Take)) (given : List Take)
     more-so : total takes + ends takes < total t.given' + ends t.given' → total given + ends given < total given-now + ends given-now
     more-so more =
         omega (arith, more, ap total s.current.given_is, ap ends s.current.given_is, total-append s.done takes, ends-append s.done takes, total-append s.done t.given', ends-append s.done t.given')
+
+    -- few bytes were taken of the open file
+    few-so : total t.given' < 2 ^ 60 → open_bytes given-now < 2 ^ 60
+    few-so few = omega (arith, open-after (names_of s.prefix) s.done t.given' s.read, few)
 
     reading-so : is_open (source file.read (file.name ∷ []) t.given') ≡ true → lefts_of all given-now ≡ reading
     reading-so opens = state-now ∙ ap (then_state (whole held)) (open-reading file rest t.given' t.order opens)
@@ -90,7 +96,7 @@ module _ (all : List LeftFile) (before : Option (List Take)) (given : List Take)
     pub went-so : took ≡ read.Went → Turned Went all before given (with_open (record { number = input.number; reader = now; events = out' }) reader) contents taken' entry'
     went-so is =
         let says = subst (λ u. files.TurnSays u file.read (file.name ∷ []) takes t.given') is t.says in
-        turned-so Went (with_open (record { number = input.number; reader = now; events = out' }) reader) (reading-so says.0) (λ went. more-so says.2) (λ went. record {
+        turned-so Went (with_open (record { number = input.number; reader = now; events = out' }) reader) (reading-so says.0, few-so says.1) (λ went. more-so says.2) (λ went. record {
           order = order-now;
           begun = inr (reading-so says.0);
           usable = s.usable;
@@ -125,13 +131,13 @@ module _ (all : List LeftFile) (before : Option (List Take)) (given : List Take)
         let says = subst (λ u. files.TurnSays u file.read (file.name ∷ []) takes t.given') is t.says in
         let stops : stops_at (names_of all) given-now ≡ Some file.name =
         ap (λ ns. stops_at ns given-now) names-so ∙ stops-following (names_of s.prefix) (file.name ∷ names_of rest) s.done t.given' s.read ∙ open-stops file (names_of rest) t.given' t.order says.0 in
-        turned-so (Failed name) reader' (reading-so says.0, stops ∙ sym (open-stops file [] t.given' t.order says.0) ∙ says.2) (λ went. absurd (let e : Failed name ≡ Went = went in cc)) (λ went. absurd (let e : Failed name ≡ Went = went in cc))
+        turned-so (Failed name) reader' (reading-so says.0, stops ∙ sym (open-stops file [] t.given' t.order says.0) ∙ says.2, few-so says.1) (λ went. absurd (let e : Failed name ≡ Went = went in cc)) (λ went. absurd (let e : Failed name ≡ Went = went in cc))
 
     pub long-so : (reader' : LeftReader) → took ≡ read.TooLong → Turned TooLong all before given reader' contents taken' entry'
     long-so reader' is =
         let says = subst (λ u. files.TurnSays u file.read (file.name ∷ []) takes t.given') is t.says in
         let long = one-long file t.given' t.order says.1 in
-        turned-so TooLong reader' (reading-so says.0, (long.0, ap (λ ts. last_take (s.done ++ ts)) long.1 ∙ last-following s.done long.0 [], long.2)) (λ went. absurd (let e : TooLong ≡ Went = went in cc)) (λ went. absurd (let e : TooLong ≡ Went = went in cc))
+        turned-so TooLong reader' (reading-so says.0, ap (λ ts. open_bytes (s.done ++ ts)) long.1 ∙ open-unended s.done long.0 (sym (ap ends long.1) ∙ open-ends file t.given' t.order says.0) ∙ long.2) (λ went. absurd (let e : TooLong ≡ Went = went in cc)) (λ went. absurd (let e : TooLong ≡ Went = went in cc))
 
     pub none-so : (reader' : LeftReader) → Turned NoMemory all before given reader' contents taken' entry'
     none-so reader' = turned-so NoMemory reader' tt (λ went. absurd (let e : NoMemory ≡ Went = went in cc)) (λ went. absurd (let e : NoMemory ≡ Went = went in cc))
@@ -177,13 +183,16 @@ module _ (all : List LeftFile) (before : Option (List Take)) (given : List Take)
         reading-now some =
             ap (λ fs. lefts_of fs given-now) files-now ∙ ap (lefts_of (prefix-now ++ rest)) (sym (append-nil given-now)) ∙ left-reading rest (omega (arith, some, length-reverse reader.files.items))
 
+        none-open : open_bytes given-now < 2 ^ 60
+        none-open = omega (arith, ap (λ ts. open_bytes (s.done ++ ts)) takes_are, open-ended s.done take ended)
+
         more-now : total takes + ends takes < total t.given' + ends t.given'
         more-now =
             let one : ends t.given' ≡ 1 = ap ends takes_are ∙ ap (λ b. (if b then 1 else 0) + 0) ended in
             omega (arith, one, s.current.reads.unended, total-on takes t.given' t.goes_on)
 
         pub kept-so : (turn : LeftTurn) → Kept turn events reader reader' → Turned turn all before given reader' contents taken' entry'
-        kept-so Went kept = turned-so Went reader' (reading-now kept.0) (λ went. more-so more-now) (λ went. record {
+        kept-so Went kept = turned-so Went reader' (reading-now kept.0, none-open) (λ went. more-so more-now) (λ went. record {
           order = order-now;
           begun = inr (reading-now kept.0);
           usable = s.usable;

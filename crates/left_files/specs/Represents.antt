@@ -1,11 +1,11 @@
 -- How far a reader of left files has come, and what a turn does.
-use Rattle.std.specs.Prelude.{◌≡◌, ◌⊎◌, ℕ, ◌+◌, ◌*◌, ◌-◌, ◌<◌, ◌≤◌, ◌^◌, true, List, [], ◌∷◌, ◌++◌, length, reverse, Option, Some, None, IfSome}
+use Rattle.std.specs.Prelude.{◌≡◌, ◌⊎◌, ℕ, ◌+◌, ◌*◌, ◌-◌, ◌<◌, ◌≤◌, ◌^◌, true, if◌then◌else◌, List, [], ◌∷◌, ◌++◌, length, reverse, Option, Some, None, IfSome}
 use Rattle.std.specs.List.{list_all}
 use Rattle.mlr_event.specs.declared.names.InputName.{InputName}
 use Rattle.mlr_world.specs.Counts.{Rose}
 use Rattle.mlr_world.specs.Inputs.{Contents}
 use Rattle.mlr_world.specs.Taken.{Take, OpenEntry}
-use Rattle.read_files.specs.Takes.{After, GoesOn, InOrder, ends, last_take, stops_at, taken_by, total}
+use Rattle.read_files.specs.Takes.{After, GoesOn, InOrder, ends, stops_at, taken_by, total}
 use Rattle.read_files.specs.Sources.{events_taken}
 use Rattle.read_files.specs.Represents as files
 use Rattle.read_files.specs.Represents.{AllRead, can_read}
@@ -65,17 +65,19 @@ open_left (Some input) = 2 ^ 60 + 1 - input.reader.taken
 abbrev pub left : LeftReader → ℕ
 left reader = length reader.files.items * (2 ^ 60 + 1) + open_left reader.current
 
--- 2^60 bytes of the last input were taken
-abbrev pub IsTooLong : List Take → Type 0
-IsTooLong given = (take : Take) × (last_take given ≡ Some take) × (length take.bytes ≡ 2 ^ 60)
+-- how many bytes were taken of the file that is being read
+abbrev pub open_bytes : List Take → ℕ
+open_bytes [] = 0
+open_bytes (take ∷ []) = if take.ended then 0 else length take.bytes
+open_bytes (take ∷ next ∷ given) = open_bytes (next ∷ given)
 
 -- what a result says of what was taken
 abbrev pub Says : LeftTurn → List LeftFile → List Take → Type 0
-Says Went files given = lefts_of files given ≡ reading
+Says Went files given = (lefts_of files given ≡ reading) × (open_bytes given < 2 ^ 60)
 Says (Ended lefts) files given = lefts_of files given ≡ whole lefts.items
 Says (Faulted fault) files given = lefts_of files given ≡ faulted fault
-Says (Failed name) files given = (lefts_of files given ≡ reading) × (stops_at (names_of files) given ≡ Some name)
-Says TooLong files given = (lefts_of files given ≡ reading) × IsTooLong given
+Says (Failed name) files given = (lefts_of files given ≡ reading) × (stops_at (names_of files) given ≡ Some name) × (open_bytes given < 2 ^ 60)
+Says TooLong files given = (lefts_of files given ≡ reading) × (open_bytes given ≡ 2 ^ 60)
 Says NoMemory files given = Unit {0}
 
 -- What a turn did: more was taken, in one read.
@@ -85,6 +87,7 @@ pub record Turned (turn : LeftTurn) (files : List LeftFile) (before : Option (Li
   pub goes_on : GoesOn given given'
   pub following : After before given' contents taken' entry'
   pub one_read : total given' < total given + 65536
+  pub few : open_bytes given' ≤ 2 ^ 60
   pub says : Says turn files given'
   pub more : turn ≡ Went → total given + ends given < total given' + ends given'
   pub represents : turn ≡ Went → Represents files given' reader'
@@ -98,6 +101,7 @@ pub record ReadAll (turn : LeftTurn) (files : List LeftFile) (contents : Option 
   pub given : List Take
   pub order : InOrder (names_of files) given
   pub following : After taken given contents taken' entry'
+  pub few : open_bytes given ≤ 2 ^ 60
   pub says : Says turn files given
   pub over : turn ≡ Went → ⊥
   pub early : IfSome contents (λ told. IfSome taken (λ _. StopsEarly files told given))

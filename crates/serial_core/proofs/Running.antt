@@ -1,5 +1,5 @@
 -- A run, from turn to turn.
-use Rattle.std.proofs.Common.{◌≡◌, ℕ, Bool, true, false, List, [], ◌++◌, Option, Some, None, refl, ap, sym, ◌∙◌, subst, inl, arith}
+use Rattle.std.proofs.Common.{◌≡◌, ℕ, ◌<◌, ◌^◌, Bool, true, false, List, [], ◌++◌, Option, Some, None, refl, ap, sym, ◌∙◌, subst, inl, arith}
 use Rattle.mlr_event.specs.declared.event.Event.{Event}
 use Rattle.mlr_event.specs.declared.names.InputName.{InputName}
 use Rattle.mlr_event.specs.declared.names.Target.{Target}
@@ -16,12 +16,13 @@ use Rattle.verb_chain.specs.Chain.{chain}
 use Rattle.std.specs.Prelude.{IfSome}
 use Rattle.std.specs.Option.{option_map}
 use Rattle.std.proofs.lemmas.List.{append-nil}
-use Rattle.read_files.specs.Takes.{ArePrefixesTaken, After}
+use Rattle.read_files.specs.Takes.{ArePrefixesTaken, After, total}
 use Rattle.serial_core.specs.declared.answer.Ended.{Ended}
 use Rattle.serial_core.specs.declared.answer.Ended.TheVariants as answer
 use Rattle.serial_core.specs.declared.serial.Serial.{Serial}
 use Rattle.serial_core.specs.declared.serial.SerialTurn.TheVariants.{Went, Over}
-use Rattle.serial_core.specs.Command.{Command, names_of, text}
+use Rattle.serial_core.specs.Meaning.{meaning_of, text}
+use Rattle.serial_core.specs.Command.{Command, names_of}
 use Rattle.serial_core.specs.Answer.{IsOfNoInput}
 use Rattle.serial_core.specs.Run.{HoldsFew, Run}
 use Rattle.serial_core.specs.Whole.{whole_of}
@@ -83,9 +84,9 @@ module _ {S : Type 0} (verb : S → Verb) (represents : S → List Event → Typ
           first held held' now.leaves ran.outcome.leaves;
     }
 
-    pub came-over : EndsEarly command before contents → MeansWhole command before contents → (ended : Ended) → Ran (Over ended) verb represents command before now.given now.read now.shown after contents taken' name' held held' → Run ended command contents before taken' name' first held'
+    pub came-over : EndsEarly command before contents → MeansWhole command before contents → (ended : Ended) → Ran (Over ended) verb represents command before now.given now.read now.shown after contents taken' name' held held' → Run ended (meaning_of command) contents before taken' name' first held'
     came-over ends means ended ran =
-        let leaves = ChangesAt-then Stdout (λ b n. n ≡ with_bytes (out_of command.write now.shown) b) (Leaves ended ran.outcome.more) (Leaves ended (text command ran.given'))
+        let leaves = ChangesAt-then Stdout (λ b n. n ≡ with_bytes (out_of command.write now.shown) b) (Leaves ended ran.outcome.more) (Leaves ended (text (meaning_of command) ran.given'))
         (λ a b c one two. subst (λ t. Leaves ended t a c) (sym ran.outcome.text) (leaves-following ended command ran.given' ran.outcome.says (out_of command.write now.shown) ran.outcome.more a b c one two))
         first held held' now.leaves ran.outcome.leaves in
         record {
@@ -118,8 +119,8 @@ counted_if-from true s0 s1 s2 same counted = omega (arith, same, counted)
 counted_if-from false s0 s1 s2 same counted = counted ∙ same
 
 -- where no input fails, and all hold few bytes, the outcome is of no input
-pub completes : (command : Command) (contents : Option Contents) (taken taken' : Option (List Take)) (name' : Option OpenEntry) (held held' : Option Held) → HoldsFew command contents taken
-    → (ended : Ended) → Run ended command contents taken taken' name' held held' → (f0 f1 : InputName → ℕ) → InputCause ended f0 f1 → ((name : InputName) → Rose (f0 name) (f1 name) → ⊥) → IsOfNoInput ended
+pub completes : (command : Command) (contents : Option Contents) (taken taken' : Option (List Take)) (name' : Option OpenEntry) (held held' : Option Held) → HoldsFew (meaning_of command) contents taken
+    → (ended : Ended) → Run ended (meaning_of command) contents taken taken' name' held held' → (f0 f1 : InputName → ℕ) → InputCause ended f0 f1 → ((name : InputName) → Rose (f0 name) (f1 name) → ⊥) → IsOfNoInput ended
 completes command contents taken taken' name' held held' holds answer.Done run f0 f1 cause reads = tt
 completes command contents taken taken' name' held held' holds (answer.Refused refusal) run f0 f1 cause reads = run.says
 completes command contents taken taken' name' held held' holds (answer.Data fault) run f0 f1 cause reads = tt
@@ -127,5 +128,7 @@ completes command contents taken taken' name' held held' holds (answer.Read name
 completes command contents taken taken' name' held held' holds (answer.Written target) run f0 f1 cause reads = tt
 completes command contents taken taken' name' held held' holds answer.TooLong run f0 f1 cause reads =
     let prefixes = following-prefixes taken run.given contents taken' name' run.following holds.told holds.before holds.contents_told holds.taken_told in
-    omega (arith, run.says.1, holds.few, total-on run.given (whole_of holds.told (names_of command.origin)) (goes-whole holds.told (names_of command.origin) run.given run.order prefixes))
+    let all : total run.given ≡ 2 ^ 60 = run.says.1 in
+    let few : total (whole_of holds.told (names_of command.origin)) < 2 ^ 60 = holds.few in
+    omega (arith, all, few, total-on run.given (whole_of holds.told (names_of command.origin)) (goes-whole holds.told (names_of command.origin) run.given run.order prefixes))
 completes command contents taken taken' name' held held' holds answer.NoMemory run f0 f1 cause reads = tt

@@ -16,7 +16,8 @@ use Rattle.verb_chain.specs.Chain.{chain}
 use Rattle.read_files.specs.Takes.{ArePrefixesTaken, After, GoesOn, InOrder, taken_by, total}
 use Rattle.read_files.specs.Sources.{events_taken, source}
 use Rattle.serial_core.specs.declared.answer.Ended.{Ended}
-use Rattle.serial_core.specs.Command.{Command, Origin, files, numbers, given_by, names_of, result, text}
+use Rattle.serial_core.specs.Meaning.{meaning_of, text}
+use Rattle.serial_core.specs.Command.{Command, Origin, files, numbers, given_by, names_of, result}
 use Rattle.serial_core.specs.Run.{StopsEarly}
 use Rattle.serial_core.specs.Represents.{Leaves, MayGoOn, Says}
 use Rattle.serial_core.specs.Whole.{OfWhole}
@@ -40,12 +41,12 @@ SourceEarly = (told : Contents) (names : List InputName) (given : List Take) (n 
 -- a run that continued while its result might ends early with the next read
 abbrev pub EndsEarly : Command → Option (List Take) → Option Contents → Type 0
 EndsEarly command before contents = (given given' : List Take) (taken : Option (List Take)) (name : Option OpenEntry) → InOrder (names_of command.origin) given → After before given contents taken name → MayGoOn command given
-    → (given' ≡ given) ⊎ (is_open (result command given) ≡ true) → total given' < total given + 65536 → IfSome contents (λ told. IfSome before (λ _. StopsEarly command told given'))
+    → (given' ≡ given) ⊎ (is_open (result command given) ≡ true) → total given' < total given + 65536 → IfSome contents (λ told. IfSome before (λ _. StopsEarly (meaning_of command) told given'))
 
 -- a run that ended so left what the outcome says by all that the inputs hold
 abbrev pub MeansWhole : Command → Option (List Take) → Option Contents → Type 0
 MeansWhole command before contents = (ended : Ended) (given : List Take) (taken : Option (List Take)) (name : Option OpenEntry) (held held' : Option Held) → InOrder (names_of command.origin) given → After before given contents taken name
-    → Says ended command given → ChangesAt Stdout (Leaves ended (text command given)) held held' → IfSome contents (λ told. IfSome before (λ _. OfWhole ended command told held held'))
+    → Says ended (meaning_of command) given → ChangesAt Stdout (Leaves ended (text (meaning_of command) given)) held held' → IfSome contents (λ told. IfSome before (λ _. OfWhole ended (meaning_of command) told held held'))
 
 none-order : (names : List InputName) → InOrder names []
 none-order [] = tt
@@ -111,10 +112,10 @@ module _ (lists : SourceList) (grows : SourceGrows) (fixed : SourceFixed) (comma
       | inr more ↦ omega (arith, more, one)
     ]
 
-    stops-early : (given' ≡ given) ⊎ (is_open (result command given) ≡ true) → total given' < total given + 65536 → StopsEarly command told given'
+    stops-early : (given' ≡ given) ⊎ (is_open (result command given) ≡ true) → total given' < total given + 65536 → StopsEarly (meaning_of command) told given'
     stops-early ends one = record { at_once = at-once ends; soon = soon one }
 
   pub stopped-early : SourceEarly → (before : Option (List Take)) (contents : Option Contents) → EndsEarly command before contents
   stopped-early early before contents given given' taken name order following may ends one =
-      if-both contents before (λ told. StopsEarly command told given')
+      if-both contents before (λ told. StopsEarly (meaning_of command) told given')
       (λ told takes told_is takes_is. stops-early early told given given' order (following-prefixes before given contents taken name following told takes told_is takes_is) may ends one)

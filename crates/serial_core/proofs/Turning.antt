@@ -24,6 +24,7 @@ use Rattle.read_files.specs.Represents.{TurnCause}
 use Rattle.serial_core.specs.declared.answer.Ended.{Ended}
 use Rattle.serial_core.specs.declared.answer.Ended.TheVariants as answer
 use Rattle.mlr_world.specs.Taken.{Take}
+use Rattle.serial_core.specs.Meaning.{meaning_of}
 use Rattle.serial_core.specs.Command.{Command, result}
 use Rattle.serial_core.specs.Represents.{InputCause, Leaves, Says, TurnCounts, WriteLeaves, WriteSays, following, turn_failed, turn_lacks}
 
@@ -143,7 +144,7 @@ module _ (write : WriteOpts) (verbs : List Verb) (read put rest given : List Eve
 
   -- An outcome of a write, by the text that was written.
   pub record Over (ended : Ended) (command : Command) (takes : List Take) (shown : List ℕ) (held held' : Option Held) : Type 0 where
-    pub says : Says ended command takes
+    pub says : Says ended (meaning_of command) takes
     pub more : List ℕ
     pub text : out_of write (chain verbs given) ≡ shown ++ more
     pub leaves : ChangesAt Stdout (Leaves ended more) held held'

@@ -27,6 +27,7 @@ use Rattle.serial_core.specs.declared.reader.Reader.TheVariants as reader
 use Rattle.serial_core.specs.declared.serial.Serial.{Serial}
 use Rattle.serial_core.specs.declared.serial.SerialTurn.{SerialTurn}
 use Rattle.serial_core.specs.declared.serial.SerialTurn.TheVariants.{Went, Over}
+use Rattle.serial_core.specs.Meaning.{meaning_of}
 use Rattle.serial_core.specs.Command.{Command, Origin, files, numbers, given_by, names_of}
 use Rattle.serial_core.specs.Reading.{ReaderRepresents}
 use Rattle.serial_core.specs.Represents.{Leaves, Outcome, Ran, Says, SerialRepresents, Settled, WriteSays, Wrote}
@@ -65,7 +66,7 @@ prefix-following : (text more : List ℕ) (a b c : Option (List ℕ)) → b ≡ 
 prefix-following text more a b c first p =
     (text ++ p.0, (p.1.0, ap (λ t. text ++ t) p.1.1 ∙ sym (append_assoc text p.0 p.1.0)), p.2 ∙ ap (with_bytes p.0) first ∙ with_bytes-twice text p.0 a)
 
-pub leaves-following : (ended : Ended) (command : Command) (takes : List Take) → Says ended command takes → (text more : List ℕ) (a b c : Option (List ℕ)) → b ≡ with_bytes text a → Leaves ended more b c → Leaves ended (text ++ more) a c
+pub leaves-following : (ended : Ended) (command : Command) (takes : List Take) → Says ended (meaning_of command) takes → (text more : List ℕ) (a b c : Option (List ℕ)) → b ≡ with_bytes text a → Leaves ended more b c → Leaves ended (text ++ more) a c
 leaves-following answer.Done command takes says text more a b c first second = whole-following text more a b c first second
 leaves-following (answer.Refused refusal) command takes says text more a b c first second = absurd says
 leaves-following (answer.Data fault) command takes says text more a b c first second = whole-following text more a b c first second

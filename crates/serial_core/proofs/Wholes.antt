@@ -19,7 +19,8 @@ use Rattle.read_files.specs.Sources.{source}
 use Rattle.writers.specs.declared.options.WriteOpts.{WriteOpts}
 use Rattle.serial_core.specs.declared.answer.Ended.{Ended}
 use Rattle.serial_core.specs.declared.answer.Ended.TheVariants as answer
-use Rattle.serial_core.specs.Command.{Command, Origin, files, numbers, given_by, names_of, result, text}
+use Rattle.serial_core.specs.Meaning.{Meaning, meaning_of, text}
+use Rattle.serial_core.specs.Command.{Command, Origin, files, numbers, given_by, names_of, result}
 use Rattle.serial_core.specs.Represents.{Leaves, Says}
 use Rattle.serial_core.specs.Whole.{Gets, OfWhole, whole_of}
 use Rattle.serial_core.proofs.Origins.{open-source}
@@ -64,6 +65,46 @@ TextGrows = (opts : WriteOpts) (events following : List Event) → is_open event
 longer-prefix : (shorter more : List ℕ) (all : List ℕ) → all ≡ shorter ++ more → (before now : Option (List ℕ)) → AppendsPrefix shorter before now → AppendsPrefix all before now
 longer-prefix shorter more all is before now got = (got.0, (got.1.0 ++ more, is ∙ ap (λ t. t ++ more) got.1.1 ∙ append_assoc got.0 got.1.0 more), got.2)
 
+-- What comes out is fixed once it has an end or a fault, and the text grows as more is taken.
+abbrev pub ResultFixed : Meaning → Type 0
+ResultFixed meaning = (given longer : List Take) → InOrder meaning.names given → InOrder meaning.names longer → GoesOn given longer → is_open (meaning.result given) ≡ false → meaning.result longer ≡ meaning.result given
+
+abbrev pub ResultGrows : Meaning → Type 0
+ResultGrows meaning = (given longer : List Take) → InOrder meaning.names given → InOrder meaning.names longer → GoesOn given longer → (more : List ℕ) × (text meaning longer ≡ text meaning given ++ more)
+
+module _ (meaning : Meaning) (fixed : ResultFixed meaning) (grows : ResultGrows meaning) (told : Contents) (given : List Take) (order : InOrder meaning.names given) (prefixes : ArePrefixesTaken told given) (held held' : Option Held) where
+  abbrev whole : List Take
+  whole = whole_of told meaning.names
+
+  same-whole : is_open (meaning.result given) ≡ false → meaning.result whole ≡ meaning.result given
+  same-whole closed =
+      fixed given whole order (whole-order told meaning.names) (goes-whole told meaning.names given order prefixes) closed
+
+  more-whole : (more : List ℕ) × (text meaning whole ≡ text meaning given ++ more)
+  more-whole = grows given whole order (whole-order told meaning.names) (goes-whole told meaning.names given order prefixes)
+
+  gets-prefix : ChangesAt Stdout (AppendsPrefix (text meaning given)) held held' → ChangesAt Stdout (AppendsPrefix (text meaning whole)) held held'
+  gets-prefix leaves =
+      ChangesAt-map Stdout (AppendsPrefix (text meaning given)) (AppendsPrefix (text meaning whole)) (longer-prefix (text meaning given) more-whole.0 (text meaning whole) more-whole.1) held held' leaves
+
+  gets-all : ChangesAt Stdout (λ before now. now ≡ with_bytes (text meaning given) before) held held' → ChangesAt Stdout (AppendsPrefix (text meaning whole)) held held'
+  gets-all leaves =
+      ChangesAt-map Stdout (λ before now. now ≡ with_bytes (text meaning given) before) (AppendsPrefix (text meaning whole))
+      (λ before now is. (text meaning given, (more-whole.0, more-whole.1), is)) held held' leaves
+
+  pub of-whole : (ended : Ended) → Says ended meaning given → ChangesAt Stdout (Leaves ended (text meaning given)) held held' → OfWhole ended meaning told held held'
+  of-whole answer.Done says leaves =
+      let same = same-whole (end-closes (meaning.result given) says) in
+      record { verdict = ap (list_any is_end) same ∙ says; gets = subst (λ t. ChangesAt Stdout (Gets answer.Done (out_of meaning.write t)) held held') (sym same) leaves }
+  of-whole (answer.Refused refusal) says leaves = absurd says
+  of-whole (answer.Data fault) says leaves =
+      let same = same-whole (fault-closes (meaning.result given) fault says) in
+      record { verdict = ap fault_in same ∙ says; gets = subst (λ t. ChangesAt Stdout (Gets (answer.Data fault) (out_of meaning.write t)) held held') (sym same) leaves }
+  of-whole (answer.Read name) says leaves = record { verdict = tt; gets = gets-all leaves }
+  of-whole (answer.Written target) says leaves = record { verdict = tt; gets = gets-prefix leaves }
+  of-whole answer.TooLong says leaves = record { verdict = tt; gets = gets-all leaves }
+  of-whole answer.NoMemory says leaves = record { verdict = tt; gets = gets-prefix leaves }
+
 module _ (lists : SourceList) (grows : SourceGrows) (fixed : SourceFixed) (command : Command)
     (growth : (events following : List Event) → (more : List Event) × (chain command.verbs (events ++ following) ≡ chain command.verbs events ++ more))
     (chained : (events : List Event) → is_list events ≡ true → is_list (chain command.verbs events) ≡ true) (texts : TextGrows) where
@@ -80,49 +121,16 @@ module _ (lists : SourceList) (grows : SourceGrows) (fixed : SourceFixed) (comma
   ]
 
   -- the text of less that was taken is a prefix of that of more
-  pub text-grows : (given longer : List Take) → InOrder (names_of command.origin) given → InOrder (names_of command.origin) longer → GoesOn given longer → (more : List ℕ) × (text command longer ≡ text command given ++ more)
+  pub text-grows : (given longer : List Take) → InOrder (names_of command.origin) given → InOrder (names_of command.origin) longer → GoesOn given longer → (more : List ℕ) × (text (meaning_of command) longer ≡ text (meaning_of command) given ++ more)
   text-grows given longer order order' on = elim (cases_Bool (is_open (result command given))) [
     | inl opens ↦
         let more = open-grows command.origin given longer order order' on in
         let written = texts command.write (result command given) more.0 opens in
         (written.0, ap (out_of command.write) more.1 ∙ written.1)
-    | inr shut ↦ ([], ap (out_of command.write) (result-fixed lists grows fixed command growth chained given longer order order' on shut) ∙ sym (append-nil (text command given)))
+    | inr shut ↦ ([], ap (out_of command.write) (result-fixed lists grows fixed command growth chained given longer order order' on shut) ∙ sym (append-nil (text (meaning_of command) given)))
   ]
-
-  module _ (told : Contents) (given : List Take) (order : InOrder (names_of command.origin) given) (prefixes : ArePrefixesTaken told given) (held held' : Option Held) where
-    abbrev whole : List Take
-    whole = whole_of told (names_of command.origin)
-
-    same-whole : is_open (result command given) ≡ false → result command whole ≡ result command given
-    same-whole closed =
-        result-fixed lists grows fixed command growth chained given whole order (whole-order told (names_of command.origin)) (goes-whole told (names_of command.origin) given order prefixes) closed
-
-    more-whole : (more : List ℕ) × (text command whole ≡ text command given ++ more)
-    more-whole = text-grows given whole order (whole-order told (names_of command.origin)) (goes-whole told (names_of command.origin) given order prefixes)
-
-    gets-prefix : ChangesAt Stdout (AppendsPrefix (text command given)) held held' → ChangesAt Stdout (AppendsPrefix (text command whole)) held held'
-    gets-prefix leaves =
-        ChangesAt-map Stdout (AppendsPrefix (text command given)) (AppendsPrefix (text command whole)) (longer-prefix (text command given) more-whole.0 (text command whole) more-whole.1) held held' leaves
-
-    gets-all : ChangesAt Stdout (λ before now. now ≡ with_bytes (text command given) before) held held' → ChangesAt Stdout (AppendsPrefix (text command whole)) held held'
-    gets-all leaves =
-        ChangesAt-map Stdout (λ before now. now ≡ with_bytes (text command given) before) (AppendsPrefix (text command whole))
-        (λ before now is. (text command given, (more-whole.0, more-whole.1), is)) held held' leaves
-
-    pub of-whole : (ended : Ended) → Says ended command given → ChangesAt Stdout (Leaves ended (text command given)) held held' → OfWhole ended command told held held'
-    of-whole answer.Done says leaves =
-        let same = same-whole (end-closes (result command given) says) in
-        record { verdict = ap (list_any is_end) same ∙ says; gets = subst (λ t. ChangesAt Stdout (Gets answer.Done (out_of command.write t)) held held') (sym same) leaves }
-    of-whole (answer.Refused refusal) says leaves = absurd says
-    of-whole (answer.Data fault) says leaves =
-        let same = same-whole (fault-closes (result command given) fault says) in
-        record { verdict = ap fault_in same ∙ says; gets = subst (λ t. ChangesAt Stdout (Gets (answer.Data fault) (out_of command.write t)) held held') (sym same) leaves }
-    of-whole (answer.Read name) says leaves = record { verdict = tt; gets = gets-all leaves }
-    of-whole (answer.Written target) says leaves = record { verdict = tt; gets = gets-prefix leaves }
-    of-whole answer.TooLong says leaves = record { verdict = tt; gets = gets-all leaves }
-    of-whole answer.NoMemory says leaves = record { verdict = tt; gets = gets-prefix leaves }
 
   pub means-whole : (before : Option (List Take)) (contents : Option Contents) → MeansWhole command before contents
   means-whole before contents ended given taken name held held' order following says leaves =
-      if-both contents before (λ told. OfWhole ended command told held held')
-      (λ told takes told_is takes_is. of-whole told given order (following-prefixes before given contents taken name following told takes told_is takes_is) held held' ended says leaves)
+      if-both contents before (λ told. OfWhole ended (meaning_of command) told held held')
+      (λ told takes told_is takes_is. of-whole (meaning_of command) (result-fixed lists grows fixed command growth chained) text-grows told given order (following-prefixes before given contents taken name following told takes told_is takes_is) held held' ended says leaves)

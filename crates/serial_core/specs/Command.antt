@@ -1,12 +1,11 @@
 -- What a command makes of the inputs that were taken.
-use Rattle.std.specs.Prelude.{ℕ, List, []}
+use Rattle.std.specs.Prelude.{List, []}
 use Rattle.mlr_event.specs.declared.event.Event.{Event}
 use Rattle.mlr_event.specs.declared.names.InputName.{InputName}
 use Rattle.mlr_event.specs.declared.options.ReadOpts.{ReadOpts}
 use Rattle.mlr_event.specs.Verb.{Verb}
 use Rattle.mlr_world.specs.Taken.{Take}
 use Rattle.writers.specs.declared.options.WriteOpts.{WriteOpts}
-use Rattle.outlet.specs.Out.{out_of}
 use Rattle.verbs_seq.specs.declared.seq_spec.SeqSpec.{SeqSpec}
 use Rattle.verbs_seq.specs.Seq.{seq_all}
 use Rattle.read_files.specs.Sources.{source}
@@ -32,9 +31,6 @@ pub record Command : Type 0 where
   pub verbs : List Verb
   pub write : WriteOpts
 
--- what comes out of the last verb, and the text of standard output
+-- what comes out of the last verb
 abbrev pub result : Command → List Take → List Event
 result command takes = chain command.verbs (given_by command.origin takes)
-
-abbrev pub text : Command → List Take → List ℕ
-text command takes = out_of command.write (result command takes)

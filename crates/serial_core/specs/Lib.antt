@@ -1,5 +1,6 @@
 pub mod Answer
 pub mod Command
+pub mod Meaning
 pub mod Reading
 pub mod Whole
 pub mod Run

@@ -23,7 +23,8 @@ use Rattle.serial_core.specs.declared.serial.Serial.{Serial}
 use Rattle.serial_core.specs.declared.serial.SerialTurn.{SerialTurn}
 use Rattle.serial_core.specs.declared.serial.SerialTurn.TheVariants.{Went, Over}
 use Rattle.serial_core.specs.Answer.{has_failed, lacks_memory}
-use Rattle.serial_core.specs.Command.{Command, given_by, names_of, result}
+use Rattle.serial_core.specs.Command.{Command, given_by, result}
+use Rattle.serial_core.specs.Meaning.{Meaning, counted, meaning_of}
 use Rattle.serial_core.specs.Reading.{CameOn, ReaderRepresents, TookMore}
 
 -- It runs this command; this was taken of the inputs, these events were read, and the text of these was
@@ -46,14 +47,14 @@ pub record Settled {S : Type 0} (verb : S → Verb) (represents : S → List Eve
   pub nothing : serial.events ≡ []
 
 -- what an outcome says of what was taken
-abbrev pub Says : Ended → Command → List Take → Type 0
-Says answer.Done command given = list_any is_end (result command given) ≡ true
-Says (answer.Refused refusal) command given = ⊥
-Says (answer.Data fault) command given = fault_in (result command given) ≡ Some fault
-Says (answer.Read name) command given = (is_open (result command given) ≡ true) × (stops_at (names_of command.origin) given ≡ Some name) × (total given < 2 ^ 60)
-Says (answer.Written target) command given = target ≡ Stdout
-Says answer.TooLong command given = (is_open (result command given) ≡ true) × (total given ≡ 2 ^ 60)
-Says answer.NoMemory command given = Unit {0}
+abbrev pub Says : Ended → Meaning → List Take → Type 0
+Says answer.Done meaning given = list_any is_end (meaning.result given) ≡ true
+Says (answer.Refused refusal) meaning given = ⊥
+Says (answer.Data fault) meaning given = fault_in (meaning.result given) ≡ Some fault
+Says (answer.Read name) meaning given = (is_open (meaning.result given) ≡ true) × (stops_at meaning.names given ≡ Some name) × (counted meaning.lefts given < 2 ^ 60)
+Says (answer.Written target) meaning given = target ≡ Stdout
+Says answer.TooLong meaning given = (is_open (meaning.result given) ≡ true) × (counted meaning.lefts given ≡ 2 ^ 60)
+Says answer.NoMemory meaning given = Unit {0}
 
 -- what an outcome leaves of a text in standard output
 abbrev pub Leaves : Ended → List ℕ → Option (List ℕ) → Option (List ℕ) → Type 0
@@ -85,7 +86,7 @@ pub record WentOn {S : Type 0} (verb : S → Verb) (represents : S → List Even
 
 -- A turn after which it is over, with this outcome.
 pub record CameOver (ended : Ended) (command : Command) (given given' : List Take) (shown : List Event) (held held' : Option Held) : Type 0 where
-  pub says : Says ended command given'
+  pub says : Says ended (meaning_of command) given'
   pub more : List ℕ
   pub text : out_of command.write (result command given') ≡ out_of command.write shown ++ more
   pub leaves : ChangesAt Stdout (Leaves ended more) held held'

@@ -11,7 +11,7 @@ use Rattle.outlet.specs.Out.{fault_in}
 use Rattle.outlet.specs.Represents.{AppendsPrefix}
 use Rattle.serial_core.specs.declared.answer.Ended.{Ended}
 use Rattle.serial_core.specs.declared.answer.Ended.TheVariants as answer
-use Rattle.serial_core.specs.Command.{Command, names_of, result, text}
+use Rattle.serial_core.specs.Meaning.{Meaning, text}
 
 -- each input in order, whole, up to the first that has no contents
 abbrev pub whole_of : Contents → List InputName → List Take
@@ -22,14 +22,14 @@ whole_of told (name ∷ names) = elim (told name) [
 ]
 
 -- Done and Data are the verdict on all of it
-abbrev pub IsVerdict : Ended → Command → List Take → Type 0
-IsVerdict answer.Done command whole = list_any is_end (result command whole) ≡ true
-IsVerdict (answer.Refused refusal) command whole = ⊥
-IsVerdict (answer.Data fault) command whole = fault_in (result command whole) ≡ Some fault
-IsVerdict (answer.Read name) command whole = Unit {0}
-IsVerdict (answer.Written target) command whole = Unit {0}
-IsVerdict answer.TooLong command whole = Unit {0}
-IsVerdict answer.NoMemory command whole = Unit {0}
+abbrev pub IsVerdict : Ended → Meaning → List Take → Type 0
+IsVerdict answer.Done meaning whole = list_any is_end (meaning.result whole) ≡ true
+IsVerdict (answer.Refused refusal) meaning whole = ⊥
+IsVerdict (answer.Data fault) meaning whole = fault_in (meaning.result whole) ≡ Some fault
+IsVerdict (answer.Read name) meaning whole = Unit {0}
+IsVerdict (answer.Written target) meaning whole = Unit {0}
+IsVerdict answer.TooLong meaning whole = Unit {0}
+IsVerdict answer.NoMemory meaning whole = Unit {0}
 
 -- after Done and Data a target got the text, and else a prefix of it
 abbrev pub Gets : Ended → List ℕ → Option (List ℕ) → Option (List ℕ) → Type 0
@@ -42,6 +42,6 @@ Gets answer.TooLong text before now = AppendsPrefix text before now
 Gets answer.NoMemory text before now = AppendsPrefix text before now
 
 -- The outcome and standard output by all that the inputs hold.
-pub record OfWhole (ended : Ended) (command : Command) (told : Contents) (held held' : Option Held) : Type 0 where
-  pub verdict : IsVerdict ended command (whole_of told (names_of command.origin))
-  pub gets : ChangesAt Stdout (Gets ended (text command (whole_of told (names_of command.origin)))) held held'
+pub record OfWhole (ended : Ended) (meaning : Meaning) (told : Contents) (held held' : Option Held) : Type 0 where
+  pub verdict : IsVerdict ended meaning (whole_of told meaning.names)
+  pub gets : ChangesAt Stdout (Gets ended (text meaning (whole_of told meaning.names))) held held'

@@ -14,6 +14,7 @@ ghost use Rattle.verb_chain.specs.Chain.{chain};
 ghost use Rattle.verb_chain.specs.Represents.{Represents as Chained, verbs_in};
 ghost use Rattle.serial_core.specs.Reading.{ReaderRepresents};
 ghost use Rattle.serial_core.specs.Answer.{IsOfNoInput, has_failed, lacks_memory};
+ghost use Rattle.serial_core.specs.Meaning.{meaning_of};
 ghost use Rattle.serial_core.specs.Run.{HoldsFew, Run};
 ghost use Rattle.serial_core.specs.Represents.{Begins, CanPass, InputCause, Passed, Ran, SerialRepresents, Settled, TurnCounts, Wrote, following, turn_failed, turn_lacks, write_failed, write_lacks};
 
@@ -111,8 +112,9 @@ impl<S: Step + Drop> Serial<S> {
     pub fn run<I: Inputs, O: Outputs>(&mut self, inputs: &mut I, outputs: &mut O) -> Ended
         requires { (command : Command) × Begins S.verb S.represents command self.old }
         ensures run { (command : Command) → Begins S.verb S.represents command self.old
-            → Run result command (I.contents inputs.old) (I.taken inputs.old) (I.taken inputs.new)
-            (I.open_entry inputs.new) (O.held outputs.old) (O.held outputs.new) }
+            → Run result (meaning_of command) (I.contents inputs.old) (I.taken inputs.old)
+            (I.taken inputs.new) (I.open_entry inputs.new) (O.held outputs.old)
+            (O.held outputs.new) }
         ensures contents { I.contents inputs.new ≡ I.contents inputs.old }
         ensures cause { InputCause result (I.faults inputs.old) (I.faults inputs.new) }
         ensures counts { Counted (has_failed result) (O.faults outputs.old) (O.faults outputs.new)
@@ -121,7 +123,7 @@ impl<S: Step + Drop> Serial<S> {
             (O.shortages outputs.new) }
         // Where no input fails, and all hold fewer than 2^60 bytes, the outcome is of no input.
         ensures completes { (command : Command) → Begins S.verb S.represents command self.old
-            → HoldsFew command (I.contents inputs.old) (I.taken inputs.old)
+            → HoldsFew (meaning_of command) (I.contents inputs.old) (I.taken inputs.old)
             → ((name : InputName) → ¬ Rose (I.faults inputs.old name) (I.faults inputs.new name))
             → IsOfNoInput result }
     {

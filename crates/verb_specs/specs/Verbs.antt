@@ -1,6 +1,8 @@
 -- What a verb of a plan means, which options words may give it, and which options are short.
-use Rattle.std.specs.Prelude.{◌≡◌, ◌≤◌, length, List, [], ◌∷◌, ◌++◌, map}
+use Rattle.std.specs.Prelude.{◌≡◌, ◌≤◌, length, List, [], ◌∷◌, ◌++◌, drop, Option, Some, None}
 use Rattle.mlr_event.specs.declared.event.Event.{Event}
+use Rattle.mlr_event.specs.declared.names.InputName.{InputName}
+use Rattle.mlr_event.specs.declared.options.ReadOpts.{ReadOpts}
 use Rattle.mlr_event.specs.Verb.{Verb}
 use Rattle.verbs_seq.specs.Seq.{IsSoundSeq}
 use Rattle.verbs_base.specs.Records.{verb_of}
@@ -54,19 +56,36 @@ verbs_with [] lefts = []
 verbs_with (spec ∷ specs) [] = verb_with spec [] ++ verbs_with specs []
 verbs_with (spec ∷ specs) (left ∷ lefts) = verb_with spec left ++ verbs_with specs lefts
 
--- what the left files of verbs hold where no verb has one
-abbrev pub no_lefts : List VerbSpec → List (List Event)
-no_lefts specs = map (λ spec. []) specs
+-- the left file of a verb, if it has one, and how it is read
+abbrev pub left_of : VerbSpec → Option (InputName × ReadOpts)
+left_of (Stream spec) = None
+left_of (Retain spec) = None
+left_of (Shape spec) = shape.left_of spec
+left_of (Stat spec) = None
+left_of (Seq seq) = None
 
--- the verbs of a plan where no verb has a left file
-abbrev pub verbs_of : List VerbSpec → List Verb
-verbs_of specs = verbs_with specs []
+-- what the left file of each verb holds, by what the left files of a plan hold in their order; a verb without one has nothing
+abbrev pub first_of : List (List Event) → List Event
+first_of [] = []
+first_of (left ∷ lefts) = left
 
--- a copy of a verb: the same verb, sound where its source is
+abbrev pub left_for : Option (InputName × ReadOpts) → List (List Event) → List Event
+left_for None lefts = []
+left_for (Some file) lefts = first_of lefts
+
+abbrev pub after_left : Option (InputName × ReadOpts) → List (List Event) → List (List Event)
+after_left None lefts = lefts
+after_left (Some file) lefts = drop 1 lefts
+
+abbrev pub lefts_for : List VerbSpec → List (List Event) → List (List Event)
+lefts_for [] lefts = []
+lefts_for (spec ∷ specs) lefts = left_for (left_of spec) lefts ∷ lefts_for specs (after_left (left_of spec) lefts)
+
+-- a copy of a verb: the same verb with the same left file, sound where its source is
 abbrev pub AreSame : VerbSpec → VerbSpec → Type 0
 AreSame (Stream spec) (Stream copy) = (stream.meaning_of copy ≡ stream.meaning_of spec) × (stream.IsSound spec → stream.IsSound copy)
 AreSame (Retain spec) (Retain copy) = retain.meaning_of copy ≡ retain.meaning_of spec
-AreSame (Shape spec) (Shape copy) = (left : List Event) → shape.meaning_of copy left ≡ shape.meaning_of spec left
+AreSame (Shape spec) (Shape copy) = ((left : List Event) → shape.meaning_of copy left ≡ shape.meaning_of spec left) × (shape.left_of copy ≡ shape.left_of spec)
 AreSame (Stat spec) (Stat copy) = stat.meaning_of copy ≡ stat.meaning_of spec
 AreSame (Seq seq) (Seq copy) = copy ≡ seq
 AreSame _ _ = ⊥

@@ -1,9 +1,11 @@
 //! Verbs of a plan, of any kind, with their options.
-ghost use Rattle.std.specs.Prelude.{IfOk, IsOk};
-ghost use Rattle.verb_specs.specs.Verbs.{AreSame, IsShort};
+ghost use Rattle.std.specs.Prelude.{◌≡◌, IfOk, IsOk};
+ghost use Rattle.std.specs.Option.{option_map};
+ghost use Rattle.verb_specs.specs.Verbs.{AreSame, IsShort, left_of};
 
 use mlr_spec::NoMemory;
 use std::alloc::Global;
+use verbs_join_nest::LeftInput;
 use verbs_seq::SeqSpec;
 use verbs_stream::Spec;
 
@@ -46,6 +48,17 @@ impl VerbSpec {
             VerbSpec::Shape(spec) => Ok(VerbSpec::Shape(spec.copy(alloc)?)),
             VerbSpec::Stat(spec) => Ok(VerbSpec::Stat(spec.copy(alloc)?)),
             VerbSpec::Seq(seq) => Ok(VerbSpec::Seq(seq.copy(alloc)?)),
+        }
+    }
+
+    /// The left file of the verb, if it has one.
+    pub fn left(&self) -> Option<LeftInput<'_>>
+        ensures { option_map (λ left. (left.name.now, left.read.now)) result ≡ left_of self.now }
+    {
+        match self {
+            VerbSpec::Shape(spec) => spec.left(),
+            VerbSpec::Stream(_) | VerbSpec::Retain(_) | VerbSpec::Stat(_) | VerbSpec::Seq(_) =>
+                None,
         }
     }
 }

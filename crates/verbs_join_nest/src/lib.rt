@@ -6,7 +6,8 @@ mod running;
 mod spec;
 mod verb;
 
-pub use spec::Spec;
+pub use spec::{LeftInput, Spec};
 pub use verb::ShapeVerb;
+pub use verbs_join::Join;
 pub use verbs_nest::{Nest, NestForm};
 pub use verbs_reshape::{LongFields, Reshape, ToLong, ToWide};

@@ -1,23 +1,143 @@
+use Rattle.std.proofs.Common.{refl, sym, subst}
+use Rattle.mlr_world.specs.Counts.{Rose}
 use Rattle.serial_core.specs.declared.answer.Ended.TheVariants.{NoMemory}
-use Rattle.chain_core.proofs.Each.{verbs-run}
-use Rattle.chain_core.proofs.Runs.{command-of, unread}
+use Rattle.serial_core.specs.Meaning.{meaning_of}
+use Rattle.serial_core.specs.Run.{HoldsFew, Run}
+use Rattle.chain_core.proofs.Each.{plain-run}
+use Rattle.chain_core.proofs.PlanLaws.{command_by, plan-plain}
+use Rattle.chain_core.proofs.PlanRuns.{RunLaws, left-failed, left-faulted, left-few, left-long, left-short, main-few, main-following}
+use Rattle.chain_core.proofs.Runs.{unread}
 use Rattle.chain_core.proofs.run.run_serial.Goals as goal
 
-pub run-requires : goal.run-requires
-run-requires g c = let own = command-of c.args.plan.now c.requires in (own.0, c.in-Ok.ensures own.0 own.1)
-
-pub returns-in-Ok-clause-run : goal.returns-in-Ok-clause-run
-returns-in-Ok-clause-run g c command is =
-    verbs-run c.args.plan.now.verbs command is.verbs is.rest c.run.result (g.I.Inputs.contents c.args.inputs.now) (g.I.Inputs.taken c.args.inputs.now) (g.I.Inputs.taken c.run.new.inputs) (g.I.Inputs.open_entry c.run.new.inputs)
-    (g.O.Outputs.held c.args.outputs.now) (g.O.Outputs.held c.run.new.outputs) (c.run.ensures.run command (c.in-Ok.ensures command is))
-
-pub returns-in-Err-clause-run : goal.returns-in-Err-clause-run
-returns-in-Err-clause-run g c command is =
+pub returns-in_default-clause-run : goal.returns-in_default-clause-run
+returns-in_default-clause-run g c meaning is =
     let contents = g.I.Inputs.contents c.args.inputs.now in
     let taken = g.I.Inputs.taken c.args.inputs.now in
     let entry = g.I.Inputs.open_entry c.args.inputs.now in
     let held = g.O.Outputs.held c.args.outputs.now in
-    verbs-run c.args.plan.now.verbs command is.verbs is.rest NoMemory contents taken taken entry held held (unread command contents taken entry held)
+    plain-run meaning (plan-plain c.args.plan.now meaning is) is.rest NoMemory contents taken taken entry held held (unread meaning contents taken entry held)
 
-pub returns-in-Ok-clause-completes : goal.returns-in-Ok-clause-completes
-returns-in-Ok-clause-completes g c command is = c.run.ensures.completes command (c.in-Ok.ensures command is)
+pub returns-in-Ended-clause-run : goal.returns-in-Ended-clause-run
+returns-in-Ended-clause-run g c meaning is =
+    let laws : RunLaws = record {
+      lists = c.source_laws.ensures.list;
+      grows = c.source_laws.ensures.grows;
+      fixed = c.source_laws.ensures.fixed;
+      early = c.source_laws.ensures.early;
+      all = c.source_laws.ensures.all;
+      growth = c.chain_laws.ensures.growth;
+      texts = c.outlet_laws.ensures;
+      lefts_fixed = c.left_laws.ensures.fixed;
+      lefts_read = c.left_laws.ensures.read;
+    } in
+    let plan = c.args.plan.now in
+    let taken' = g.I.Inputs.taken c.read_all.new.inputs in
+    let taken'' = g.I.Inputs.taken c.run_main.new.inputs in
+    let entry'' = g.I.Inputs.open_entry c.run_main.new.inputs in
+    let held' = g.O.Outputs.held c.run_main.new.outputs in
+    let command = command_by plan is.write c.in-Ended.held.items in
+    let run = c.run_main.ensures.run command (record { origin = refl; verbs = refl; rest = is.rest; write = is.styles_are }) in
+    main-following laws c.args.plan.now meaning is (g.I.Inputs.contents c.args.inputs.now) (g.I.Inputs.taken c.args.inputs.now) (g.I.Inputs.taken c.read_all.new.inputs) (g.I.Inputs.open_entry c.read_all.new.inputs) c.in-Ended.held
+    (c.in-Ended.ensures.read plan c.in-Ok.ensures) c.run_main.result taken'' entry'' (g.O.Outputs.held c.args.outputs.now) held'
+    (subst (λ told. Run c.run_main.result (meaning_of command) told taken' taken'' entry'' (g.O.Outputs.held c.args.outputs.now) held') c.read_all.ensures.contents run)
+
+pub returns-in-Ended-clause-completes : goal.returns-in-Ended-clause-completes
+returns-in-Ended-clause-completes g c meaning is holds quiet =
+    let laws : RunLaws = record {
+      lists = c.source_laws.ensures.list;
+      grows = c.source_laws.ensures.grows;
+      fixed = c.source_laws.ensures.fixed;
+      early = c.source_laws.ensures.early;
+      all = c.source_laws.ensures.all;
+      growth = c.chain_laws.ensures.growth;
+      texts = c.outlet_laws.ensures;
+      lefts_fixed = c.left_laws.ensures.fixed;
+      lefts_read = c.left_laws.ensures.read;
+    } in
+    let plan = c.args.plan.now in
+    let taken' = g.I.Inputs.taken c.read_all.new.inputs in
+    let command = command_by plan is.write c.in-Ended.held.items in
+    let few = main-few laws c.args.plan.now meaning is (g.I.Inputs.contents c.args.inputs.now) (g.I.Inputs.taken c.args.inputs.now) (g.I.Inputs.taken c.read_all.new.inputs) (g.I.Inputs.open_entry c.read_all.new.inputs) c.in-Ended.held (c.in-Ended.ensures.read plan c.in-Ok.ensures) holds in
+    c.run_main.ensures.completes command (record { origin = refl; verbs = refl; rest = is.rest; write = is.styles_are })
+    (subst (λ told. HoldsFew (meaning_of command) told taken') (sym c.read_all.ensures.contents) few)
+    (λ name. subst (λ n. Rose n (g.I.Inputs.faults c.run_main.new.inputs name) → ⊥) (sym (c.in-Ended.ensures.cause name)) (quiet name))
+
+pub returns-in-Faulted-clause-run : goal.returns-in-Faulted-clause-run
+returns-in-Faulted-clause-run g c meaning is =
+    let laws : RunLaws = record {
+      lists = c.source_laws.ensures.list;
+      grows = c.source_laws.ensures.grows;
+      fixed = c.source_laws.ensures.fixed;
+      early = c.source_laws.ensures.early;
+      all = c.source_laws.ensures.all;
+      growth = c.chain_laws.ensures.growth;
+      texts = c.outlet_laws.ensures;
+      lefts_fixed = c.left_laws.ensures.fixed;
+      lefts_read = c.left_laws.ensures.read;
+    } in
+    left-faulted laws c.args.plan.now meaning is (g.I.Inputs.contents c.args.inputs.now) (g.I.Inputs.taken c.args.inputs.now) (g.I.Inputs.taken c.read_all.new.inputs) (g.I.Inputs.open_entry c.read_all.new.inputs) c.in-Faulted.fault
+    (c.in-Faulted.ensures.read c.args.plan.now c.in-Ok.ensures) (g.O.Outputs.held c.args.outputs.now)
+
+pub returns-in-Failed-clause-run : goal.returns-in-Failed-clause-run
+returns-in-Failed-clause-run g c meaning is =
+    let laws : RunLaws = record {
+      lists = c.source_laws.ensures.list;
+      grows = c.source_laws.ensures.grows;
+      fixed = c.source_laws.ensures.fixed;
+      early = c.source_laws.ensures.early;
+      all = c.source_laws.ensures.all;
+      growth = c.chain_laws.ensures.growth;
+      texts = c.outlet_laws.ensures;
+      lefts_fixed = c.left_laws.ensures.fixed;
+      lefts_read = c.left_laws.ensures.read;
+    } in
+    left-failed laws c.args.plan.now meaning is (g.I.Inputs.contents c.args.inputs.now) (g.I.Inputs.taken c.args.inputs.now) (g.I.Inputs.taken c.read_all.new.inputs) (g.I.Inputs.open_entry c.read_all.new.inputs) c.in-Failed.name
+    (c.in-Failed.ensures.read c.args.plan.now c.in-Ok.ensures) (g.O.Outputs.held c.args.outputs.now)
+
+pub returns-in-TooLong-clause-run : goal.returns-in-TooLong-clause-run
+returns-in-TooLong-clause-run g c meaning is =
+    let laws : RunLaws = record {
+      lists = c.source_laws.ensures.list;
+      grows = c.source_laws.ensures.grows;
+      fixed = c.source_laws.ensures.fixed;
+      early = c.source_laws.ensures.early;
+      all = c.source_laws.ensures.all;
+      growth = c.chain_laws.ensures.growth;
+      texts = c.outlet_laws.ensures;
+      lefts_fixed = c.left_laws.ensures.fixed;
+      lefts_read = c.left_laws.ensures.read;
+    } in
+    left-long laws c.args.plan.now meaning is (g.I.Inputs.contents c.args.inputs.now) (g.I.Inputs.taken c.args.inputs.now) (g.I.Inputs.taken c.read_all.new.inputs) (g.I.Inputs.open_entry c.read_all.new.inputs)
+    (c.in-TooLong.ensures.read c.args.plan.now c.in-Ok.ensures) (g.O.Outputs.held c.args.outputs.now)
+
+pub returns-in-TooLong-clause-completes : goal.returns-in-TooLong-clause-completes
+returns-in-TooLong-clause-completes g c meaning is holds quiet =
+    let laws : RunLaws = record {
+      lists = c.source_laws.ensures.list;
+      grows = c.source_laws.ensures.grows;
+      fixed = c.source_laws.ensures.fixed;
+      early = c.source_laws.ensures.early;
+      all = c.source_laws.ensures.all;
+      growth = c.chain_laws.ensures.growth;
+      texts = c.outlet_laws.ensures;
+      lefts_fixed = c.left_laws.ensures.fixed;
+      lefts_read = c.left_laws.ensures.read;
+    } in
+    left-few laws c.args.plan.now meaning is (g.I.Inputs.contents c.args.inputs.now) (g.I.Inputs.taken c.args.inputs.now) (g.I.Inputs.taken c.read_all.new.inputs) (g.I.Inputs.open_entry c.read_all.new.inputs)
+    (c.in-TooLong.ensures.read c.args.plan.now c.in-Ok.ensures) holds
+
+pub returns-clause-run : goal.returns-clause-run
+returns-clause-run g c meaning is =
+    let laws : RunLaws = record {
+      lists = c.source_laws.ensures.list;
+      grows = c.source_laws.ensures.grows;
+      fixed = c.source_laws.ensures.fixed;
+      early = c.source_laws.ensures.early;
+      all = c.source_laws.ensures.all;
+      growth = c.chain_laws.ensures.growth;
+      texts = c.outlet_laws.ensures;
+      lefts_fixed = c.left_laws.ensures.fixed;
+      lefts_read = c.left_laws.ensures.read;
+    } in
+    left-short laws c.args.plan.now meaning is (g.I.Inputs.contents c.args.inputs.now) (g.I.Inputs.taken c.args.inputs.now) (g.I.Inputs.taken c.read_all.new.inputs) (g.I.Inputs.open_entry c.read_all.new.inputs) c.read_all.result
+    (c.read_all.ensures.read c.args.plan.now c.in-Ok.ensures) (g.O.Outputs.held c.args.outputs.now)

@@ -1,10 +1,10 @@
 use Rattle.std.proofs.Common.{[], ap, refl, ◌∙◌}
 use Rattle.std.specs.Prelude.{length}
-use Rattle.chain_core.proofs.New.{no-lefts-many}
+use Rattle.chain_core.proofs.LeftFiles.{lefts-many}
 use Rattle.chain_tests.proofs.plan_parts.makes_of_three.Goals as goal
 
-pub new-requires-clause-lefts : goal.new-requires-clause-lefts
-new-requires-clause-lefts c = ap length c.in_ok-no_lefts.ensures ∙ no-lefts-many c.in_ok-plan.plan.verbs
+pub new-requires-2-clause-lefts : goal.new-requires-2-clause-lefts
+new-requires-2-clause-lefts c = ap length c.in_ok-lefts.ensures ∙ lefts-many c.in_ok-plan.plan.verbs _
 
 pub begin-requires : goal.begin-requires
 begin-requires c = (_, c.in_ok-chain.ensures)

@@ -1,7 +1,7 @@
 use Rattle.std.proofs.Common.{subst}
 use Rattle.mlr_event.specs.declared.names.Target.TheVariants.{Stderr}
 use Rattle.mlr_world.specs.Outputs.{ChangesAt}
-use Rattle.cli_run.specs.Meaning.{inputs_named}
+use Rattle.cli_run.specs.Meaning.{inputs_named, verbs_named}
 use Rattle.cli_run.specs.Message.{Appends, message_of}
 use Rattle.cli_run.proofs.Answering.{whole-following}
 use Rattle.cli_run.proofs.Top.{cause_given, counts_between, leaves_all}
@@ -22,8 +22,9 @@ returns-clause-run g c =
     let h0 = g.O.Outputs.held c.args.outputs.now in
     let h1 = g.O.Outputs.held c.run_planned-ended.new.outputs in
     let h2 = g.O.Outputs.held c.write_message.new.outputs in
-    let message = subst (λ s. ChangesAt Stderr (Appends (message_of words (inputs_named come) s ended) c.write_message.result) h1 h2) c.styles_named-styles.ensures
-    (subst (λ n. ChangesAt Stderr (Appends (message_of words n c.styles_named-styles.result.now ended) c.write_message.result) h1 h2) c.inputs_named-names.ensures c.write_message.ensures.bytes) in
+    let message = subst (λ s. ChangesAt Stderr (Appends (message_of words (inputs_named come) (verbs_named come) s ended) c.write_message.result) h1 h2) c.styles_named-styles.ensures
+    (subst (λ v. ChangesAt Stderr (Appends (message_of words (inputs_named come) v c.styles_named-styles.result.now ended) c.write_message.result) h1 h2) c.verbs_named-verbs.ensures
+    (subst (λ n. ChangesAt Stderr (Appends (message_of words n c.verbs_named-verbs.result.now c.styles_named-styles.result.now ended) c.write_message.result) h1 h2) c.inputs_named-names.ensures c.write_message.ensures.bytes)) in
     record {
       planned = come;
       plans = c.plan-planned.ensures.plans;

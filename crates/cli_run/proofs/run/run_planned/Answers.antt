@@ -4,7 +4,7 @@ use Rattle.mlr_event.specs.declared.names.InputName.{InputName}
 use Rattle.mlr_world.specs.Counts.{Rose}
 use Rattle.mlr_world.specs.Outputs.{ChangesAt}
 use Rattle.mlr_event.specs.declared.names.Target.TheVariants.{Stdout}
-use Rattle.chain_core.proofs.Runs.{command-of}
+use Rattle.chain_core.proofs.Runs.{meaning-of}
 use Rattle.serial_core.specs.declared.answer.Ended.TheVariants as answer
 use Rattle.cli_plan.specs.declared.planned.Planned.TheVariants as planned
 use Rattle.cli_run.specs.Run.{LeavesText, Ran}
@@ -16,13 +16,13 @@ run_serial-requires g c = c.requires c.in-Ok.plan c.in-Ok.is
 
 pub returns-in-Ok-clause-untouched : goal.returns-in-Ok-clause-untouched
 returns-in-Ok-clause-untouched g c = λ refused.
-    let found = command-of c.in-Ok.plan (c.requires c.in-Ok.plan c.in-Ok.is) in
+    let found = meaning-of c.in-Ok.plan (c.requires c.in-Ok.plan c.in-Ok.is) in
     let ran = c.run_serial.ensures.run found.0 found.1 in
     absurd (true≢false (sym refused ∙ never-refused c.run_serial.result found.0 ran.run.given ran.run.says))
 
 pub returns-in-Ok-clause-run : goal.returns-in-Ok-clause-run
 returns-in-Ok-clause-run g c =
-    let found = command-of c.in-Ok.plan (c.requires c.in-Ok.plan c.in-Ok.is) in
+    let found = meaning-of c.in-Ok.plan (c.requires c.in-Ok.plan c.in-Ok.is) in
     let quiet = (name : InputName) → Rose (g.I.Inputs.faults c.args.inputs.now name) (g.I.Inputs.faults c.run_serial.new.inputs name) → ⊥ in
     let contents = g.I.Inputs.contents c.args.inputs.now in
     let taken = g.I.Inputs.taken c.args.inputs.now in

@@ -5,15 +5,14 @@ use Rattle.outlet.specs.Represents as outlet
 use Rattle.serial_core.specs.Reading.{ReaderRepresents}
 use Rattle.verb_specs.specs.Verbs.{verbs_with}
 use Rattle.chain_core.specs.Verbs.{WasGiven, meaning_in}
-use Rattle.chain_core.proofs.New.{no-lefts-same}
 use Rattle.chain_core.proofs.Firsts.{same-first}
 use Rattle.chain_core.proofs.serial.Serial.new.Goals as goal
 
 pub returns : goal.returns
 returns c command is =
     let plan = c.args.plan.now in
-    let verbs = verbs_with plan.verbs c.in_ok-no_lefts.field-0 in
-    let same : verbs ≡ command.verbs = ap (verbs_with plan.verbs) c.in_ok-no_lefts.ensures ∙ no-lefts-same plan.verbs ∙ sym is.verbs in
+    let verbs = verbs_with plan.verbs c.args.lefts in
+    let same : verbs ≡ command.verbs = sym is.verbs in
     let represents = c.in_ok-begin.ensures.represents verbs c.in_ok-chain.ensures in
     let made = c.in_ok-begin.ensures.made verbs c.in_ok-chain.ensures in
     let style = same-first (sym c.in_ok-outlet.ensures.styles_are ∙ is.write) in

@@ -31,6 +31,7 @@ returns-in_default g c = record {
         given = turned.given';
         order = turned.order;
         following = subst (λ told. After (g.I.Inputs.taken c.args.inputs.now) turned.given' told (g.I.Inputs.taken c.turn.new.inputs) (g.I.Inputs.open_entry c.turn.new.inputs)) c.loop-over.invariant.0 turned.following;
+        few = turned.few;
         says = turned.says;
         over = c.in_default.not-Went;
         early = stopped-early c.left_laws.ensures.fixed c.source_laws.ensures.early files now.0 turned.given' now.1 (g.I.Inputs.contents c.args.inputs.now) (g.I.Inputs.taken c.args.inputs.now) (g.I.Inputs.taken c.loop-over.inputs) (g.I.Inputs.open_entry c.loop-over.inputs)

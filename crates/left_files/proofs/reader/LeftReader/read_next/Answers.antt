@@ -8,4 +8,4 @@ read-requires g c =
 
 pub returns-in-Err-clause-turned : goal.returns-in-Err-clause-turned
 returns-in-Err-clause-turned g c files before given s following =
-    none-begun files before given c.args.self.now s (g.I.Inputs.contents c.args.inputs.now) (g.I.Inputs.taken c.args.inputs.now) (g.I.Inputs.open_entry c.args.inputs.now) following (record c.args.self.now { files = c.pop.new.self })
+    none-begun files before given c.args.self.now s (g.I.Inputs.contents c.args.inputs.now) (g.I.Inputs.taken c.args.inputs.now) (g.I.Inputs.open_entry c.args.inputs.now) following c.requires.none (record c.args.self.now { files = c.pop.new.self })
