@@ -9,17 +9,22 @@ ghost use Rattle.read_dkvp_nidx.specs.Dkvp.{dkvp_record, keys_from, values_from}
 ghost use Rattle.read_dkvp_nidx.specs.Pieces.{with_piece};
 ghost use Rattle.read_dkvp_nidx.specs.Row.{row_items};
 
+use crate::room::Room;
 use crate::row::Row;
 use itoa::Buffer;
 use mlr_event::ReadOpts;
 use mlr_fields::Fields;
-use mlr_record::Record;
 use mlr_record::split::{next_part, separator_place};
 use mlr_spec::NoMemory;
 use std::alloc::Global;
 
 /// The record of a line; nothing if the line is empty.
-pub(crate) fn dkvp_row(alloc: Global, opts: &ReadOpts, line: &[u8]) -> Result<Row, NoMemory>
+pub(crate) fn dkvp_row(
+    alloc: Global,
+    opts: &ReadOpts,
+    room: &mut Room,
+    line: &[u8],
+) -> Result<Row, NoMemory>
     requires ifs { 0 < length opts.now.ifs }
     requires ips { 0 < length opts.now.ips }
     requires length { length line.now < 2 ^ 63 }
@@ -28,9 +33,11 @@ pub(crate) fn dkvp_row(alloc: Global, opts: &ReadOpts, line: &[u8]) -> Result<Ro
     if line.is_empty() {
         return Ok(Row::Nothing);
     }
-    let mut record = Fields::new(Record::new(alloc)?);
-    put_pieces(alloc, opts, line, &mut record)?;
-    Ok(Row::Fields(record.into_record()))
+    let mut fields = Fields::new(room.empty_record(alloc)?);
+    put_pieces(alloc, opts, line, &mut fields)?;
+    let record = fields.into_record();
+    room.keep(&record);
+    Ok(Row::Fields(record))
 }
 
 /// Adds the fields of a line to an empty record.

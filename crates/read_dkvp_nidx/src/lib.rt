@@ -9,6 +9,7 @@ mod line_step;
 mod markdown;
 mod nidx;
 mod reader;
+mod room;
 mod row;
 mod rules;
 

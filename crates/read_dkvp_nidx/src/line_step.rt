@@ -8,6 +8,7 @@ use crate::block::Block;
 use crate::dkvp::dkvp_row;
 use crate::markdown::{Place, markdown_row};
 use crate::nidx::nidx_row;
+use crate::room::Room;
 use crate::row::Row;
 use crate::rules::LineRules;
 use mlr_event::rows::{is_comment, next_ctx, push_comment};
@@ -52,6 +53,7 @@ impl LineFormat for LineRules {
             file,
             number: 1,
             block: Block::Outside,
+            room: Room::first(),
             at: start,
             stopped: false,
         }
@@ -131,8 +133,8 @@ impl LineRules {
             }) }
     {
         match self.opts.format {
-            Format::Dkvp => dkvp_row(self.alloc, &self.opts, line),
-            Format::Nidx => nidx_row(self.alloc, &self.opts, line),
+            Format::Dkvp => dkvp_row(self.alloc, &self.opts, &mut self.room, line),
+            Format::Nidx => nidx_row(self.alloc, &self.opts, &mut self.room, line),
             Format::Markdown => markdown_row(
                 self.alloc,
                 &self.opts,

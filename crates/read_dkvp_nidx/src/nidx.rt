@@ -6,6 +6,7 @@ ghost use Rattle.read_dkvp_nidx.specs.Nidx.{nidx_record, by_position, words_of};
 ghost use Rattle.read_dkvp_nidx.specs.Pieces.{with_word, position_after};
 ghost use Rattle.read_dkvp_nidx.specs.Row.{row_items};
 
+use crate::room::Room;
 use crate::row::Row;
 use itoa::Buffer;
 use mlr_event::ReadOpts;
@@ -17,17 +18,23 @@ use std::alloc::Global;
 
 /// The record of a line; nothing if the line has no value.
 #[inline(never)]
-pub(crate) fn nidx_row(alloc: Global, opts: &ReadOpts, line: &[u8]) -> Result<Row, NoMemory>
+pub(crate) fn nidx_row(
+    alloc: Global,
+    opts: &ReadOpts,
+    room: &mut Room,
+    line: &[u8],
+) -> Result<Row, NoMemory>
     requires ifs { 0 < length opts.now.ifs }
     requires length { length line.now < 2 ^ 63 }
     ensures { IfOk result (λ row. row_items row
         ≡ nidx_record opts.now (words_of opts.now.ifs line.now)) }
 {
-    let mut record = Record::new(alloc)?;
+    let mut record = room.empty_record(alloc)?;
     put_words(alloc, opts, line, &mut record)?;
     if record.len() == 0 {
         return Ok(Row::Nothing);
     }
+    room.keep(&record);
     Ok(Row::Fields(record))
 }
 

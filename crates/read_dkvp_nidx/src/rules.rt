@@ -3,6 +3,7 @@ ghost use Rattle.read_dkvp_nidx.specs.Usable.{is_usable};
 ghost use Rattle.std.specs.Prelude.{◌≡◌, true};
 
 use crate::block::Block;
+use crate::room::Room;
 use mlr_event::{Ctx, FileRef, ReadOpts};
 use std::alloc::Global;
 
@@ -15,6 +16,7 @@ pub struct LineRules {
     /// The number of the next line.
     pub(crate) number: u64,
     pub(crate) block: Block,
+    pub(crate) room: Room,
     /// The context of the last record.
     pub(crate) at: Ctx,
     /// A fault occurred, and no event follows it.
