@@ -5,6 +5,7 @@ mod Entering
 mod Coming
 mod Unpairing
 mod Pushing
+mod Moving
 mod Belonging
 mod Exactly
 pub mod Crosses

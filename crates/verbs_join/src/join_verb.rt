@@ -6,7 +6,7 @@ ghost use Rattle.verbs_join.specs.Represents.{HasPartners};
 
 use crate::join::Join;
 use crate::lefts::Lefts;
-use crate::pairing::push_pairs;
+use crate::taking::push_pairs;
 use mlr_event::{Ctx, Event, Events};
 use mlr_record::Record;
 use mlr_spec::NoMemory;
@@ -113,7 +113,7 @@ fn give(
                 return Ok(());
             }
             let places = &lefts.buckets[bucket];
-            push_pairs(alloc, options, &lefts.records, places, &right, ctx, out)
+            push_pairs(alloc, options, &lefts.records, places, right, ctx, out)
         }
         None => {
             if !options.right_unpaired {

@@ -7,6 +7,7 @@ mod laws;
 mod lefts;
 mod naming;
 mod pairing;
+mod taking;
 
 pub use join::Join;
 pub use join_verb::JoinVerb;

@@ -27,7 +27,7 @@ pub(crate) enum Naming<'r> {
 }
 
 /// Under so many fields a search goes over the fields themselves.
-const FEW: usize = 64;
+pub(crate) const FEW: usize = 64;
 
 impl<'r> Naming<'r> {
     /// The naming of the fields of one side by its prefix and the other record. It allocates if that one has many fields.

@@ -21,7 +21,12 @@ use std::alloc::Global;
 use verbs_base::is_named;
 
 /// The pair of a left record and a right one.
-fn pair(alloc: Global, options: &Join, left: &Record, right: &Record) -> Result<Record, NoMemory>
+pub(crate) fn pair(
+    alloc: Global,
+    options: &Join,
+    left: &Record,
+    right: &Record,
+) -> Result<Record, NoMemory>
     ensures { IfOk result (λ made. made ≡ pair_of options.now left.now right.now) }
 {
     let mut made = Fields::new(Record::new(alloc)?);
@@ -63,8 +68,8 @@ fn put_rights(
     put_others(alloc, &options.right, &naming, right, into)
 }
 
-/// Appends the pairs of the left records at these places with a right one, with this context.
-pub(crate) fn push_pairs(
+/// Appends the pairs of the left records at these places with a right one, which is copied, with this context.
+pub(crate) fn push_copied(
     alloc: Global,
     options: &Join,
     lefts: &[Record],
@@ -87,7 +92,7 @@ pub(crate) fn push_pairs(
 
 /// The record at a place.
 #[inline]
-fn record_at(records: &[Record], place: usize) -> &Record
+pub(crate) fn record_at(records: &[Record], place: usize) -> &Record
     requires { place < length records.now }
     ensures { slice_get records.now place ≡ Some result.now }
 {
@@ -95,7 +100,7 @@ fn record_at(records: &[Record], place: usize) -> &Record
 }
 
 /// Puts the join fields of a pair into a record.
-fn put_joined(
+pub(crate) fn put_joined(
     alloc: Global,
     options: &Join,
     left: &Record,
@@ -132,7 +137,7 @@ fn put_joined_field(
 }
 
 /// Puts the fields of a record that aren't join fields into another.
-fn put_others(
+pub(crate) fn put_others(
     alloc: Global,
     join: &Names,
     naming: &Naming<'_>,

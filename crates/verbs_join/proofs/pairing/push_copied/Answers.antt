@@ -5,7 +5,7 @@ use Rattle.mlr_event.specs.declared.event.Event.TheVariants as event
 use Rattle.verbs_base.specs.Records.{with_context}
 use Rattle.verbs_join.specs.Join.{pair_of}
 use Rattle.verbs_join.proofs.Pushing.{found-all, found-at}
-use Rattle.verbs_join.proofs.pairing.push_pairs.Goals as goal
+use Rattle.verbs_join.proofs.pairing.push_copied.Goals as goal
 
 pub record_at-requires : goal.record_at-requires
 record_at-requires c =

@@ -2,7 +2,7 @@ use Rattle.std.proofs.Common.{◌≡◌, List, ◌++◌, Some, map, drop}
 use Rattle.verbs_base.specs.Records.{Fields, with_context}
 use Rattle.verbs_join.specs.Join.{pair_of}
 use Rattle.verbs_join.specs.Places.{at_places}
-use Rattle.verbs_join.proofs.pairing.push_pairs.Given as goal
+use Rattle.verbs_join.proofs.pairing.push_copied.Given as goal
 
 -- the pairs so far, with those of the remaining left records, are all
 abbrev pub invariant-loop-place : goal.invariant-loop-place
