@@ -12,7 +12,7 @@ use Rattle.read_files.specs.Represents.{can_read}
 use Rattle.left_files.specs.declared.left_file.LeftFile.{LeftFile}
 use Rattle.verb_specs.specs.declared.verb_spec.VerbSpec.{VerbSpec}
 use Rattle.verb_specs.specs.Verbs.{after_left, left_for, left_of, lefts_for}
-use Rattle.chain_core.specs.Plans.{can_read_left, left_file, left_files_from}
+use Rattle.plan_verbs.specs.Plans.{can_read_left, left_file, left_files_from}
 
 -- each verb has an entry
 pub lefts-many : (specs : List VerbSpec) (lefts : List (List Event)) → length (lefts_for specs lefts) ≡ length specs

@@ -1,16 +1,13 @@
 pub mod Composing
-pub mod Copies
 pub mod Crosses
 pub mod Each
 pub mod Firsts
 pub mod LeftFiles
 pub mod Meanings
-pub mod New
 pub mod OverRecords
 pub mod Parting
 pub mod Plain
 pub mod PlanLaws
 pub mod PlanRuns
 pub mod Runs
-pub mod Verbs
 pub mod WithLefts

@@ -10,9 +10,10 @@ use Rattle.serial_core.specs.Meaning.{Meaning, meaning_of}
 use Rattle.serial_core.proofs.Stopping.{SourceFixed, SourceGrows, SourceList, result-fixed}
 use Rattle.serial_core.proofs.Wholes.{ResultFixed, ResultGrows, TextGrows, text-grows}
 use Rattle.verb_specs.specs.Verbs.{lefts_for, verbs_with}
-use Rattle.chain_core.specs.declared.plan.Plan.{Plan}
+use Rattle.plan_verbs.specs.declared.plan.Plan.{Plan}
 use Rattle.chain_core.specs.Meanings.{IsMeaningOf}
-use Rattle.chain_core.specs.Plans.{left_files, origin_of}
+use Rattle.plan_verbs.specs.Plans.{left_files}
+use Rattle.chain_core.specs.Origins.{origin_of}
 use Rattle.chain_core.proofs.WithLefts.{lefts-plain}
 use Rattle.chain_core.proofs.Meanings.{chained}
 use Rattle.chain_core.proofs.OverRecords.{AreOverRecords, are-over}

@@ -22,10 +22,11 @@ use Rattle.serial_core.specs.Meaning.{Meaning, meaning_of}
 use Rattle.serial_core.specs.Run.{HoldsFew, Run}
 use Rattle.serial_core.proofs.Stopping.{SourceFixed, SourceGrows, SourceList}
 use Rattle.serial_core.proofs.Wholes.{ResultFixed, ResultGrows, TextGrows}
-use Rattle.chain_core.specs.declared.plan.Plan.{Plan}
+use Rattle.plan_verbs.specs.declared.plan.Plan.{Plan}
 use Rattle.chain_core.specs.Meanings.{IsMeaningOf, meaning_by}
 use Rattle.chain_core.specs.PlanRun.{PlanRun}
-use Rattle.chain_core.specs.Plans.{left_files, origin_of}
+use Rattle.plan_verbs.specs.Plans.{left_files}
+use Rattle.chain_core.specs.Origins.{origin_of}
 use Rattle.chain_core.proofs.Composing.{SourceAll, faulted-run, failed-run, holds-main, long-run, main-run, never-long, short-run}
 use Rattle.chain_core.proofs.Each.{plain-run}
 use Rattle.chain_core.proofs.PlanLaws.{ChainGrows, command_by, main-fixed, main-grows, plan-plain, verbs_by}

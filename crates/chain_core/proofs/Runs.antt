@@ -16,9 +16,10 @@ use Rattle.serial_core.specs.Meaning.{Meaning, counted, text}
 use Rattle.serial_core.specs.Run.{Run, StopsEarly}
 use Rattle.serial_core.specs.Whole.{OfWhole, whole_of}
 use Rattle.serial_core.proofs.Running.{following-none}
-use Rattle.chain_core.specs.declared.plan.Plan.{Plan}
+use Rattle.plan_verbs.specs.declared.plan.Plan.{Plan}
 use Rattle.chain_core.specs.Meanings.{IsCommandOf, IsMeaningOf, meaning_by}
-use Rattle.chain_core.specs.Plans.{IsSound, origin_of}
+use Rattle.plan_verbs.specs.Plans.{IsSound}
+use Rattle.chain_core.specs.Origins.{origin_of}
 use Rattle.verb_specs.specs.Verbs.{verbs_with}
 use Rattle.chain_core.proofs.Parting.{order-none}
 

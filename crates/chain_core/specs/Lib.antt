@@ -1,7 +1,5 @@
-pub mod Plans
+pub mod Origins
 pub mod Meanings
-pub mod Verbs
-pub mod Chains
 pub mod Parts
 pub mod Outputs
 pub mod PlanRun

@@ -12,8 +12,9 @@ use Rattle.serial_core.specs.Command.{Command, Origin, result}
 use Rattle.serial_core.specs.Command as main
 use Rattle.serial_core.specs.Meaning.{Meaning}
 use Rattle.verb_specs.specs.Verbs.{lefts_for, verbs_with}
-use Rattle.chain_core.specs.declared.plan.Plan.{Plan}
-use Rattle.chain_core.specs.Plans.{left_files, origin_of}
+use Rattle.plan_verbs.specs.declared.plan.Plan.{Plan}
+use Rattle.plan_verbs.specs.Plans.{left_files}
+use Rattle.chain_core.specs.Origins.{origin_of}
 
 -- the command of a plan whose left files hold this, an entry for each verb: standard output is written by the first style
 pub record IsCommandOf (plan : Plan) (lefts : List (List Event)) (command : Command) : Type 0 where

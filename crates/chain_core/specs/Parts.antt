@@ -10,11 +10,12 @@ use Rattle.serial_core.specs.Represents.{SerialRepresents}
 use Rattle.left_files.specs.Represents as left
 use Rattle.chain_core.specs.declared.left_reader.LeftReader.{LeftReader}
 use Rattle.chain_core.specs.declared.plan_outlet.Outlet.{Outlet}
-use Rattle.chain_core.specs.declared.plan.Plan.{Plan}
+use Rattle.plan_verbs.specs.declared.plan.Plan.{Plan}
 use Rattle.chain_core.specs.declared.reader.Reader.{Reader}
 use Rattle.chain_core.specs.declared.serial.Serial.{Serial}
-use Rattle.chain_core.specs.Plans.{left_files, origin_of}
-use Rattle.chain_core.specs.Verbs.{WasGiven, meaning_in}
+use Rattle.plan_verbs.specs.Plans.{left_files}
+use Rattle.chain_core.specs.Origins.{origin_of}
+use Rattle.plan_verbs.specs.Verbs.{WasGiven, meaning_in}
 
 -- it reads the left files of this plan, this was taken of them, and it had no fault
 abbrev pub ReadsLefts : Plan → List Take → LeftReader → Type 0

@@ -5,7 +5,7 @@ ghost use Rattle.mlr_event.specs.Verb.{is_open};
 ghost use Rattle.mlr_world.specs.Taken.{Take};
 ghost use Rattle.read_files.specs.Takes.{GoesOn, InOrder};
 ghost use Rattle.serial_core.specs.Meaning.{Meaning, text};
-ghost use Rattle.chain_core.specs.declared.plan.Plan.{Plan};
+ghost use Rattle.plan_verbs.specs.declared.plan.Plan.{Plan};
 ghost use Rattle.chain_core.specs.Meanings.{IsMeaningOf};
 ghost use Rattle.chain_core.specs.Outputs.{pieces_for};
 

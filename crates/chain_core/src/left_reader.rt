@@ -3,15 +3,14 @@ ghost use Rattle.std.specs.Prelude.{◌≡◌, [], List, Option, IfOk};
 ghost use Rattle.mlr_world.specs.Taken.{Take};
 ghost use Rattle.read_files.specs.Takes.{After};
 ghost use Rattle.left_files.specs.Represents.{ReadAll, TurnCause, Turned};
-ghost use Rattle.chain_core.specs.declared.plan.Plan.{Plan as SpecPlan};
+ghost use Rattle.plan_verbs.specs.declared.plan.Plan.{Plan as SpecPlan};
 ghost use Rattle.chain_core.specs.Parts.{ReadsLefts};
-ghost use Rattle.chain_core.specs.Plans.{IsSound, left_files};
+ghost use Rattle.plan_verbs.specs.Plans.{IsSound, left_files};
 
-use crate::lefts::left_files_of;
-use crate::plan::Plan;
 use left_files::LeftTurn;
 use mlr_spec::NoMemory;
 use mlr_world::Inputs;
+use plan_verbs::{Plan, left_files_of};
 use std::alloc::Global;
 
 /// Reads the left files of a plan one after another, each whole. It represents what was taken of them.

@@ -6,13 +6,13 @@ ghost use Rattle.mlr_world.specs.Counts.{Counted};
 ghost use Rattle.outlet.specs.Represents.{CountedIf, Took, has_failed, lacks_memory};
 ghost use Rattle.writers.specs.declared.options.WriteOpts.{WriteOpts as Options};
 ghost use Rattle.chain_core.specs.Parts.{Writes};
-ghost use Rattle.chain_core.specs.Plans.{IsSound};
+ghost use Rattle.plan_verbs.specs.Plans.{IsSound};
 
-use crate::plan::Plan;
 use mlr_event::Event;
 use mlr_spec::NoMemory;
 use mlr_world::Outputs;
 use outlet::Let;
+use plan_verbs::Plan;
 use std::alloc::Global;
 
 /// The end of a chain: it writes what the outputs of a plan get of the events. It represents the list of events that it

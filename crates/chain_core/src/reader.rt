@@ -7,14 +7,15 @@ ghost use Rattle.read_files.specs.Represents.{TurnCause, can_read};
 ghost use Rattle.serial_core.specs.Command.{files, numbers};
 ghost use Rattle.serial_core.specs.Reading.{Read, ReaderRepresents};
 ghost use Rattle.verbs_seq.specs.Seq.{IsSoundSeq};
-ghost use Rattle.chain_core.specs.declared.plan.Plan.{Plan as SpecPlan};
+ghost use Rattle.plan_verbs.specs.declared.plan.Plan.{Plan as SpecPlan};
 ghost use Rattle.chain_core.specs.Parts.{Reads};
-ghost use Rattle.chain_core.specs.Plans.{IsSound, inputs_of, origin_of};
+ghost use Rattle.plan_verbs.specs.Plans.{IsSound};
+ghost use Rattle.chain_core.specs.Origins.{inputs_of, origin_of};
 
-use crate::plan::Plan;
 use mlr_event::{Events, NameList};
 use mlr_spec::NoMemory;
 use mlr_world::Inputs;
+use plan_verbs::Plan;
 use read_files::{FileReader, ReadTurn};
 use std::alloc::Global;
 use verb_specs::VerbSpec;

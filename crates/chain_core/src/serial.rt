@@ -13,19 +13,16 @@ ghost use Rattle.serial_core.specs.Run.{HoldsFew, Run};
 ghost use Rattle.serial_core.specs.Represents.{InputCause, Ran, TurnCounts, turn_failed, turn_lacks};
 ghost use Rattle.chain_core.specs.Parts.{Runs};
 ghost use Rattle.chain_core.specs.Meanings.{IsCommandOf};
-ghost use Rattle.chain_core.specs.Plans.{IsSound};
+ghost use Rattle.plan_verbs.specs.Plans.{IsSound};
 ghost use Rattle.serial_core.specs.Meaning.{meaning_of};
-ghost use Rattle.chain_core.specs.Verbs.{WasGiven, meaning_in};
+ghost use Rattle.plan_verbs.specs.Verbs.{WasGiven, meaning_in};
 
-use crate::chain::Chain;
-use crate::lefts::Lefts;
-use crate::plan::Plan;
 use crate::plan_outlet::Outlet;
 use crate::reader::Reader;
-use crate::verb::Verb;
 use mlr_event::Events;
 use mlr_spec::NoMemory;
 use mlr_world::{Inputs, Outputs};
+use plan_verbs::{Chain, Lefts, Plan, Verb};
 use serial_core::{Ended, SerialTurn};
 use std::alloc::Global;
 

@@ -4,8 +4,8 @@ ghost use Rattle.std.specs.Prelude.{◌≡◌, [], List, true, IfOk, OnOk};
 ghost use Rattle.mlr_event.specs.declared.event.Event.{Event as SpecEvent};
 ghost use Rattle.mlr_event.specs.Verb.{Verb as SpecVerb, is_open};
 ghost use Rattle.verbs_stream.specs.Meaning.{IsSound as IsSoundSpec};
-ghost use Rattle.chain_core.specs.Chains.{Represents};
-ghost use Rattle.chain_core.specs.Plans.{IsSound, can_read_left};
+ghost use Rattle.plan_verbs.specs.Chains.{Represents};
+ghost use Rattle.plan_verbs.specs.Plans.{IsSound, can_read_left};
 ghost use Rattle.std.specs.List.{list_all};
 ghost use Rattle.verb_specs.specs.Verbs.{AreSound, IsVerb};
 

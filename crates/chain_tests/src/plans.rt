@@ -2,7 +2,7 @@
 ghost use Rattle.std.specs.Prelude.{◌≡◌, [], true, IfOk};
 ghost use Rattle.std.specs.List.{list_all};
 ghost use Rattle.read_files.specs.Represents.{can_read};
-ghost use Rattle.chain_core.specs.Plans.{IsSound, can_read_left};
+ghost use Rattle.plan_verbs.specs.Plans.{IsSound, can_read_left};
 ghost use Rattle.verb_specs.specs.Verbs.{AreSound};
 
 use chain_core::{NameList, Plan, StyleList, VerbList};

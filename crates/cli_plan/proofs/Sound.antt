@@ -7,9 +7,9 @@ use Rattle.std.proofs.lemmas.Bool.{and_from, false≢true}
 use Rattle.std.proofs.lemmas.Slice.Eq.{bytes_eq-Decides}
 use Rattle.verb_specs.specs.declared.verb_spec.VerbSpec.{VerbSpec}
 use Rattle.verb_specs.specs.declared.verb_spec.VerbSpec.TheVariants.{Stream, Retain, Seq, Shape, Stat}
-use Rattle.chain_core.specs.Plans.{IsSound, can_read_left}
+use Rattle.plan_verbs.specs.Plans.{IsSound, can_read_left}
 use Rattle.verb_specs.specs.Verbs.{AreSound, AreVerbs, IsVerb}
-use Rattle.chain_core.specs.declared.plan.Plan.{Plan}
+use Rattle.plan_verbs.specs.declared.plan.Plan.{Plan}
 use Rattle.read_files.specs.Represents.{can_read}
 use Rattle.cli_grammar.specs.declared.given.Given.{Given}
 use Rattle.cli_grammar.specs.declared.given.VerbWords.{VerbWords}

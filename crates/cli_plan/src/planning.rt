@@ -2,8 +2,8 @@
 ghost use Rattle.std.specs.Prelude.{◌≡◌, true, ℕ, length, None, IfErr, IfOk};
 ghost use Rattle.std.specs.List.{list_all};
 ghost use Rattle.std.specs.Option.{option_map};
-ghost use Rattle.chain_core.specs.Plans.{IsSound};
-ghost use Rattle.chain_core.specs.declared.plan.Plan.{Plan as SpecPlan};
+ghost use Rattle.plan_verbs.specs.Plans.{IsSound};
+ghost use Rattle.plan_verbs.specs.declared.plan.Plan.{Plan as SpecPlan};
 ghost use Rattle.cli_grammar.specs.Grammar.{is_verb};
 ghost use Rattle.mlr_event.specs.declared.refusal.Why.TheVariants.{Clash, TooManyVerbs};
 ghost use Rattle.cli_verbs.specs.Faults.{IfRefused};

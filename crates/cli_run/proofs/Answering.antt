@@ -20,7 +20,7 @@ use Rattle.serial_core.specs.Represents as outcomes
 use Rattle.chain_core.specs.Outputs.{LeavesEach, WhereTold, clear}
 use Rattle.chain_core.specs.PlanRun.{PlanRun}
 use Rattle.chain_core.specs.Meanings.{IsMeaningOf}
-use Rattle.chain_core.specs.declared.plan.Plan.{Plan}
+use Rattle.plan_verbs.specs.declared.plan.Plan.{Plan}
 use Rattle.cli_plan.specs.declared.planned.Planned.{Planned}
 use Rattle.cli_plan.specs.declared.planned.Planned.TheVariants as planned
 use Rattle.cli_run.specs.Meaning.{Answers, Runs}

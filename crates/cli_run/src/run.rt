@@ -7,8 +7,8 @@ ghost use Rattle.mlr_world.specs.Counts.{Counted, Rose};
 ghost use Rattle.outlet.specs.Represents.{CountedIf};
 ghost use Rattle.serial_core.specs.Answer.{has_failed, is_refused, lacks_memory};
 ghost use Rattle.serial_core.specs.Represents.{InputCause};
-ghost use Rattle.chain_core.specs.Plans.{IsSound};
-ghost use Rattle.chain_core.specs.declared.plan.Plan.{Plan as SpecPlan};
+ghost use Rattle.plan_verbs.specs.Plans.{IsSound};
+ghost use Rattle.plan_verbs.specs.declared.plan.Plan.{Plan as SpecPlan};
 ghost use Rattle.cli_run.specs.Meaning.{inputs_named, styles_named, verbs_named};
 ghost use Rattle.cli_run.specs.Run.{OutputCause, Ran, Run};
 

@@ -1,7 +1,8 @@
 use Rattle.std.proofs.Common.{sym, subst}
 use Rattle.serial_core.proofs.Wholes.{ResultFixed, ResultGrows}
 use Rattle.verb_specs.specs.Verbs.{lefts_for, verbs_with}
-use Rattle.chain_core.specs.Plans.{left_files, origin_of}
+use Rattle.plan_verbs.specs.Plans.{left_files}
+use Rattle.chain_core.specs.Origins.{origin_of}
 use Rattle.chain_core.proofs.Each.{no-pieces}
 use Rattle.chain_core.proofs.WithLefts.{lefts-fixed, lefts-grow}
 use Rattle.chain_core.proofs.PlanLaws.{main-fixed, main-grows, plan-plain}

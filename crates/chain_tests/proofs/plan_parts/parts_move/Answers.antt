@@ -1,5 +1,6 @@
 use denote.Param.Send.{sendable}
-use Rattle.chain_core.proofs.Crosses.{Reader-send, Verb-send}
+use Rattle.chain_core.proofs.Crosses.{Reader-send}
+use Rattle.plan_verbs.proofs.Crosses.{Verb-send}
 use Rattle.chain_tests.proofs.plan_parts.parts_move.Goals as goal
 
 pub move_into_thread-requires-send-T : goal.move_into_thread-requires-send-T

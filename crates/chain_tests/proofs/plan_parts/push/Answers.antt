@@ -6,7 +6,7 @@ use Rattle.verbs_stream.specs.Meaning.{IsSound}
 use Rattle.verb_specs.specs.declared.verb_spec.VerbSpec.{VerbSpec}
 use Rattle.verb_specs.specs.declared.verb_spec.VerbSpec.TheVariants.{Stream, Retain, Shape, Stat, Seq}
 use Rattle.verb_specs.specs.Verbs.{AreSound, AreVerbs}
-use Rattle.chain_core.specs.Plans.{can_read_left}
+use Rattle.plan_verbs.specs.Plans.{can_read_left}
 use Rattle.chain_tests.proofs.plan_parts.push.Goals as goal
 
 verbs-append : (specs : List VerbSpec) (spec : Spec) → AreVerbs specs → IsSound spec → AreVerbs (specs ++ Stream spec ∷ [])

@@ -1,7 +1,7 @@
 use Rattle.std.proofs.Common.{◌≡◌, true, List}
 use Rattle.mlr_event.specs.declared.event.Event.{Event}
 use Rattle.mlr_event.specs.Verb.{Verb, is_open}
-use Rattle.chain_core.specs.Chains.{Represents}
+use Rattle.plan_verbs.specs.Chains.{Represents}
 use Rattle.chain_tests.proofs.plan_parts.take_three.Given as goal
 
 -- the chain goes on

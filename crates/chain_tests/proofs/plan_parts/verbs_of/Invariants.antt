@@ -1,7 +1,7 @@
 use Rattle.std.proofs.Common.{◌≡◌, true}
 use Rattle.std.specs.List.{list_all}
 use Rattle.verb_specs.specs.Verbs.{AreSound}
-use Rattle.chain_core.specs.Plans.{can_read_left}
+use Rattle.plan_verbs.specs.Plans.{can_read_left}
 use Rattle.chain_tests.proofs.plan_parts.verbs_of.Given as goal
 
 -- verbs that may be run, without a left file that can't be read

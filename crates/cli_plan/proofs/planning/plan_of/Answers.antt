@@ -1,5 +1,5 @@
 use Rattle.std.proofs.Common.{◌≡◌, true, None, ap, subst, ◌∙◌}
-use Rattle.chain_core.specs.Plans.{IsSound}
+use Rattle.plan_verbs.specs.Plans.{IsSound}
 use Rattle.read_files.specs.Represents.{can_read}
 use Rattle.cli_plan.specs.Accepting.{AreGoodAfter, clash_among, clash_with}
 use Rattle.cli_plan.specs.Clashes.{comment_clash}

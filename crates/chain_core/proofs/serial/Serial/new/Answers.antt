@@ -4,7 +4,7 @@ use Rattle.verb_chain.specs.Represents as chained
 use Rattle.outlet.specs.Represents as outlet
 use Rattle.serial_core.specs.Reading.{ReaderRepresents}
 use Rattle.verb_specs.specs.Verbs.{verbs_with}
-use Rattle.chain_core.specs.Verbs.{WasGiven, meaning_in}
+use Rattle.plan_verbs.specs.Verbs.{WasGiven, meaning_in}
 use Rattle.chain_core.proofs.Firsts.{same-first}
 use Rattle.chain_core.proofs.serial.Serial.new.Goals as goal
 

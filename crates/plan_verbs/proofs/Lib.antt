@@ -1,0 +1,4 @@
+pub mod Copies
+pub mod Crosses
+pub mod New
+pub mod Verbs
