@@ -26,9 +26,7 @@ pub(crate) fn take_line(
     ensures empty { IfOk result (λ made. IfSome made (λ given. row.new ≡ no_row)) }
 {
     match (opts.format, header) {
-        (Format::Csv, Some(heading))
-            if (opts.dedupe | heading.is_distinct()) && row.is_new() =>
-        {
+        (Format::Csv, Some(heading)) if (opts.dedupe | heading.is_distinct()) && row.is_new() => {
             row.take_named(opts, heading.header(), text)
         }
         _ => {

@@ -35,12 +35,13 @@ pub(crate) fn take_plain<'t>(
         ≡ row_with opts.now.infer no_row (csv_reading opts.now.ifs text.now)) }
 {
     fields.reserve(names.len())?;
+    let separator = opts.ifs.as_slice();
     let mut left = text;
     for place in 0..names.len() {
         if starts_quoted(left) {
             return Ok(Some(left));
         }
-        match take_plain_field(alloc, opts, &names[place], fields, left)? {
+        match take_plain_field(alloc, opts, separator, &names[place], fields, left)? {
             None => return Ok(None),
             Some(rest) => left = rest,
         }
@@ -53,11 +54,13 @@ pub(crate) fn take_plain<'t>(
 fn take_plain_field<'t>(
     alloc: Global,
     opts: &ReadOpts,
+    separator: &[u8],
     name: &Bytes,
     fields: &mut Vec<Field>,
     text: &'t [u8],
 ) -> Result<Option<&'t [u8]>, NoMemory>
     requires ifs { 0 < length opts.now.ifs }
+    requires separator { separator.now ≡ opts.now.ifs }
     requires plain { starts_quoted text.now ≡ false }
     requires room { vec_len fields.old < vec_capacity fields.old }
     ensures values { OnOk result (values_in fields.new.items ≡ values_in fields.old.items
@@ -69,7 +72,7 @@ fn take_plain_field<'t>(
     ensures len { OnOk result (vec_len fields.new ≡ vec_len fields.old + 1) }
     ensures capacity { OnOk result (vec_capacity fields.new ≡ vec_capacity fields.old) }
 {
-    let (part, rest) = next_part(opts.ifs.as_slice(), text);
+    let (part, rest) = next_part(separator, text);
     let name = name.copy()?;
     let value = from_data_first(alloc, text, part.len(), opts.infer)?;
     fields.push_reserved(Field { name, value });
