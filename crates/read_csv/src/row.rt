@@ -25,7 +25,7 @@ use std::marker::Model;
 #[derive(Drop)]
 pub(crate) struct Row {
     alloc: Global,
-    /// The fields that have ended, without names.
+    /// The fields that have ended. A field may have its name already.
     fields: Vec<Field>,
     /// Whether the quote of the next field is open.
     quoted: bool,
