@@ -2,6 +2,7 @@ pub mod Quoting
 pub mod Readings
 pub mod Escaping
 pub mod Recording
+pub mod Naming
 pub mod Opening
 pub mod Ends
 pub mod Whole

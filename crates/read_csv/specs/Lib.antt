@@ -7,6 +7,7 @@ pub mod OpenRow
 pub mod Quotes
 pub mod Escapes
 pub mod Headers
+pub mod Naming
 pub mod Usable
 pub mod RowOutcome
 pub mod Rules

@@ -43,7 +43,7 @@ fn take_field<'t>(
         return take_quoted(opts, row, following(text, 1));
     }
     let (part, rest) = next_part(opts.ifs.as_slice(), text);
-    row.push_first(text, part.len(), opts.infer)?;
+    row.push_plain(part, opts.infer)?;
     Ok(rest)
 }
 
@@ -74,7 +74,7 @@ pub(crate) fn take_quoted<'t>(
 
 /// Whether the text begins with a quote.
 #[inline]
-fn starts_quoted(text: &[u8]) -> bool
+pub(crate) fn starts_quoted(text: &[u8]) -> bool
     ensures { result ≡ starts_quoted text.now }
 {
     match text {

@@ -6,6 +6,7 @@ mod fields;
 mod heading;
 mod laws;
 mod line_step;
+mod plain;
 mod reader;
 mod records;
 mod row;

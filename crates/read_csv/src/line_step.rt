@@ -7,7 +7,7 @@ ghost use Rattle.read_csv.specs.OpenRow.{no_row, row_taken};
 ghost use Rattle.read_csv.specs.Rules.{after_last, after_line, begins_now, after_row, after_text, count_of, gives_last, gives_line, header_after_row, row_after_row, row_gives, text_items, with_end};
 
 use crate::csv::following;
-use crate::fields::take_text;
+use crate::fields::take_line;
 use crate::heading::Heading;
 use crate::records::positions;
 use crate::row::Row;
@@ -155,7 +155,9 @@ impl RowRules {
             }) }
     {
         self.begins = self.begins_now();
-        take_text(&self.opts, &mut self.row, text)?;
+        if let Some(record) = take_line(&self.opts, &self.header, &mut self.row, text)? {
+            return Ok(RowOutcome::Fields(record));
+        }
         if self.row.is_open() {
             return Ok(RowOutcome::Nothing);
         }

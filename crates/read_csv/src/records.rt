@@ -61,8 +61,7 @@ fn other_record(
     Ok(record.into_record())
 }
 
-/// The record of a row that has a value for each name of the header, under the distinct names, which takes
-/// the row's vector over. This is the common case.
+/// The record of a row that has a value for each name of the header, under the distinct names.
 fn full_record(alloc: Global, names: &Header, fields: &mut Vec<Field>) -> Result<Record, NoMemory>
     requires full { length names.now ≡ vec_len fields.old }
     requires few { length names.now < 2 ^ 62 }
@@ -70,17 +69,36 @@ fn full_record(alloc: Global, names: &Header, fields: &mut Vec<Field>) -> Result
         (values_in fields.old.items)) }
     ensures empty { OnOk result (fields.new.items ≡ []) }
 {
+    name_fields(names.keys(), fields)?;
+    named_record(alloc, names, fields)
+}
+
+/// The record of a row whose fields have the distinct names of the header. It takes the row's vector over, and
+/// leaves one of the same room.
+#[inline]
+pub(crate) fn named_record(
+    alloc: Global,
+    names: &Header,
+    fields: &mut Vec<Field>,
+) -> Result<Record, NoMemory>
+    requires full { length names.now ≡ vec_len fields.old }
+    requires few { length names.now < 2 ^ 62 }
+    requires named { pairs_of fields.old.items ≡ zip (distinct_names names.now)
+        (values_in fields.old.items) }
+    ensures made { IfOk result (λ made. made ≡ zip (distinct_names names.now)
+        (values_in fields.old.items)) }
+    ensures empty { OnOk result (fields.new.items ≡ []) }
+{
     let room = Vec::with_capacity(alloc, fields.len())?;
-    let mut own = mem::replace(fields, room);
-    name_fields(names.keys(), &mut own)?;
-    Ok(Record::of_fields(alloc, own))
+    Ok(Record::of_fields(alloc, mem::replace(fields, room)))
 }
 
 /// Gives each field the name of its place.
 #[inline]
 fn name_fields(names: &[Bytes], fields: &mut [Field]) -> Result<(), NoMemory>
     requires { length names.now ≡ length fields.old }
-    ensures { OnOk result (pairs_of fields.new ≡ zip names.now (values_in fields.old)) }
+    ensures pairs { OnOk result (pairs_of fields.new ≡ zip names.now (values_in fields.old)) }
+    ensures values { OnOk result (values_in fields.new ≡ values_in fields.old) }
 {
     for place in 0..fields.len() {
         fields[place].name = names[place].copy()?;

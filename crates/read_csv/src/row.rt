@@ -1,18 +1,23 @@
 //! Holds the fields of a row while it is read.
-ghost use Rattle.std.specs.Prelude.{◌≡◌, ◌≤◌, OnOk, IfOk, is_some, None, length, map, take};
+ghost use Rattle.std.specs.Prelude.{◌≡◌, ◌<◌, OnOk, IfOk, IfSome, MatchOption, is_some, true, None, length, map};
 ghost use Rattle.mlr_spec.specs.Infer.{tree_of_data};
 ghost use Rattle.mlr_spec.specs.Tree.{text_of};
 ghost use Rattle.mlr_event.specs.Reading.{record_of};
 ghost use Rattle.mlr_value.specs.Value.{tree_of};
 ghost use Rattle.read_csv.specs.Rows.{row_keys};
 ghost use Rattle.read_csv.specs.Fields.{quoted_value};
-ghost use Rattle.read_csv.specs.OpenRow.{in_quotes, no_row, with_text, with_value};
+ghost use Rattle.read_csv.specs.OpenRow.{csv_reading, in_quotes, no_row, row_with, with_text, with_value};
+ghost use Rattle.read_csv.specs.Naming.{IsNamed};
 
+use crate::csv::take_fields;
 use crate::heading::Heading;
-use crate::records::{record_of_row, texts};
+use crate::plain::take_plain;
+use crate::records::{named_record, record_of_row, texts};
+use mlr_event::ReadOpts;
+use mlr_fields::Header;
 use mlr_record::{Field, Record};
 use mlr_spec::{InferOpts, NoMemory};
-use mlr_value::{Bytes, Value, from_data, from_data_first};
+use mlr_value::{Bytes, Value, from_data};
 use std::alloc::Global;
 use std::marker::Model;
 
@@ -20,7 +25,7 @@ use std::marker::Model;
 #[derive(Drop)]
 pub(crate) struct Row {
     alloc: Global,
-    /// The fields that have ended, without names.
+    /// The fields that have ended. A field may have its name already.
     fields: Vec<Field>,
     /// Whether the quote of the next field is open.
     quoted: bool,
@@ -85,24 +90,6 @@ impl Row {
         Ok(())
     }
 
-    /// Appends an unquoted field of the first `len` bytes of this text.
-    #[inline(always)]
-    pub(crate) fn push_first(
-        &mut self,
-        text: &[u8],
-        len: usize,
-        infer: InferOpts,
-    ) -> Result<(), NoMemory>
-        requires closed { self.old.quotes ≡ None }
-        requires within { len ≤ length text.now }
-        ensures { OnOk result (self.new
-            ≡ with_value self.old (tree_of_data infer (take len text.now))) }
-    {
-        let value = from_data_first(self.alloc, text, len, infer)?;
-        self.fields.push(unnamed(self.alloc, value))?;
-        Ok(())
-    }
-
     /// Appends text to the open quote, and opens one if none is open.
     #[inline]
     pub(crate) fn append(&mut self, text: &[u8]) -> Result<(), NoMemory>
@@ -134,6 +121,40 @@ impl Row {
         ensures { result ≡ length self.now.values }
     {
         self.fields.len()
+    }
+
+    /// Whether it has no field yet, not even an open one.
+    #[inline]
+    pub(crate) fn is_new(&self) -> bool
+        ensures { result ≡ true → self.now ≡ no_row }
+    {
+        !self.quoted && self.fields.is_empty()
+    }
+
+    /// Reads the first line of a row under these names, made distinct. Returns the row's record if each name has an
+    /// unquoted field; else the row has the fields.
+    pub(crate) fn take_named(
+        &mut self,
+        opts: &ReadOpts,
+        names: &Header,
+        text: &[u8],
+    ) -> Result<Option<Record>, NoMemory>
+        requires ifs { 0 < length opts.now.ifs }
+        requires new { self.old ≡ no_row }
+        ensures made { IfOk result (λ made. MatchOption made
+            (self.new ≡ row_with opts.now.infer no_row (csv_reading opts.now.ifs text.now))
+            (λ given. IsNamed names.now
+            (row_with opts.now.infer no_row (csv_reading opts.now.ifs text.now)) given)) }
+        ensures empty { IfOk result (λ made. IfSome made (λ given. self.new ≡ no_row)) }
+    {
+        match take_plain(self.alloc, opts, names.keys(), &mut self.fields, text)? {
+            Some(rest) => take_fields(opts, self, rest)?,
+            None if self.fields.len() == names.len() => {
+                return Ok(Some(named_record(self.alloc, names, &mut self.fields)?));
+            }
+            None => {}
+        }
+        Ok(None)
     }
 
     /// Drops all fields.

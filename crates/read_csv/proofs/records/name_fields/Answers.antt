@@ -20,8 +20,8 @@ loop-place-preserved c =
       values = values-same fields place field name ∙ c.loop-place.invariant.values;
     }
 
-pub returns : goal.returns
-returns c =
+pub returns-clause-pairs : goal.returns-clause-pairs
+returns-clause-pairs c =
     let fields = c.loop-place.fields in
     let place = c.loop-place.place in
     let names = c.args.names.now in
