@@ -12,7 +12,7 @@ use Rattle.read_csv.specs.OpenRow.{Reading, RowState, csv_reading}
 abbrev pub with_values : List Tree → RowState
 with_values values = record { values = values; quotes = None }
 
--- the reading of the text that is left, if there is one
+-- the reading of the remaining text, if there is one
 abbrev pub left_reading : List ℕ → Option (List ℕ) → Reading
 left_reading separator None = record { fields = []; left_open = None }
 left_reading separator (Some text) = csv_reading separator text

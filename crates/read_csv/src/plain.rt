@@ -17,7 +17,7 @@ use mlr_value::{Bytes, from_data_first};
 use std::alloc::Global;
 
 /// Reads the fields of a row up to the first quoted one, each under the name of its place, as long as there are
-/// names. Returns the text that is left, unless the row has ended.
+/// names. Returns the text that remains, unless the row has ended.
 pub(crate) fn take_plain<'t>(
     alloc: Global,
     opts: &ReadOpts,
