@@ -6,6 +6,7 @@ ghost use Rattle.mlr_time.specs.Times.{year_of, month_of, day_of, two_digits, fo
 use jiff_core::civil::Date;
 
 /// The date of a day in the years 0 to 9999. Days count from 1970-01-01.
+#[inline(always)]
 fn date_of(day: i64) -> Date
     requires { IsBetween (neg_ℤ (pos 719_528)) (pos 2_932_896) day }
     ensures year { result.year ≡ pos (year_of day) }
@@ -16,6 +17,7 @@ fn date_of(day: i64) -> Date
 }
 
 /// The date of a day in the years 0 to 9999, as `2017-07-14`.
+#[inline(always)]
 pub fn date_text(day: i64) -> [u8; 10]
     requires { IsBetween (neg_ℤ (pos 719_528)) (pos 2_932_896) day }
     ensures { result ≡ date_text day }
@@ -28,6 +30,7 @@ pub fn date_text(day: i64) -> [u8; 10]
 }
 
 /// The time of day that is so many seconds after midnight, as `02:40:00`.
+#[inline(always)]
 pub fn time_text(seconds: u32) -> [u8; 8]
     requires { seconds < 86_400 }
     ensures { result ≡ time_text seconds }
@@ -38,15 +41,23 @@ pub fn time_text(seconds: u32) -> [u8; 8]
     [h1, h2, b':', m1, m2, b':', s1, s2]
 }
 
+/// The two digits of each number below 100, one number after another.
+static PAIRS: [u8; 200] =
+    *b"00010203040506070809101112131415161718192021222324252627282930313233343536373839404142434445464748495051525354555657585960616263646566676869707172737475767778798081828384858687888990919293949596979899";
+
 /// The two decimal digits of a number below 100.
+#[inline(always)]
 fn two_digits(n: u8) -> [u8; 2]
     requires { n < 100 }
     ensures { result ≡ two_digits n }
 {
-    [b'0' + n / 10, b'0' + n % 10]
+    let first = n as usize * 2;
+    let (tens, ones) = (PAIRS[first], PAIRS[first + 1]);
+    [tens, ones]
 }
 
 /// The four decimal digits of a number below 10000.
+#[inline(always)]
 fn four_digits(n: u16) -> [u8; 4]
     requires { n < 10_000 }
     ensures { result ≡ four_digits n }

@@ -50,17 +50,40 @@ const LAST: i64 = 253_402_300_799;
 const DAY: i64 = 86_400;
 
 /// The date and time of day of a second in the years 0 to 9999, as `2017-07-14T02:40:00Z`.
+#[inline(always)]
 fn gmt_at(second: i64) -> [u8; 20]
     requires { has_date second ≡ true }
     ensures { result ≡ date_text (day_at second) ++ 84 ∷ time_text (seconds_at second) ++ 90 ∷ [] }
 {
-    let mut text = *b"0000-00-00T00:00:00Z";
-    text[..10].copy_from_slice(&date_at(second));
-    text[11..19].copy_from_slice(&time_text(second.rem_euclid(DAY) as u32));
-    text
+    let [y1, y2, y3, y4, after_year, m1, m2, after_month, d1, d2] = date_at(second);
+    let seconds = second.rem_euclid(DAY) as u32;
+    let [h1, h2, after_hour, n1, n2, after_minute, s1, s2] = time_text(seconds);
+    [
+        y1,
+        y2,
+        y3,
+        y4,
+        after_year,
+        m1,
+        m2,
+        after_month,
+        d1,
+        d2,
+        b'T',
+        h1,
+        h2,
+        after_hour,
+        n1,
+        n2,
+        after_minute,
+        s1,
+        s2,
+        b'Z',
+    ]
 }
 
 /// The date of a second in the years 0 to 9999.
+#[inline(always)]
 fn date_at(second: i64) -> [u8; 10]
     requires { has_date second ≡ true }
     ensures { result ≡ date_text (day_at second) }
