@@ -12,3 +12,4 @@ pub mod Walk
 pub mod Files
 pub mod Prefixes
 pub mod Crosses
+mod Separating

@@ -10,8 +10,9 @@ use Rattle.mlr_event.specs.declared.options.ReadOpts.{ReadOpts}
 use Rattle.mlr_event.specs.declared.options.Format.TheVariants as format
 use Rattle.mlr_event.specs.declared.fault.Fault.TheVariants.{Length}
 use Rattle.mlr_event.specs.Reading.{distinct_names, fault, fields, record_of}
-use Rattle.read_csv.specs.Csv.{before_next}
-use Rattle.read_csv.specs.OpenRow.{RowState, after_row_field, csv_reading, field_row, no_row, quoted_row, row_taken, row_with, starts_quoted, tsv_reading, with_value}
+use Rattle.mlr_spec.specs.Split.{place_in}
+use Rattle.read_csv.specs.Csv.{after_next, before_next}
+use Rattle.read_csv.specs.OpenRow.{RowState, after_quoted, after_row_field, csv_reading, field_row, no_row, quoted_row, row_taken, row_with, starts_quoted, tsv_reading, with_value}
 use Rattle.read_csv.specs.Naming.{IsGiven, IsNamed, left_reading, with_values}
 use Rattle.read_csv.specs.Rows.{row_keys}
 use Rattle.read_csv.proofs.Readings.{field-last, field-more}
@@ -53,6 +54,31 @@ module _ (opts : ReadOpts) (values : List Tree) (text : List ℕ) (some : 0 < le
   plain-left (Some rest) is =
       ap (λ row. row_with opts.infer row (csv_reading opts.ifs rest)) plain-row
       ∙ field-more opts (with_values values) text some refl rest (sym is)
+
+-- the row after a field of a text that isn't quoted, which the end or a separator follows
+module _ (opts : ReadOpts) (values now : List Tree) (text : List ℕ) (some : 0 < length opts.ifs) (plain : starts_quoted text ≡ false) where
+  after-plain : after_row_field opts.ifs text ≡ after_next opts.ifs text
+  after-plain = ap (λ quoted. cond quoted (after_quoted opts.ifs (drop 1 text)) (after_next opts.ifs text)) plain
+
+  abbrev before : Option ℕ → List ℕ
+  before place = elim place [ Some n ↦ take n text | None ↦ text ]
+
+  abbrev following : Option ℕ → Option (List ℕ)
+  following place = elim place [ Some n ↦ Some (drop (n + length opts.ifs) text) | None ↦ None ]
+
+  found : (place : Option ℕ) → place_in opts.ifs text ≡ place → now ≡ values ++ tree_of_data opts.infer (before place) ∷ []
+      → row_with opts.infer (with_values now) (left_reading opts.ifs (following place)) ≡ row_with opts.infer (with_values values) (csv_reading opts.ifs text)
+  found place is now_is =
+      ap (λ v. row_with opts.infer (with_values v) (left_reading opts.ifs (following place))) (now_is ∙ ap (λ p. values ++ tree_of_data opts.infer (before p) ∷ []) (sym is))
+      ∙ plain-left opts values text some plain (following place) (sym (after-plain ∙ ap following is))
+
+  pub plain-last : place_in opts.ifs text ≡ None → now ≡ values ++ tree_of_data opts.infer text ∷ []
+      → row_with opts.infer (with_values now) (left_reading opts.ifs None) ≡ row_with opts.infer (with_values values) (csv_reading opts.ifs text)
+  plain-last = found None
+
+  pub plain-more : (len : ℕ) → place_in opts.ifs text ≡ Some len → now ≡ values ++ tree_of_data opts.infer (take len text) ∷ []
+      → row_with opts.infer (with_values now) (csv_reading opts.ifs (drop (len + length opts.ifs) text)) ≡ row_with opts.infer (with_values values) (csv_reading opts.ifs text)
+  plain-more len = found (Some len)
 
 -- the record of a row with a value for each name is what the row gives
 or-true : (a b : Bool) → b ≡ true → (a || b) ≡ true

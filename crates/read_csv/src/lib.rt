@@ -12,6 +12,7 @@ mod records;
 mod row;
 mod row_outcome;
 mod rules;
+mod separators;
 mod tsv;
 
 pub use laws::prefix_laws;

@@ -1,13 +1,12 @@
-use Rattle.std.proofs.Common.{rules, ◌≡◌, ◌+◌, ◌-◌, ◌≤◌, ◌<◌, ◌^◌, ◌||◌, [], length, take, ap, ap₂, sym, ◌∙◌, arith, length-take}
+use Rattle.std.proofs.Common.{rules, ◌≡◌, ◌+◌, ◌-◌, ◌≤◌, ◌||◌, [], length, take, ap, ap₂, sym, ◌∙◌, arith, length-take}
 use Rattle.std.proofs.lemmas.List.{length-map}
-use Rattle.std.proofs.lemmas.Result.{IfOk-weaker}
 use Rattle.std.specs.Vec.{vec_len}
-use Rattle.std.specs.List.{drop-map, zip}
+use Rattle.std.specs.List.{drop-map}
 use Rattle.mlr_event.specs.Rows.{with_fields}
-use Rattle.mlr_event.specs.Reading.{distinct_names, record_of}
+use Rattle.mlr_event.specs.Reading.{record_of}
 use Rattle.read_csv.specs.OpenRow.{value_in, values_in}
 use Rattle.read_csv.specs.Rows.{positions_from, row_keys}
-use Rattle.read_csv.proofs.Recording.{fields-distinct, full-made, row-made, length-with_fields}
+use Rattle.read_csv.proofs.Recording.{fields-distinct, row-made, length-with_fields}
 use Rattle.read_csv.proofs.records.other_record.Goals as goal
 
 pub put_surplus-requires-clause-into : goal.put_surplus-requires-clause-into
