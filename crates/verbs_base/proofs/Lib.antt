@@ -4,3 +4,4 @@ pub mod Filters
 pub mod Picking
 pub mod Places
 mod Moving
+mod Swapping

@@ -28,7 +28,7 @@ rotated fields prefix i d below turned =
     ∙ ap₂ (λ x y. x ++ y) (drop_at (take i fields) last i long) (take_at (take i fields) last i long) in
     ap (λ x. x ++ drop (i + 1) fields) is ∙ ap (λ m. get_or fields i d ∷ (take i fields ++ drop m fields)) (add-one i)
 
-some-at : (fields : List Field) (i : ℕ) → i < length fields → (d : Field) × (d ≡ get_or fields i d)
+pub some-at : (fields : List Field) (i : ℕ) → i < length fields → (d : Field) × (d ≡ get_or fields i d)
 some-at [] i below = absurd (omega arith)
 some-at (f ∷ fields) i below = let d = get_or (f ∷ fields) i f in (d, get_or_default (f ∷ fields) i f d below)
 
@@ -58,13 +58,41 @@ IsMoving names left all taken rest = record {
   drops : dropped left rest ≡ dropped names all;
 }
 
-one-more : (o : Option (List ℕ × Tree)) (xs ys : List (List ℕ × Tree)) → (xs ++ option_to_list o) ++ ys ≡ xs ++ cons_option o ys
+-- the rest of the fields from a place on, as a slice reads it
+pub part-is : (fields : List Field) (count : ℕ) → pairs_of (take (length fields - count) (drop count fields)) ≡ drop count (pairs_of fields)
+part-is fields count = ap pairs_of (take_rest fields count) ∙ sym (drop-map pair_of count fields)
+
+pub one-more : (o : Option (List ℕ × Tree)) (xs ys : List (List ℕ × Tree)) → (xs ++ option_to_list o) ++ ys ≡ xs ++ cons_option o ys
 one-more None xs ys = ap (λ x. x ++ ys) (append-nil xs)
 one-more (Some x) xs ys = append_assoc xs (x ∷ []) ys
 
 length-one : (o : Option (List ℕ × Tree)) (xs : List (List ℕ × Tree)) (count : ℕ) → length xs ≡ count → length (xs ++ option_to_list o) ≡ cond (is_some o) (count + 1) count
 length-one None xs count is = ap length (append-nil xs) ∙ is
 length-one (Some x) xs count is = length-append xs (x ∷ []) ∙ ap (λ n. n + 1) is
+
+-- where the rest of the fields begins at a place, a found field that comes first there is taken
+pub taken-one : (name : List ℕ) (fields rest : List Field) (others : List (List ℕ × Tree)) (count n : ℕ) → count ≤ length (pairs_of fields)
+    → pairs_of rest ≡ cons_option (named (pairs_of (take (length fields - count) (drop count fields))) name) others
+    → n ≡ cond (is_some (named (pairs_of (take (length fields - count) (drop count fields))) name)) (count + 1) count
+    → (n ≤ length (pairs_of (put_mid count (length fields - count) fields rest)))
+    × (take n (pairs_of (put_mid count (length fields - count) fields rest)) ≡ take count (pairs_of fields) ++ option_to_list (named (drop count (pairs_of fields)) name))
+    × (drop n (pairs_of (put_mid count (length fields - count) fields rest)) ≡ others)
+taken-one name fields rest others count n within first counted =
+    let before = take count (pairs_of fields) in
+    let found = named (drop count (pairs_of fields)) name in
+    let taken = before ++ option_to_list found in
+    let after = pairs_of (put_mid count (length fields - count) fields rest) in
+    let whole : after ≡ taken ++ others =
+    ap pairs_of (put-end count fields rest)
+    ∙ map-append pair_of (take count fields) rest
+    ∙ ap₂ (λ x y. x ++ y) (sym (take-map pair_of count fields)) (first ∙ ap (λ x. cons_option (named x name) others) (part-is fields count))
+    ∙ sym (one-more found before others) in
+    let long : length taken ≡ n =
+    length-one found before count (length-take-le count (pairs_of fields) within) ∙ sym (counted ∙ ap (λ x. cond (is_some (named x name)) (count + 1) count) (part-is fields count)) in (
+      let e = ap length whole in let l = length-append taken others in omega arith,
+      ap (take n) whole ∙ take_at taken others n long,
+      ap (drop n) whole ∙ drop_at taken others n long,
+    )
 
 -- one name more, where the rest of the fields begins at a place
 pub moves : (names left : List (List ℕ)) (name : List ℕ) (all : List (List ℕ × Tree)) (fields rest : List Field) (count n : ℕ)
@@ -76,24 +104,14 @@ pub moves : (names left : List (List ℕ)) (name : List ℕ) (all : List (List �
 moves names left name all fields rest count n within moving moved counted =
     let before = take count (pairs_of fields) in
     let others = drop count (pairs_of fields) in
-    let part : pairs_of (take (length fields - count) (drop count fields)) ≡ others = ap pairs_of (take_rest fields count) ∙ sym (drop-map pair_of count fields) in
     let found = named others name in
-    let taken = before ++ option_to_list found in
-    let after = pairs_of (put_mid count (length fields - count) fields rest) in
-    let whole : after ≡ taken ++ remove_at name others =
-    ap pairs_of (put-end count fields rest)
-    ∙ map-append pair_of (take count fields) rest
-    ∙ ap₂ (λ x y. x ++ y) (sym (take-map pair_of count fields)) (moved ∙ ap (λ x. cons_option (named x name) (remove_at name x)) part)
-    ∙ sym (one-more found before (remove_at name others)) in
-    let long : length taken ≡ n =
-    length-one found before count (length-take-le count (pairs_of fields) within) ∙ sym (counted ∙ ap (λ x. cond (is_some (named x name)) (count + 1) count) part) in
-    let first : take n after ≡ taken = ap (take n) whole ∙ take_at taken (remove_at name others) n long in
-    let second : drop n after ≡ remove_at name others = ap (drop n) whole ∙ drop_at taken (remove_at name others) n long in (
-      let e = ap length whole in let l = length-append taken (remove_at name others) in omega arith,
+    let one = taken-one name fields rest (remove_at name (pairs_of (take (length fields - count) (drop count fields)))) count n within moved counted in
+    let second = one.2 ∙ ap (remove_at name) (part-is fields count) in (
+      one.0,
       record {
         distinct = ap (λ x. are_distinct (keys_of x)) second ∙ are_distinct-remove name others moving.distinct;
         picks =
-            ap₂ (λ x y. x ++ picked left y) first second
+            ap₂ (λ x y. x ++ picked left y) one.1 second
             ∙ one-more found before (picked left (remove_at name others))
             ∙ ap (λ x. before ++ x) (sym (picked-more name others moving.distinct left))
             ∙ moving.picks;

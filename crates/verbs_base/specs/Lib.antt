@@ -4,3 +4,4 @@ pub mod Records
 pub mod Taking
 pub mod Laws
 pub mod OverEvents
+pub mod Swapping

@@ -3,7 +3,7 @@ ghost use Rattle.std.specs.Prelude.{◌≡◌};
 ghost use Rattle.mlr_value.specs.Value.{tree_of};
 ghost use Rattle.verbs_base.specs.Choosing.{dropped, is_empty, kept, picked};
 
-use crate::extraction::{drop_after, move_named};
+use crate::extraction::{drop_after, swap_named};
 use crate::field_choice::is_named;
 use mlr_event::Names;
 use mlr_record::Record;
@@ -35,7 +35,7 @@ pub fn pick_named(names: &Names, from: Record) -> Record
 {
     let mut fields = from.into_fields();
     let alloc = *fields.allocator();
-    let count = move_named(names.as_slice(), &mut fields);
+    let count = swap_named(names.as_slice(), &mut fields);
     drop_after(&mut fields, count);
     Record::of_fields(alloc, fields)
 }

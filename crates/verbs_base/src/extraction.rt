@@ -5,6 +5,7 @@ ghost use Rattle.std.specs.Option.{is_some, option_map};
 ghost use Rattle.mlr_spec.specs.Pairs.{remove_at, keys_of, are_distinct};
 ghost use Rattle.mlr_record.specs.Fields.{IsPlaceOf, pair_of, pairs_of};
 ghost use Rattle.verbs_base.specs.Choosing.{named, picked, dropped};
+ghost use Rattle.verbs_base.specs.Swapping.{IsSwapped};
 
 use mlr_record::Field;
 use mlr_value::Bytes;
@@ -20,6 +21,7 @@ pub fn take_field(fields: &mut Vec<Field>, name: &Bytes) -> Option<Field>
 }
 
 /// The place of the field with this name.
+#[inline(always)]
 fn place_of(fields: &[Field], name: &Bytes) -> Option<usize>
     ensures { IsPlaceOf name.now fields.now result }
 {
@@ -58,6 +60,36 @@ fn move_first(fields: &mut [Field], name: &Bytes) -> bool
         return false;
     };
     fields[..place + 1].rotate_right(1);
+    true
+}
+
+/// Swaps the named fields to the start, in the order of the names, and returns how many they are. The others follow in any
+/// order. A name that repeats counts once. It doesn't allocate.
+pub(crate) fn swap_named(names: &[Bytes], fields: &mut [Field]) -> usize
+    requires { are_distinct (keys_of (pairs_of fields.old)) ≡ true }
+    ensures count { result ≡ length (picked names.now (pairs_of fields.old)) }
+    ensures swapped { take result (pairs_of fields.new) ≡ picked names.now (pairs_of fields.old) }
+{
+    let mut count = 0;
+    for name in names {
+        if swap_first(&mut fields[count..], name) {
+            count += 1;
+        }
+    }
+    count
+}
+
+/// Swaps the field of this name with the first, if there is one, and returns whether there is one.
+#[inline(always)]
+fn swap_first(fields: &mut [Field], name: &Bytes) -> bool
+    requires { are_distinct (keys_of (pairs_of fields.old)) ≡ true }
+    ensures found { result ≡ is_some (named (pairs_of fields.old) name.now) }
+    ensures swapped { IsSwapped name.now (pairs_of fields.old) (pairs_of fields.new) }
+{
+    let Some(place) = place_of(fields, name) else {
+        return false;
+    };
+    fields.swap(0, place);
     true
 }
 
