@@ -4,7 +4,6 @@ use Rattle.std.proofs.Math.Seq.{drop-cons}
 use Rattle.std.proofs.lemmas.List.{append-nil, drop_all}
 use Rattle.mlr_event.specs.declared.event.Event.{Event}
 use Rattle.mlr_event.specs.Verb as meaning
-use Rattle.plan_verbs.specs.declared.verb.Verb.{Verb}
 use Rattle.verbs_base.specs.Records.{verb_of}
 use Rattle.verbs_join_nest.specs.Meaning as shape
 use Rattle.verbs_retain.specs.Meaning as retain
@@ -14,7 +13,7 @@ use Rattle.verbs_stream.specs.Meaning as stream
 use Rattle.verb_specs.specs.declared.verb_spec.VerbSpec.{VerbSpec}
 use Rattle.verb_specs.specs.declared.verb_spec.VerbSpec.TheVariants.{Stream, Retain, Shape, Stat, Seq}
 use Rattle.verb_specs.specs.Verbs.{AreSound, AreVerbs, IsVerbOrSource, verb_with, verbs_with}
-use Rattle.plan_verbs.specs.Verbs.{AreNew, IsNew}
+use Rattle.plan_verbs.specs.Verbs.{AreNew, IsNew, Verb}
 
 abbrev pub AreVerbsOrSources : List VerbSpec → Type 0
 AreVerbsOrSources [] = Unit {0}

@@ -6,8 +6,15 @@ use Rattle.verbs_join_nest.specs.contracts.verb.ShapeVerbStep.TheImpl as shape
 use Rattle.verbs_retain.specs.contracts.verb.RetainVerbStep.TheImpl as retain
 use Rattle.verbs_stat.specs.contracts.verb.StatVerbStep.TheImpl as stat
 use Rattle.verbs_stream.specs.contracts.verb.StreamVerbStep.TheImpl as stream
-use Rattle.plan_verbs.specs.declared.verb.Verb.{Verb}
-use Rattle.plan_verbs.specs.declared.verb.Verb.TheVariants.{Stream, Retain, Shape, Stat}
+use Rattle.verbs_join_nest.specs.declared.verb.ShapeVerb.{ShapeVerb}
+use Rattle.verbs_retain.specs.declared.verb.RetainVerb.{RetainVerb}
+use Rattle.verbs_stat.specs.declared.verb.StatVerb.{StatVerb}
+use Rattle.verbs_stream.specs.declared.verb.StreamVerb.{StreamVerb}
+use Rattle.plan_verbs.specs.declared.one_of.OneOf.{OneOf}
+use Rattle.plan_verbs.specs.declared.one_of.OneOf.TheVariants.{Stream, Retain, Shape, Stat}
+
+abbrev pub Verb : Type 0
+Verb = OneOf StreamVerb RetainVerb ShapeVerb StatVerb
 
 abbrev pub meaning_in : Verb → meaning.Verb
 meaning_in = elim [ Stream s ↦ stream.ghosts.verb s | Retain s ↦ retain.ghosts.verb s | Shape s ↦ shape.ghosts.verb s | Stat s ↦ stat.ghosts.verb s ]

@@ -4,10 +4,12 @@
 
 mod chain;
 mod lefts;
+mod one_of;
 mod plan;
 mod verb;
 
 pub use chain::Chain;
 pub use lefts::{Lefts, left_files_of, lefts_for};
+pub use one_of::OneOf;
 pub use plan::{Plan, StyleList, VerbList};
 pub use verb::Verb;
