@@ -1,8 +1,12 @@
 -- A run of a plan, by what became of its left files.
-use Rattle.std.proofs.Common.{◌≡◌, List, Option, sym, subst}
+use Rattle.std.proofs.Common.{◌≡◌, ℕ, List, Option, refl, sym, subst, arith}
 use Rattle.mlr_event.specs.declared.event.Event.{Event}
 use Rattle.mlr_event.specs.declared.fault.Fault.{Fault}
 use Rattle.mlr_event.specs.declared.names.InputName.{InputName}
+use Rattle.mlr_event.specs.declared.names.Target.{Target}
+use Rattle.mlr_event.specs.declared.names.Target.TheVariants.{Stdout}
+use Rattle.mlr_world.specs.Counts.{Counted, Rose}
+use Rattle.outlet.specs.Represents.{CountedIf}
 use Rattle.std.specs.declared.alloc.Global.{Global}
 use Rattle.std.specs.declared.vec.Vec.{Vec}
 use Rattle.mlr_world.specs.Inputs.{Contents}
@@ -14,15 +18,18 @@ use Rattle.left_files.specs.declared.left_file.LeftFile.{LeftFile}
 use Rattle.left_files.specs.declared.reader.LeftTurn.{LeftTurn}
 use Rattle.left_files.specs.declared.reader.LeftTurn.TheVariants as turn
 use Rattle.left_files.specs.Lefts.{lefts_of, names_of, whole}
-use Rattle.left_files.specs.Represents.{ReadAll}
+use Rattle.left_files.specs.Represents.{ReadAll, TurnCause}
 use Rattle.left_files.proofs.Stopping.{LeftsFixed, SourceEarly}
 use Rattle.serial_core.specs.declared.answer.Ended.{Ended}
 use Rattle.serial_core.specs.declared.answer.Ended.TheVariants as answer
+use Rattle.serial_core.specs.Answer.{IsOfNoInput, has_failed, lacks_memory}
 use Rattle.serial_core.specs.Meaning.{Meaning, meaning_of}
+use Rattle.serial_core.specs.Represents.{InputCause}
 use Rattle.serial_core.specs.Run.{HoldsFew, Run}
 use Rattle.serial_core.proofs.Stopping.{SourceFixed, SourceGrows, SourceList}
 use Rattle.serial_core.proofs.Wholes.{ResultFixed, ResultGrows, TextGrows}
 use Rattle.plan_verbs.specs.declared.plan.Plan.{Plan}
+use Rattle.chain_core.specs.LeftOutcomes.{outcome_of}
 use Rattle.chain_core.specs.Meanings.{IsMeaningOf, meaning_by}
 use Rattle.chain_core.specs.PlanRun.{PlanRun}
 use Rattle.plan_verbs.specs.Plans.{left_files}
@@ -46,6 +53,31 @@ pub record RunLaws : Type 0 where
   pub texts : TextGrows
   pub lefts_fixed : LeftsFixed
   pub lefts_read : LeftsRead
+
+-- the outcome says of the counts what the reader of the left files does
+pub left-cause : (turned : LeftTurn) (before now : InputName → ℕ) → TurnCause turned before now → InputCause (outcome_of turned) before now
+left-cause (turn.Faulted fault) before now cause = cause
+left-cause (turn.Failed name) before now cause = cause
+left-cause turn.TooLong before now cause = cause
+left-cause turn.Went before now cause = cause
+left-cause (turn.Ended lefts) before now cause = cause
+left-cause turn.NoMemory before now cause = cause
+
+pub left-counts : (turned : LeftTurn) (faults : Target → ℕ) → Counted (has_failed (outcome_of turned)) faults faults Stdout
+left-counts (turn.Faulted fault) faults = λ other. refl
+left-counts (turn.Failed name) faults = λ other. refl
+left-counts turn.TooLong faults = λ other. refl
+left-counts turn.Went faults = λ other. refl
+left-counts (turn.Ended lefts) faults = λ other. refl
+left-counts turn.NoMemory faults = λ other. refl
+
+pub left-shortages : (turned : LeftTurn) (shortages : ℕ) → CountedIf (lacks_memory (outcome_of turned)) shortages shortages
+left-shortages (turn.Faulted fault) shortages = refl
+left-shortages (turn.Failed name) shortages = refl
+left-shortages turn.TooLong shortages = refl
+left-shortages turn.Went shortages = omega arith
+left-shortages (turn.Ended lefts) shortages = omega arith
+left-shortages turn.NoMemory shortages = omega arith
 
 module _ (laws : RunLaws) (plan : Plan) (meaning : Meaning) (is : IsMeaningOf plan meaning) (contents : Option Contents) (taken : Option (List Take)) where
   abbrev files : List LeftFile
@@ -95,6 +127,24 @@ module _ (laws : RunLaws) (plan : Plan) (meaning : Meaning) (is : IsMeaningOf pl
     left-few read holds =
         never-long files (origin_of plan) (verbs_by plan is.write) is.write laws.lefts_fixed read-left laws.early laws.all fixed-main grows-main contents taken read.given taken' entry' read.order read.following read.early read.few
         (subst (λ m. HoldsFew m contents taken) is.is holds) read.says.1
+
+    -- whatever became of them, but that all were read whole
+    pub left-ended : (turned : LeftTurn) → ReadAll turned files contents taken taken' entry' → (held : Option Held) → PlanRun (outcome_of turned) meaning is.rest contents taken taken' entry' held held
+    left-ended (turn.Faulted fault) read held = left-faulted fault read held
+    left-ended (turn.Failed name) read held = left-failed name read held
+    left-ended turn.TooLong read held = left-long read held
+    left-ended turn.Went read held = left-short turn.Went read held
+    left-ended (turn.Ended lefts) read held = left-short (turn.Ended lefts) read held
+    left-ended turn.NoMemory read held = left-short turn.NoMemory read held
+
+    pub left-completes : (turned : LeftTurn) (before now : InputName → ℕ) → ReadAll turned files contents taken taken' entry' → TurnCause turned before now → HoldsFew meaning contents taken
+        → ((name : InputName) → ¬ Rose (before name) (now name)) → IsOfNoInput (outcome_of turned)
+    left-completes (turn.Faulted fault) before now read cause holds quiet = tt
+    left-completes (turn.Failed name) before now read cause holds quiet = quiet name cause.1
+    left-completes turn.TooLong before now read cause holds quiet = left-few read holds
+    left-completes turn.Went before now read cause holds quiet = tt
+    left-completes (turn.Ended lefts) before now read cause holds quiet = tt
+    left-completes turn.NoMemory before now read cause holds quiet = tt
 
     module _ (lefts : Vec (List Event) Global) (read : ReadAll (turn.Ended lefts) files contents taken taken' entry') where
       pub main-following : (ended : Ended) (taken'' : Option (List Take)) (entry'' : Option OpenEntry) (held held' : Option Held) → Run ended (meaning_of (command_by plan is.write lefts.items)) contents taken' taken'' entry'' held held'

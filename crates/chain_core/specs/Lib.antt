@@ -3,3 +3,4 @@ pub mod Meanings
 pub mod Parts
 pub mod Outputs
 pub mod PlanRun
+pub mod LeftOutcomes

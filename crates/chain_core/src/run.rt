@@ -11,6 +11,7 @@ ghost use Rattle.serial_core.specs.Run.{HoldsFew, Run};
 ghost use Rattle.serial_core.specs.Represents.{InputCause};
 ghost use Rattle.chain_core.specs.PlanRun.{PlanRun};
 ghost use Rattle.chain_core.specs.Meanings.{IsCommandOf, IsMeaningOf};
+ghost use Rattle.chain_core.specs.LeftOutcomes.{outcome_of};
 ghost use Rattle.chain_core.specs.Parts.{Runs};
 ghost use Rattle.plan_verbs.specs.Plans.{IsSound};
 ghost use Rattle.verb_specs.specs.Verbs.{lefts_for};
@@ -65,10 +66,19 @@ pub fn run_serial<I: Inputs, O: Outputs>(
     };
     match reader.read_all(inputs) {
         LeftTurn::Ended(held) => run_main(alloc, plan, held, inputs, outputs),
+        turn => outcome_of(turn),
+    }
+}
+
+/// The outcome of a run whose left files weren't all read whole.
+fn outcome_of(turn: LeftTurn) -> Ended
+    ensures { result ≡ outcome_of turn }
+{
+    match turn {
         LeftTurn::Faulted(fault) => Ended::Data(fault),
         LeftTurn::Failed(name) => Ended::Read(name),
         LeftTurn::TooLong => Ended::TooLong,
-        LeftTurn::Went | LeftTurn::NoMemory => Ended::NoMemory,
+        LeftTurn::Went | LeftTurn::Ended(_) | LeftTurn::NoMemory => Ended::NoMemory,
     }
 }
 

@@ -1,11 +1,16 @@
 use Rattle.std.proofs.Common.{refl, sym, subst}
-use Rattle.mlr_world.specs.Counts.{Rose}
+use Rattle.mlr_event.specs.declared.names.Target.TheVariants.{Stdout}
+use Rattle.mlr_world.specs.Counts.{Counted, Rose}
+use Rattle.outlet.specs.Represents.{CountedIf}
+use Rattle.serial_core.specs.Answer.{IsOfNoInput, has_failed, lacks_memory}
 use Rattle.serial_core.specs.declared.answer.Ended.TheVariants.{NoMemory}
 use Rattle.serial_core.specs.Meaning.{meaning_of}
 use Rattle.serial_core.specs.Run.{HoldsFew, Run}
+use Rattle.serial_core.specs.Represents.{InputCause}
+use Rattle.chain_core.specs.PlanRun.{PlanRun}
 use Rattle.chain_core.proofs.Each.{plain-run}
 use Rattle.chain_core.proofs.PlanLaws.{command_by, plan-plain}
-use Rattle.chain_core.proofs.PlanRuns.{RunLaws, left-failed, left-faulted, left-few, left-long, left-short, main-few, main-following}
+use Rattle.chain_core.proofs.PlanRuns.{RunLaws, left-cause, left-completes, left-counts, left-ended, left-shortages, main-few, main-following}
 use Rattle.chain_core.proofs.Runs.{unread}
 use Rattle.chain_core.proofs.run.run_serial.Goals as goal
 
@@ -62,70 +67,6 @@ returns-in-Ended-clause-completes g c meaning is holds quiet =
     (subst (λ told. HoldsFew (meaning_of command) told taken') (sym c.read_all.ensures.contents) few)
     (λ name. subst (λ n. Rose n (g.I.Inputs.faults c.run_main.new.inputs name) → ⊥) (sym (c.in-Ended.ensures.cause name)) (quiet name))
 
-pub returns-in-Faulted-clause-run : goal.returns-in-Faulted-clause-run
-returns-in-Faulted-clause-run g c meaning is =
-    let laws : RunLaws = record {
-      lists = c.source_laws.ensures.list;
-      grows = c.source_laws.ensures.grows;
-      fixed = c.source_laws.ensures.fixed;
-      early = c.source_laws.ensures.early;
-      all = c.source_laws.ensures.all;
-      growth = c.chain_laws.ensures.growth;
-      texts = c.outlet_laws.ensures;
-      lefts_fixed = c.left_laws.ensures.fixed;
-      lefts_read = c.left_laws.ensures.read;
-    } in
-    left-faulted laws c.args.plan.now meaning is (g.I.Inputs.contents c.args.inputs.now) (g.I.Inputs.taken c.args.inputs.now) (g.I.Inputs.taken c.read_all.new.inputs) (g.I.Inputs.open_entry c.read_all.new.inputs) c.in-Faulted.fault
-    (c.in-Faulted.ensures.read c.args.plan.now c.in-Ok.ensures) (g.O.Outputs.held c.args.outputs.now)
-
-pub returns-in-Failed-clause-run : goal.returns-in-Failed-clause-run
-returns-in-Failed-clause-run g c meaning is =
-    let laws : RunLaws = record {
-      lists = c.source_laws.ensures.list;
-      grows = c.source_laws.ensures.grows;
-      fixed = c.source_laws.ensures.fixed;
-      early = c.source_laws.ensures.early;
-      all = c.source_laws.ensures.all;
-      growth = c.chain_laws.ensures.growth;
-      texts = c.outlet_laws.ensures;
-      lefts_fixed = c.left_laws.ensures.fixed;
-      lefts_read = c.left_laws.ensures.read;
-    } in
-    left-failed laws c.args.plan.now meaning is (g.I.Inputs.contents c.args.inputs.now) (g.I.Inputs.taken c.args.inputs.now) (g.I.Inputs.taken c.read_all.new.inputs) (g.I.Inputs.open_entry c.read_all.new.inputs) c.in-Failed.name
-    (c.in-Failed.ensures.read c.args.plan.now c.in-Ok.ensures) (g.O.Outputs.held c.args.outputs.now)
-
-pub returns-in-TooLong-clause-run : goal.returns-in-TooLong-clause-run
-returns-in-TooLong-clause-run g c meaning is =
-    let laws : RunLaws = record {
-      lists = c.source_laws.ensures.list;
-      grows = c.source_laws.ensures.grows;
-      fixed = c.source_laws.ensures.fixed;
-      early = c.source_laws.ensures.early;
-      all = c.source_laws.ensures.all;
-      growth = c.chain_laws.ensures.growth;
-      texts = c.outlet_laws.ensures;
-      lefts_fixed = c.left_laws.ensures.fixed;
-      lefts_read = c.left_laws.ensures.read;
-    } in
-    left-long laws c.args.plan.now meaning is (g.I.Inputs.contents c.args.inputs.now) (g.I.Inputs.taken c.args.inputs.now) (g.I.Inputs.taken c.read_all.new.inputs) (g.I.Inputs.open_entry c.read_all.new.inputs)
-    (c.in-TooLong.ensures.read c.args.plan.now c.in-Ok.ensures) (g.O.Outputs.held c.args.outputs.now)
-
-pub returns-in-TooLong-clause-completes : goal.returns-in-TooLong-clause-completes
-returns-in-TooLong-clause-completes g c meaning is holds quiet =
-    let laws : RunLaws = record {
-      lists = c.source_laws.ensures.list;
-      grows = c.source_laws.ensures.grows;
-      fixed = c.source_laws.ensures.fixed;
-      early = c.source_laws.ensures.early;
-      all = c.source_laws.ensures.all;
-      growth = c.chain_laws.ensures.growth;
-      texts = c.outlet_laws.ensures;
-      lefts_fixed = c.left_laws.ensures.fixed;
-      lefts_read = c.left_laws.ensures.read;
-    } in
-    left-few laws c.args.plan.now meaning is (g.I.Inputs.contents c.args.inputs.now) (g.I.Inputs.taken c.args.inputs.now) (g.I.Inputs.taken c.read_all.new.inputs) (g.I.Inputs.open_entry c.read_all.new.inputs)
-    (c.in-TooLong.ensures.read c.args.plan.now c.in-Ok.ensures) holds
-
 pub returns-clause-run : goal.returns-clause-run
 returns-clause-run g c meaning is =
     let laws : RunLaws = record {
@@ -139,5 +80,47 @@ returns-clause-run g c meaning is =
       lefts_fixed = c.left_laws.ensures.fixed;
       lefts_read = c.left_laws.ensures.read;
     } in
-    left-short laws c.args.plan.now meaning is (g.I.Inputs.contents c.args.inputs.now) (g.I.Inputs.taken c.args.inputs.now) (g.I.Inputs.taken c.read_all.new.inputs) (g.I.Inputs.open_entry c.read_all.new.inputs) c.read_all.result
-    (c.read_all.ensures.read c.args.plan.now c.in-Ok.ensures) (g.O.Outputs.held c.args.outputs.now)
+    let contents = g.I.Inputs.contents c.args.inputs.now in
+    let taken = g.I.Inputs.taken c.args.inputs.now in
+    let taken' = g.I.Inputs.taken c.read_all.new.inputs in
+    let entry' = g.I.Inputs.open_entry c.read_all.new.inputs in
+    let held = g.O.Outputs.held c.args.outputs.now in
+    subst (λ ended. PlanRun ended meaning is.rest contents taken taken' entry' held held) (sym c.outcome_of.ensures)
+    (left-ended laws c.args.plan.now meaning is contents taken taken' entry' c.read_all.result (c.read_all.ensures.read c.args.plan.now c.in-Ok.ensures) held)
+
+pub returns-clause-cause : goal.returns-clause-cause
+returns-clause-cause g c =
+    let before = g.I.Inputs.faults c.args.inputs.now in
+    let now = g.I.Inputs.faults c.read_all.new.inputs in
+    subst (λ ended. InputCause ended before now) (sym c.outcome_of.ensures) (left-cause c.read_all.result before now c.read_all.ensures.cause)
+
+pub returns-clause-counts : goal.returns-clause-counts
+returns-clause-counts g c =
+    let faults = g.O.Outputs.faults c.args.outputs.now in
+    subst (λ ended. Counted (has_failed ended) faults faults Stdout) (sym c.outcome_of.ensures) (left-counts c.read_all.result faults)
+
+pub returns-clause-shortages : goal.returns-clause-shortages
+returns-clause-shortages g c =
+    let shortages = g.O.Outputs.shortages c.args.outputs.now in
+    subst (λ ended. CountedIf (lacks_memory ended) shortages shortages) (sym c.outcome_of.ensures) (left-shortages c.read_all.result shortages)
+
+pub returns-clause-completes : goal.returns-clause-completes
+returns-clause-completes g c meaning is holds quiet =
+    let laws : RunLaws = record {
+      lists = c.source_laws.ensures.list;
+      grows = c.source_laws.ensures.grows;
+      fixed = c.source_laws.ensures.fixed;
+      early = c.source_laws.ensures.early;
+      all = c.source_laws.ensures.all;
+      growth = c.chain_laws.ensures.growth;
+      texts = c.outlet_laws.ensures;
+      lefts_fixed = c.left_laws.ensures.fixed;
+      lefts_read = c.left_laws.ensures.read;
+    } in
+    let contents = g.I.Inputs.contents c.args.inputs.now in
+    let taken = g.I.Inputs.taken c.args.inputs.now in
+    let taken' = g.I.Inputs.taken c.read_all.new.inputs in
+    let entry' = g.I.Inputs.open_entry c.read_all.new.inputs in
+    subst IsOfNoInput (sym c.outcome_of.ensures)
+    (left-completes laws c.args.plan.now meaning is contents taken taken' entry' c.read_all.result (g.I.Inputs.faults c.args.inputs.now) (g.I.Inputs.faults c.read_all.new.inputs)
+    (c.read_all.ensures.read c.args.plan.now c.in-Ok.ensures) c.read_all.ensures.cause holds quiet)
