@@ -1,6 +1,7 @@
 pub mod Reading
 pub mod Rows
 pub mod Stream
+pub mod InPlace
 pub mod Adding
 pub mod Verb
 pub mod Parts

@@ -1,12 +1,17 @@
 //! Lists of events.
-ghost use Rattle.std.specs.Prelude.{◌≡◌, ◌++◌, ◌∷◌, [], length, if◌then◌else◌, is_ok, slice_get, None};
+ghost use Rattle.std.specs.Prelude.{◌≡◌, ◌<◌, ◌++◌, ◌∷◌, [], length, set, take, if◌then◌else◌, is_ok, slice_get, slice_index_or, None};
+ghost use Rattle.std.specs.List.{swap};
 ghost use Rattle.std.specs.Option.{option_map, option_to_list};
+ghost use Rattle.mlr_event.specs.declared.event.Event.{Event as SpecEvent};
+ghost use Rattle.mlr_event.specs.InPlace.{fields_in, with_fields};
 
 use crate::Event;
+use mlr_record::Record;
 use mlr_spec::NoMemory;
 use std::alloc::Global;
 use std::collections::VecDeque;
 use std::marker::Model;
+use std::mem::{replace, swap};
 
 /// A list of events, in order. It is filled at its end and emptied from its start, and keeps its memory.
 pub struct Events {
@@ -86,11 +91,47 @@ impl Events {
         self.events.pop_back()
     }
 
-    /// Appends all events of another list, and leaves it empty.
+    /// Replaces the fields of the record at this place, and returns those that it had. Another event stays as it is. It
+    /// doesn't allocate.
+    #[inline]
+    pub fn replace_fields(&mut self, place: usize, fields: Record) -> Option<Record>
+        requires { place < length self.old }
+        ensures had { (e : SpecEvent) → result ≡ fields_in (slice_index_or self.old place e) }
+        ensures new { (e : SpecEvent) → self.new
+            ≡ set self.old place (with_fields fields (slice_index_or self.old place e)) }
+    {
+        match &mut self.events[place] {
+            Event::Rec(record, _) => Some(replace(record, fields)),
+            _ => None,
+        }
+    }
+
+    /// Swaps the events at two places. It doesn't allocate.
+    #[inline]
+    pub fn swap(&mut self, one: usize, other: usize)
+        requires one { one < length self.old }
+        requires other { other < length self.old }
+        ensures { self.new ≡ swap self.old one other }
+    {
+        self.events.swap(one, other);
+    }
+
+    /// Drops the events after the first `count`.
+    pub fn truncate(&mut self, count: usize)
+        ensures { self.new ≡ take count self.old }
+    {
+        self.events.truncate(count);
+    }
+
+    /// Appends all events of another list, and leaves it empty. An empty list swaps its memory with the other's.
     pub fn append(&mut self, other: &mut Events) -> Result<(), NoMemory>
         ensures events { self.new ≡ (if is_ok result then self.old ++ other.old else self.old) }
         ensures other { other.new ≡ (if is_ok result then [] else other.old) }
     {
+        if self.events.is_empty() {
+            swap(&mut self.events, &mut other.events);
+            return Ok(());
+        }
         self.events.append(&mut other.events)?;
         Ok(())
     }
