@@ -10,7 +10,7 @@ module _ {V : Type 0} where
   get_or-at (y ∷ xs) zero x d at = let same : y ≡ x = cc in same
   get_or-at (y ∷ xs) (suc i) x d at = get_or-at xs i x d at
 
-  set-twice : (xs : List V) (i : ℕ) (x y : V) → set (set xs i x) i y ≡ set xs i y
+  pub set-twice : (xs : List V) (i : ℕ) (x y : V) → set (set xs i x) i y ≡ set xs i y
   set-twice [] i x y = refl
   set-twice (z ∷ xs) zero x y = refl
   set-twice (z ∷ xs) (suc i) x y = ap (λ more. z ∷ more) (set-twice xs i x y)

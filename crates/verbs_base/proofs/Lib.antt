@@ -5,3 +5,4 @@ pub mod Picking
 pub mod Places
 mod Moving
 mod Swapping
+mod Replacing

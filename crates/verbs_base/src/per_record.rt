@@ -1,7 +1,8 @@
 //! Verbs that take each record by itself.
-ghost use Rattle.std.specs.Prelude.{◌≡◌, List, IfOk};
+ghost use Rattle.std.specs.Prelude.{◌≡◌, ◌<◌, List, length, IfOk, OnOk};
 ghost use Rattle.std.specs.Option.{option_to_list};
 ghost use Rattle.verbs_base.specs.Records.{Fields};
+ghost use Rattle.verbs_base.specs.Replacing.{IsReplaced, given_of_all};
 
 use crate::stateful::Stateful;
 use mlr_event::{Ctx, Event, Events};
@@ -33,6 +34,49 @@ pub struct Each<V> {
     pub verb: V,
 }
 
+impl<V: PerRecord> Each<V> {
+    /// Replaces each record, in its place, by the one that the verb gives for it, and removes those for which it gives none.
+    fn replace_all(&mut self, events: &mut Events) -> Result<(), NoMemory>
+        requires { V.sound self.old.verb }
+        ensures gives { V.gives self.new.verb ≡ V.gives self.old.verb }
+        ensures sound { V.sound self.new.verb }
+        ensures given { OnOk result (events.new
+            ≡ given_of_all (V.gives self.old.verb) events.old) }
+    {
+        let mut kept = 0;
+        for place in 0..events.len() {
+            if self.replace(events, place)? {
+                events.swap(kept, place);
+                kept += 1;
+            }
+        }
+        events.truncate(kept);
+        Ok(())
+    }
+
+    /// Replaces the record at this place by the one that the verb gives for it, and returns false if it gives none. Another
+    /// event stays as it is.
+    #[inline(always)]
+    fn replace(&mut self, events: &mut Events, place: usize) -> Result<bool, NoMemory>
+        requires sound { V.sound self.old.verb }
+        requires within { place < length events.old }
+        ensures gives { V.gives self.new.verb ≡ V.gives self.old.verb }
+        ensures sound { V.sound self.new.verb }
+        ensures replaced { IfOk result (λ kept. IsReplaced (V.gives self.old.verb) kept
+            events.old events.new place) }
+    {
+        let nothing = Record::of_fields(self.alloc, Vec::new(self.alloc));
+        let Some(fields) = events.replace_fields(place, nothing) else {
+            return Ok(true);
+        };
+        let Some(made) = self.verb.made(self.alloc, fields)? else {
+            return Ok(false);
+        };
+        events.replace_fields(place, made);
+        Ok(true)
+    }
+}
+
 impl<V: PerRecord + Drop> Stateful for Each<V> {
     ghost use Rattle.verbs_base.specs.Laws.{stream-shuts};
     ghost use Rattle.verbs_base.specs.Records.{each};
@@ -48,6 +92,12 @@ impl<V: PerRecord + Drop> Stateful for Each<V> {
             Some(made) => out.push(Event::Rec(made, ctx)),
             None => Ok(()),
         }
+    }
+
+    fn take_all(&mut self, events: &mut Events, out: &mut Events) -> Result<(), NoMemory> {
+        self.replace_all(events)?;
+        out.append(events)?;
+        Ok(())
     }
 
     fn finish(&mut self, _: Ctx, _: &mut Events) -> Result<(), NoMemory> {
