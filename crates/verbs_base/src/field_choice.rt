@@ -26,7 +26,20 @@ pub fn is_taken(names: Option<&Names>, name: &Bytes) -> bool
 pub fn is_named(names: &Names, name: &Bytes) -> bool
     ensures { result ≡ is_among names.now name.now }
 {
-    names.as_slice().iter().any(|other| name.is(other))
+    is_among(names.as_slice(), name)
+}
+
+/// Whether a name is in the list. It takes no memory.
+#[inline(always)]
+pub fn is_among(names: &[Bytes], name: &Bytes) -> bool
+    ensures { result ≡ is_among names.now name.now }
+{
+    for other in names {
+        if name.is(other) {
+            return true;
+        }
+    }
+    false
 }
 
 /// The name of the field at a place. It takes no memory.

@@ -15,7 +15,7 @@ mod string;
 pub use change::{Change, change_fields, change_record};
 pub use choosing::{drop_named, is_empty, keep_named, pick_named};
 pub use extraction::{move_named, take_field};
-pub use field_choice::{is_named, is_taken};
+pub use field_choice::{is_among, is_named, is_taken};
 pub use over_events::OverEvents;
 pub use per_record::{Each, PerRecord};
 pub use stateful::Stateful;

@@ -9,6 +9,7 @@ use mlr_event::{Ctx, Event, Events};
 use mlr_record::Record;
 use mlr_spec::NoMemory;
 use std::alloc::Global;
+use std::mem::forget;
 
 /// A verb of which each record gives a record or none, by itself. What it keeps from one record to the next, as the room
 /// of a search, doesn't change what it gives.
@@ -72,7 +73,8 @@ impl<V: PerRecord> Each<V> {
         let Some(made) = self.verb.made(self.alloc, fields)? else {
             return Ok(false);
         };
-        events.replace_fields(place, made);
+        // The record that waited in the place has no fields and holds no memory.
+        forget(events.replace_fields(place, made));
         Ok(true)
     }
 }

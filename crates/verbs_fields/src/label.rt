@@ -3,7 +3,6 @@ ghost use Rattle.std.specs.Prelude.{◌≡◌, ◌++◌, length, take, drop, IfO
 ghost use Rattle.std.specs.List.{zip};
 ghost use Rattle.mlr_spec.specs.Pairs.{are_distinct};
 ghost use Rattle.mlr_record.specs.Fields.{pairs_of};
-ghost use Rattle.mlr_event.specs.Reading.{is_among};
 ghost use Rattle.verbs_base.specs.Choosing.{dropped};
 ghost use Rattle.verbs_fields.specs.Values.{values_of};
 
@@ -12,7 +11,7 @@ use mlr_record::{Field, Record};
 use mlr_spec::NoMemory;
 use mlr_value::Bytes;
 use std::alloc::Global;
-use verbs_base::PerRecord;
+use verbs_base::{PerRecord, is_among};
 
 /// The names that `label` gives to the first fields, in order. They are distinct. Names after the last field have
 /// no effect, and a field after the last name is dropped if it has one of the names.
@@ -86,12 +85,4 @@ fn put_names(names: &[Bytes], fields: &mut [Field]) -> Result<(), NoMemory>
         fields[place].name = names[place].copy()?;
     }
     Ok(())
-}
-
-/// Whether a name is in the list.
-#[inline(always)]
-fn is_among(names: &[Bytes], name: &Bytes) -> bool
-    ensures { result ≡ is_among names.now name.now }
-{
-    names.iter().any(|other| name.is(other))
 }
