@@ -1,6 +1,7 @@
 //! The verb `sort`.
 #![tactic(auto)]
 
+mod in_order;
 mod laws;
 mod sort;
 

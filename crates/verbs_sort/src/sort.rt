@@ -10,6 +10,7 @@ ghost use Rattle.verbs_base.specs.Records.{Row, events_of};
 ghost use Rattle.verbs_sort.specs.Kept.{HasValues, Keyed, SortHolds, compare_values, held_row, keys_in, row_of, trees_in, trees_of, values_in};
 ghost use Rattle.verbs_sort.specs.Sort.{compare_by, has_keys, keys_of_flags, sorted_rows};
 
+use crate::in_order::compare_in;
 use group_state::AtEnd;
 use mlr_event::{Ctx, Event, Events, Names};
 use mlr_list::List;
@@ -238,7 +239,7 @@ fn compare_entries(keys: &[SortKey], values: &KeyValues, others: &KeyValues) -> 
     let Some((key, more)) = keys.split_first() else {
         return Ordering::Equal;
     };
-    let order = compare(key.order, &values.first, &others.first);
+    let order = compare_in(key.order, &values.first, &others.first);
     if order != Ordering::Equal {
         return order;
     }
@@ -266,7 +267,7 @@ fn compare_at(order: Order, place: usize, values: &[Value], others: &[Value]) ->
         (slice_index_or (trees_in others.now) place absent) }
 {
     if let (Some(value), Some(other)) = (values.get(place), others.get(place)) {
-        return compare(order, value, other);
+        return compare_in(order, value, other);
     }
     let absent = Value::Absent;
     compare(
