@@ -24,7 +24,7 @@ pub(crate) fn compare_in(order: Order, value: &Value, other: &Value) -> Ordering
 }
 
 /// How two texts compare. Short texts that are equal, as in a field of few values, are found so in one step.
-#[inline(always)]
+#[inline]
 fn compare_texts(text: &Bytes, other: &Bytes) -> Ordering
     ensures { result ≡ slice_cmp nat_cmp text.now other.now }
 {
