@@ -27,8 +27,8 @@ const NAMES: [(&[&str], &str); 5] = [
     (&["a", "a_2", "a"], "a;a_2;a;"),
     (&["", ""], ";;"),
     (
-        &["b", "", "a", "a name past 16 bytes"],
-        "b;;a;a name past 16 bytes;",
+        &["b", "", "a", "a name of more than thirty bytes"],
+        "b;;a;a name of more than thirty bytes;",
     ),
 ];
 

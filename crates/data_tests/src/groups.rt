@@ -135,8 +135,8 @@ const KEYS: [(&str, &[u8], &[u8]); 9] = [
     ("a,b", b"a=p\0q,b=\0", b"p\0\x01q\0\0\0\x01\0\0"),
     (
         "a,a",
-        b"a=a text past 16 bytes",
-        b"a text past 16 bytes\0\0a text past 16 bytes\0\0",
+        b"a=a text of more than thirty bytes",
+        b"a text of more than thirty bytes\0\0a text of more than thirty bytes\0\0",
     ),
     ("", b"a=1", b""),
 ];

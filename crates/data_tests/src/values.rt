@@ -267,7 +267,7 @@ const ORDERS: [(Order, &[Ranked]); 7] = [
     (Order::Mixed, &MIXED),
 ];
 
-/// More than the 16 bytes that take no memory.
+/// More than the 20 bytes that take no memory.
 const LONG: &[u8] = b"0123456789abcdefghijklmnopqrstuvwxyz+-*/";
 
 struct Pair {

@@ -16,7 +16,7 @@ pub struct LeftFile {
 }
 
 impl LeftFile {
-    /// A copy. It takes memory for texts of more than 16 bytes.
+    /// A copy. It takes memory for texts of more than 20 bytes.
     pub fn copy(&self, alloc: Global) -> Result<LeftFile, NoMemory>
         ensures { IfOk result (λ copy. copy ≡ self.now) }
     {

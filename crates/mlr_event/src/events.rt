@@ -93,7 +93,7 @@ impl Events {
 
     /// Replaces the fields of the record at this place, and returns those that it had. Another event stays as it is. It
     /// doesn't allocate.
-    #[inline]
+    #[inline(always)]
     pub fn replace_fields(&mut self, place: usize, fields: Record) -> Option<Record>
         requires { place < length self.old }
         ensures had { (e : SpecEvent) → result ≡ fields_in (slice_index_or self.old place e) }

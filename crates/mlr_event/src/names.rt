@@ -26,7 +26,7 @@ impl InputName {
         }
     }
 
-    /// A copy. It takes memory for the name of a file with more than 16 bytes.
+    /// A copy. It takes memory for the name of a file with more than 20 bytes.
     pub fn copy(&self, alloc: Global) -> Result<InputName, NoMemory>
         ensures { IfOk result (λ copy. copy ≡ self.now) }
     {
@@ -61,7 +61,7 @@ impl Target {
         }
     }
 
-    /// A copy. It takes memory for the name of a file with more than 16 bytes.
+    /// A copy. It takes memory for the name of a file with more than 20 bytes.
     pub fn copy(&self, alloc: Global) -> Result<Target, NoMemory>
         ensures { IfOk result (λ copy. copy ≡ self.now) }
     {

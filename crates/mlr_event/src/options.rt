@@ -55,10 +55,10 @@ pub enum Comments {
 }
 
 impl Comments {
-    /// A copy. It takes memory for a prefix of more than 16 bytes.
+    /// A copy. It takes memory for a prefix of more than 20 bytes.
     pub fn copy(&self, alloc: Global) -> Result<Comments, NoMemory>
         ensures same { IfOk result (λ copy. copy ≡ self.now) }
-        ensures short { length (prefix_of self.now) ≤ 16 → IsOk result }
+        ensures short { length (prefix_of self.now) ≤ 20 → IsOk result }
     {
         Ok(match self {
             Comments::Keep => Comments::Keep,
@@ -123,11 +123,11 @@ impl ReadOpts {
         })
     }
 
-    /// A copy. It takes memory for texts of more than 16 bytes.
+    /// A copy. It takes memory for texts of more than 20 bytes.
     pub fn copy(&self, alloc: Global) -> Result<ReadOpts, NoMemory>
         ensures same { IfOk result (λ copy. copy ≡ self.now) }
-        ensures short { length self.now.ifs ≤ 16 → length self.now.ips ≤ 16
-            → length (prefix_of self.now.comments) ≤ 16 → IsOk result }
+        ensures short { length self.now.ifs ≤ 20 → length self.now.ips ≤ 20
+            → length (prefix_of self.now.comments) ≤ 20 → IsOk result }
     {
         Ok(ReadOpts {
             format: self.format,

@@ -15,8 +15,8 @@ const NAMES: [(&[(&str, usize)], &str, usize); 10] = [
     (&[("a", 1), ("a_2", 1), ("a", 1)], "a;a_2;a_3;", 2),
     (&[("a", 2), ("a_2", 1)], "a;a_2;a_2_2;", 2),
     (
-        &[("", 2), ("more than 16 bytes", 2)],
-        ";_2;more than 16 bytes;more than 16 bytes_2;",
+        &[("", 2), ("a name of more than thirty bytes", 2)],
+        ";_2;a name of more than thirty bytes;a name of more than thirty bytes_2;",
         2,
     ),
     (&[("b", 1), ("ca", 2), ("b", 1)], "b;ca;ca_2;b_2;", 2),

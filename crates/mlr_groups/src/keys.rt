@@ -23,7 +23,7 @@ use text_forms::{held_text, shown};
 
 /// Appends to `key` the key of the texts of the named fields, with the empty text for a missing field. Two
 /// records have equal keys exactly if all these texts are equal. It allocates if `key` has no room, and, for
-/// a moment, to print a value of more than 16 bytes.
+/// a moment, to print a value of more than 20 bytes.
 pub fn append_texts(
     alloc: Global,
     names: &Names,

@@ -15,7 +15,7 @@ const FALSE: &[u8] = b"false";
 
 const NULL: &[u8] = b"null";
 
-/// The value of a word of a JSON text, if it has one. It takes memory for a number of more than 16 bytes.
+/// The value of a word of a JSON text, if it has one. It takes memory for a number of more than 20 bytes.
 pub fn word_value(alloc: Global, word: &[u8], opts: InferOpts) -> Result<Option<Value>, NoMemory>
     ensures { IfOk result (λ value. option_map tree_of value ≡ word_value opts word.now) }
 {

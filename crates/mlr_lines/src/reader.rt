@@ -27,7 +27,7 @@ impl<F: LineFormat + Drop> Drop for Reader<F> {
 
 impl<F: LineFormat> Reader<F> {
     /// A reader at the start of a file. `start` is the context of the last record before this file, with the
-    /// number of this file and no record of it. It allocates only for separators and prefixes of more than 16
+    /// number of this file and no record of it. It allocates only for separators and prefixes of more than 20
     /// bytes.
     pub fn new(
         alloc: Global,

@@ -16,7 +16,8 @@ top-hit : (t : Bool) → top 7 (cond t 255 0) ≡ t
 top-hit true = refl
 top-hit false = refl
 
-each-hit : (byte : ℕ) (lanes : List ℕ) → map (λ x. top 7 (hit x byte)) lanes ≡ map (is_byte byte) lanes
+-- the highest bits of the lanes tell where the byte is
+pub each-hit : (byte : ℕ) (lanes : List ℕ) → map (λ x. top 7 (hit x byte)) lanes ≡ map (is_byte byte) lanes
 each-hit byte [] = refl
 each-hit byte (x ∷ lanes) = ap₂ (λ (t : Bool) rest. t ∷ rest) (top-hit (eqb x byte)) (each-hit byte lanes)
 

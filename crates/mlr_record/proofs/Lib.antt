@@ -7,4 +7,4 @@ mod Unflattening
 mod NamedPaths
 mod RoundTrip
 pub mod Crosses
-mod Lanes
+pub mod Lanes

@@ -221,7 +221,7 @@ impl Record {
         fields
     }
 
-    /// Looks at each field, and returns whether none holds memory, as texts of up to 16 bytes don't. Then dropping the record
+    /// Looks at each field, and returns whether none holds memory, as texts of up to 20 bytes don't. Then dropping the record
     /// needs no further look.
     #[inline]
     pub(crate) fn is_plain(&mut self) -> bool

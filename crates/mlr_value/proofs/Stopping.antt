@@ -1,10 +1,11 @@
 -- Texts searched for a few bytes, lane by lane and from the start on.
-use Rattle.std.proofs.Common.{◌≡◌, ℕ, zero, suc, ◌+◌, ◌*◌, ◌≤◌, ◌==◌, ◌||◌, ◌%◌, ◌^◌, Bool, true, false, not, cond, eqb, List, [], ◌∷◌, map, length, nat_le, nat_lt, take, drop, get_or, inl, inr, refl, sym, ap, ap₂, ◌∙◌, arith}
+use Rattle.std.proofs.Common.{◌≡◌, ℕ, zero, suc, ◌+◌, ◌*◌, ◌-◌, ◌≤◌, ◌||◌, ◌%◌, ◌^◌, Bool, true, false, not, cond, eqb, List, [], ◌∷◌, map, length, nat_le, nat_lt, take, drop, get_or, inl, inr, refl, sym, ap, ap₂, ◌∙◌, arith}
 use Rattle.std.specs.List.{list_any}
 use Rattle.std.proofs.lemmas.Bool.{ne_eqb}
 use Rattle.std.proofs.lemmas.Simd.{mask_l-mod}
 use Rattle.std.proofs.lemmas.List.{length-map, take-append-drop}
 use Rattle.std.proofs.lemmas.List.Folds.{list_any-append}
+use Rattle.std.proofs.Math.Seq.{take-add}
 use Rattle.std.specs.List.{prefix_len}
 use Rattle.std.proofs.Math.Dec.{leb-zero, leb-suc-zero, leb-suc-suc}
 use Rattle.std.proofs.lemmas.Bool.{le-ltb, lt-ltb}
@@ -71,6 +72,29 @@ stop-mask (a ∷ b ∷ c ∷ d ∷ e ∷ more) xs z count long is = absurd (omeg
 -- a text in two parts
 pub split : (stops text : List ℕ) (n : ℕ) → has_stop stops text ≡ (has_stop stops (take n text) || has_stop stops (drop n text))
 split stops text n = ap (has_stop stops) (sym (take-append-drop n text)) ∙ list_any-append (is_stop stops) (take n text) (drop n text)
+
+twice : (t u v : Bool) → (t || (u || v)) ≡ ((t || u) || (u || v))
+twice true u v = refl
+twice false true v = refl
+twice false false v = refl
+
+split-after : (stops text : List ℕ) (k m : ℕ)
+    → has_stop stops text ≡ (has_stop stops (take (k + m) text) || has_stop stops (drop k text))
+split-after stops text k m =
+    let first = has_stop stops (take k text) in
+    let both : has_stop stops (take (k + m) text) ≡ (first || has_stop stops (take m (drop k text))) =
+    ap (has_stop stops) (take-add k m text) ∙ list_any-append (is_stop stops) (take k text) (take m (drop k text)) in
+    let rest = split stops (drop k text) m in
+    split stops text k ∙ ap (λ t. first || t) rest
+    ∙ twice first (has_stop stops (take m (drop k text))) (has_stop stops (drop m (drop k text)))
+    ∙ sym (ap₂ (λ t u. t || u) both rest)
+
+-- a text in two parts that overlap
+pub split-overlapping : (stops text : List ℕ) (k n : ℕ) → k ≤ n
+    → has_stop stops text ≡ (has_stop stops (take n text) || has_stop stops (drop k text))
+split-overlapping stops text k n le =
+    let all : k + (n - k) ≡ n = omega (arith, le) in
+    split-after stops text k (n - k) ∙ ap (λ m. has_stop stops (take m text) || has_stop stops (drop k text)) all
 
 -- so many cells hold no stop exactly if they come before the first
 one-more : (t : Bool) (n p : ℕ) (rest : Bool) → not rest ≡ nat_le n p → not (t || rest) ≡ nat_le (suc n) (cond (not t) (1 + p) 0)

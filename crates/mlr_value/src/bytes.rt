@@ -4,14 +4,15 @@ ghost use Rattle.std.specs.Option.{option_to_list};
 ghost use Rattle.std.specs.Str.{bytes_eq};
 ghost use Rattle.mlr_value.specs.Stops.{has_stop};
 
-use crate::short::{CAPACITY, Short, cells_of};
-use crate::stops::{cells_before_stop, has_stop};
+use crate::short::{CAPACITY, LANES, Short, cells_of};
+use crate::stops::{has_stop, lanes_before_stop};
 use mlr_spec::NoMemory;
 use std::alloc::Global;
 use std::fmt;
 use std::marker::Model;
+use std::simd::prelude::*;
 
-/// A byte text, which need not be UTF-8. Up to 16 bytes lie in the value itself and take no memory.
+/// A byte text, which need not be UTF-8. Up to 20 bytes lie in the value itself and take no memory.
 pub struct Bytes {
     room: Room,
     alloc: Global,
@@ -54,11 +55,11 @@ impl Bytes {
         }
     }
 
-    /// A copy. It takes memory where the text has more than 16 bytes.
+    /// A copy. It takes memory where the text has more than 20 bytes.
     #[inline(always)]
     pub fn copy_of(alloc: Global, text: &[u8]) -> Result<Self, NoMemory>
         ensures copied { IfOk result (λ copy. copy ≡ text.now) }
-        ensures short { length text.now ≤ 16 → IsOk result }
+        ensures short { length text.now ≤ 20 → IsOk result }
     {
         if text.len() <= CAPACITY {
             return Ok(Bytes {
@@ -71,11 +72,11 @@ impl Bytes {
         Ok(copy)
     }
 
-    /// A copy. It takes memory where the text has more than 16 bytes.
+    /// A copy. It takes memory where the text has more than 20 bytes.
     #[inline(always)]
     pub fn copy(&self) -> Result<Self, NoMemory>
         ensures same { IfOk result (λ copy. copy ≡ self.now) }
-        ensures short { length self.now ≤ 16 → IsOk result }
+        ensures short { length self.now ≤ 20 → IsOk result }
     {
         match &self.room {
             Room::Inline(short) => Ok(Bytes {
@@ -86,15 +87,15 @@ impl Bytes {
         }
     }
 
-    /// A copy of the first `len` bytes of the text. It takes memory where they are more than 16. Where the text itself
-    /// has 16 bytes, a copy takes the same few moves whatever `len` is.
+    /// A copy of the first `len` bytes of the text. It takes memory where they are more than 20. At most the first 16
+    /// bytes of a text that has as many are copied by the same few moves.
     #[inline(always)]
     pub fn copy_of_first(alloc: Global, text: &[u8], len: usize) -> Result<Self, NoMemory>
         requires { len ≤ length text.now }
         ensures copied { IfOk result (λ copy. copy ≡ take len text.now) }
-        ensures short { len ≤ 16 → IsOk result }
+        ensures short { len ≤ 20 → IsOk result }
     {
-        if len <= CAPACITY && text.len() >= CAPACITY {
+        if len <= LANES && text.len() >= LANES {
             return Ok(Bytes {
                 room: Room::Inline(Short::copy_of_first(text, len)),
                 alloc,
@@ -139,9 +140,8 @@ impl Bytes {
         ensures nothing { text.now ≡ [] → IsOk result }
     {
         match &mut self.room {
-            Room::Heap(heap)
-                if text.len() <= CAPACITY && heap.capacity() - heap.len() >= CAPACITY => {
-                append_short(heap, text)
+            Room::Heap(heap) if text.len() <= LANES && heap.capacity() - heap.len() >= LANES => {
+                append_cells::<LANES>(heap, &cells_of::<LANES>(text), text.len())
             }
             _ => self.append_any(text),
         }
@@ -190,14 +190,14 @@ impl Bytes {
             then self.old ++ text.now else self.old) }
     {
         if let Room::Heap(heap) = &mut self.room
-            && text.len() <= CAPACITY
-            && heap.capacity() - heap.len() >= CAPACITY
+            && text.len() <= LANES
+            && heap.capacity() - heap.len() >= LANES
         {
-            let cells = cells_of(text);
-            if cells_before_stop(&cells, stops) < text.len() {
+            let cells = cells_of::<LANES>(text);
+            if lanes_before_stop(u8x16::from_array(cells), stops) < text.len() {
                 return Ok(false);
             }
-            append_cells(heap, &cells, text.len())?;
+            append_cells::<LANES>(heap, &cells, text.len())?;
             return Ok(true);
         }
         self.append_plain_any(text, stops)
@@ -227,7 +227,7 @@ impl Bytes {
             && let Room::Heap(heap) = &mut self.room
             && heap.capacity() - heap.len() >= CAPACITY
         {
-            return append_cells_then(heap, short.cells(), short.len(), next);
+            return append_short_then(heap, short, next);
         }
         self.append_any_then(text.as_slice(), next)
     }
@@ -261,10 +261,10 @@ impl Bytes {
             && let Room::Heap(heap) = &mut self.room
             && heap.capacity() - heap.len() >= CAPACITY
         {
-            if cells_before_stop(short.cells(), stops) < short.len() {
+            if short.has_stop(stops) {
                 return Ok(false);
             }
-            append_cells_then(heap, short.cells(), short.len(), next)?;
+            append_short_then(heap, short, next)?;
             return Ok(true);
         }
         self.append_plain_any_then(text.as_slice(), next, stops)
@@ -330,16 +330,17 @@ impl Bytes {
     {
         if let Room::Inline(short) = &self.room
             && let Room::Inline(other) = &other.room
+            && short.len() <= LANES
         {
             return short.is(other);
         }
         self.as_slice() == other.as_slice()
     }
 
-    /// Whether it holds memory, as each text of more than 16 bytes does.
+    /// Whether it holds memory, as each text of more than 20 bytes does.
     #[inline(always)]
     pub fn holds_memory(&self) -> bool
-        ensures { result ≡ false → length self.now ≤ 16 }
+        ensures { result ≡ false → length self.now ≤ 20 }
     {
         match &self.room {
             Room::Inline(short) => {
@@ -360,24 +361,17 @@ impl Bytes {
     }
 }
 
-/// Appends a short text. A copy of a fixed width, cut to the text, needs no call of `memcpy`.
+/// Appends the first bytes of the cells. A copy of a fixed width, cut to the text, needs no call of `memcpy`.
 #[inline(always)]
-fn append_short(heap: &mut Vec<u8>, text: &[u8]) -> Result<(), NoMemory>
-    requires { length text.now ≤ CAPACITY }
-    ensures appended { heap.new.items ≡ (if is_ok result then heap.old.items ++ text.now
-        else heap.old.items) }
-    ensures room { CAPACITY + vec_len heap.old ≤ vec_capacity heap.old → IsOk result }
-{
-    append_cells(heap, &cells_of(text), text.len())
-}
-
-/// Appends the first bytes of the cells.
-#[inline(always)]
-fn append_cells(heap: &mut Vec<u8>, cells: &[u8; CAPACITY], count: usize) -> Result<(), NoMemory>
-    requires { count ≤ CAPACITY }
+fn append_cells<const N: usize>(
+    heap: &mut Vec<u8>,
+    cells: &[u8; N],
+    count: usize,
+) -> Result<(), NoMemory>
+    requires { count ≤ N }
     ensures appended { heap.new.items ≡ (if is_ok result then heap.old.items ++ take count cells.now
         else heap.old.items) }
-    ensures room { CAPACITY + vec_len heap.old ≤ vec_capacity heap.old → IsOk result }
+    ensures room { N + vec_len heap.old ≤ vec_capacity heap.old → IsOk result }
 {
     let len = heap.len();
     heap.extend_from_slice(cells)?;
@@ -385,19 +379,17 @@ fn append_cells(heap: &mut Vec<u8>, cells: &[u8; CAPACITY], count: usize) -> Res
     Ok(())
 }
 
-/// Appends the first bytes of the cells, and then the byte, if there is one.
+/// Appends a short text, and then the byte, if there is one. A text of up to 16 bytes is copied in one step.
 #[inline(always)]
-fn append_cells_then(
-    heap: &mut Vec<u8>,
-    cells: &[u8; CAPACITY],
-    count: usize,
-    next: Option<u8>,
-) -> Result<(), NoMemory>
-    requires { count ≤ CAPACITY }
-    ensures { OnOk result (heap.new.items ≡ heap.old.items ++ take count cells.now
-        ++ option_to_list next) }
+fn append_short_then(heap: &mut Vec<u8>, text: &Short, next: Option<u8>) -> Result<(), NoMemory>
+    ensures { OnOk result (heap.new.items ≡ heap.old.items ++ text.now ++ option_to_list next) }
 {
-    append_cells(heap, cells, count)?;
+    let len = text.len();
+    if len <= LANES {
+        append_cells::<LANES>(heap, &text.first(), len)?;
+    } else {
+        append_cells::<CAPACITY>(heap, text.cells(), len)?;
+    }
     if let Some(byte) = next {
         heap.push(byte)?;
     }

@@ -3,7 +3,7 @@ ghost use Rattle.std.specs.Prelude.{◌≡◌, ◌≤◌, ℕ, length, map, nat_
 ghost use Rattle.std.specs.Simd.Lanes.{mask_l};
 ghost use Rattle.mlr_value.specs.Stops.{has_stop, is_stop};
 
-use crate::short::{CAPACITY, cells_of};
+use crate::short::{LANES, cells_of};
 use std::simd::prelude::*;
 
 /// Whether the text contains one of the stops.
@@ -11,35 +11,34 @@ pub(crate) fn has_stop(text: &[u8], stops: [u8; 4]) -> bool
     ensures { result ≡ has_stop stops text.now }
 {
     let mut rest = text;
-    while rest.len() > CAPACITY {
+    while rest.len() > LANES {
         if has_stop_lane(u8x16::from_slice(rest), stops) {
             return true;
         }
-        rest = &rest[CAPACITY..];
+        rest = &rest[LANES..];
     }
     has_stop_short(rest, stops)
 }
 
 /// Whether a short text contains one of the stops.
 fn has_stop_short(text: &[u8], stops: [u8; 4]) -> bool
-    requires { length text.now ≤ CAPACITY }
+    requires { length text.now ≤ LANES }
     ensures { result ≡ has_stop stops text.now }
 {
-    cells_before_stop(&cells_of(text), stops) < text.len()
+    lanes_before_stop(u8x16::from_array(cells_of::<LANES>(text)), stops) < text.len()
 }
 
-/// How many cells come before the first that is a stop; more than there are, if none is.
+/// How many lanes come before the first that is a stop; more than there are, if none is.
 #[inline(always)]
-pub(crate) fn cells_before_stop(cells: &[u8; CAPACITY], stops: [u8; 4]) -> usize
-    ensures { (n : ℕ) → n ≤ CAPACITY
-        → has_stop stops (take n cells.now) ≡ nat_lt result n }
+pub(crate) fn lanes_before_stop(lanes: u8x16, stops: [u8; 4]) -> usize
+    ensures { (n : ℕ) → n ≤ LANES → has_stop stops (take n lanes) ≡ nat_lt result n }
 {
-    stop_bits(u8x16::from_array(*cells), stops).trailing_zeros() as usize
+    stop_bits(lanes, stops).trailing_zeros() as usize
 }
 
 /// Whether a lane is one of the stops.
 #[inline(always)]
-fn has_stop_lane(lanes: u8x16, stops: [u8; 4]) -> bool
+pub(crate) fn has_stop_lane(lanes: u8x16, stops: [u8; 4]) -> bool
     ensures { result ≡ has_stop stops lanes }
 {
     stop_bits(lanes, stops) != 0

@@ -91,7 +91,7 @@ impl Value {
         }
     }
 
-    /// A copy. It takes memory for maps, arrays and texts of more than 16 bytes.
+    /// A copy. It takes memory for maps, arrays and texts of more than 20 bytes.
     #[cycle(copy)]
     pub fn copy(&self, alloc: Global) -> Result<Value, NoMemory>
         ensures { IfOk result (λ copy. tree_of copy ≡ tree_of self.now) }
@@ -115,7 +115,7 @@ impl Value {
 }
 
 /// A text from data as a value, which keeps the text as its spelling. It takes memory where the text has more than
-/// 16 bytes.
+/// 20 bytes.
 #[inline(always)]
 pub fn from_data(alloc: Global, text: &[u8], opts: InferOpts) -> Result<Value, NoMemory>
     ensures { IfOk result (λ value. tree_of value ≡ tree_of_data opts text.now) }
@@ -128,7 +128,7 @@ pub fn from_data(alloc: Global, text: &[u8], opts: InferOpts) -> Result<Value, N
 }
 
 /// The first `len` bytes of a text from data as a value, which keeps them as its spelling. It takes memory where they
-/// are more than 16.
+/// are more than 20.
 #[inline(always)]
 pub fn from_data_first(
     alloc: Global,

@@ -50,7 +50,7 @@ impl Drop for Outlet {
 }
 
 impl Outlet {
-    /// An outlet that was given nothing. It takes memory for options of more than 16 bytes.
+    /// An outlet that was given nothing. It takes memory for options of more than 20 bytes.
     pub fn new(alloc: Global, opts: &WriteOpts) -> Result<Self, NoMemory>
         ensures { IfOk result (λ made. Represents opts.now [] made) }
     {

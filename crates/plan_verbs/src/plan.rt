@@ -57,7 +57,7 @@ impl Drop for Plan {
 }
 
 impl Plan {
-    /// A copy, which shares the patterns. It takes memory for lists, and for texts of more than 16 bytes.
+    /// A copy, which shares the patterns. It takes memory for lists, and for texts of more than 20 bytes.
     pub fn copy(&self, alloc: Global) -> Result<Self, NoMemory>
         ensures copy { IfOk result (λ copy. IsCopy self.now copy) }
         ensures sound { IfOk result (λ copy. IsSound self.now → IsSound copy) }

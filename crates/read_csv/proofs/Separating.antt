@@ -8,19 +8,8 @@ use Rattle.std.specs.Option.{option_map}
 use Rattle.std.proofs.lemmas.List.{length-map, drop-map, drop-drop, take_all}
 use Rattle.std.proofs.lemmas.Simd.{zip2_splat, trailing_mask_l, mask_l-mod, map-map}
 use Rattle.memchr.specs.Find.{is_byte}
+use Rattle.mlr_record.proofs.Lanes.{hit, each-hit}
 use Rattle.mlr_spec.specs.Split.{place_in}
-
--- the lane of a comparison
-abbrev hit : ℕ → ℕ → ℕ
-hit a b = cond (eqb a b) 255 0
-
-top-hit : (t : Bool) → top 7 (cond t 255 0) ≡ t
-top-hit true = refl
-top-hit false = refl
-
-each-hit : (byte : ℕ) (lanes : List ℕ) → map (λ x. top 7 (hit x byte)) lanes ≡ map (is_byte byte) lanes
-each-hit byte [] = refl
-each-hit byte (x ∷ lanes) = ap₂ (λ (t : Bool) rest. t ∷ rest) (top-hit (eqb x byte)) (each-hit byte lanes)
 
 half : (bit : Bool) (m : ℕ) → (cond bit 1 0 + 2 * m) / 2 ≡ m
 half true m = omega arith

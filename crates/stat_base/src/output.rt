@@ -7,7 +7,7 @@ use mlr_value::Bytes;
 use std::alloc::Global;
 
 /// The name of the field that a statistic of a field makes: the two names joined by `_`. It allocates if it has more than
-/// 16 bytes.
+/// 20 bytes.
 pub fn output_name(alloc: Global, field: &[u8], statistic: &[u8]) -> Result<Bytes, NoMemory>
     ensures { IfOk result (λ name. name ≡ output_name field.now statistic.now) }
 {

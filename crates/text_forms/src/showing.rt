@@ -11,7 +11,7 @@ use mlr_value::{Bytes, IntValue, Value, append_text};
 use std::alloc::Global;
 
 /// A value as one text: a map or an array is its JSON text on one line, any other value what it prints. It takes memory
-/// where the text has more than 16 bytes.
+/// where the text has more than 20 bytes.
 pub fn shown(alloc: Global, value: &Value) -> Result<Bytes, NoMemory>
     ensures { IfOk result (λ text. text ≡ shown (tree_of value.now)) }
 {

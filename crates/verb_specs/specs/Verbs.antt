@@ -90,13 +90,13 @@ AreSame (Stat spec) (Stat copy) = stat.meaning_of copy ≡ stat.meaning_of spec
 AreSame (Seq seq) (Seq copy) = copy ≡ seq
 AreSame _ _ = ⊥
 
--- a verb whose options have no list, no pattern and no text of more than 16 bytes
+-- a verb whose options have no list, no pattern and no text of more than 20 bytes
 abbrev pub IsShort : VerbSpec → Type 0
 IsShort (Stream spec) = stream.IsShort spec
 IsShort (Retain spec) = retain.IsShort spec
 IsShort (Shape spec) = ⊥
 IsShort (Stat spec) = ⊥
-IsShort (Seq seq) = length seq.field ≤ 16
+IsShort (Seq seq) = length seq.field ≤ 20
 
 abbrev pub AreSameVerbs : List VerbSpec → List VerbSpec → Type 0
 AreSameVerbs [] [] = Unit {0}

@@ -37,7 +37,7 @@ impl Drop for VerbSpec {
 }
 
 impl VerbSpec {
-    /// A copy, which shares the patterns. It takes memory for lists, and for texts of more than 16 bytes.
+    /// A copy, which shares the patterns. It takes memory for lists, and for texts of more than 20 bytes.
     pub fn copy(&self, alloc: Global) -> Result<Self, NoMemory>
         ensures same { IfOk result (λ copy. AreSame self.now copy) }
         ensures short { IsShort self.now → IsOk result }

@@ -15,10 +15,10 @@ pub struct Renaming {
 }
 
 impl Renaming {
-    /// A copy. It allocates only for names of more than 16 bytes.
+    /// A copy. It allocates only for names of more than 20 bytes.
     pub fn copy(&self, _: Global) -> Result<Self, NoMemory>
         ensures same { IfOk result (λ copy. copy ≡ self.now) }
-        ensures short { length self.now.old ≤ 16 → length self.now.new ≤ 16 → IsOk result }
+        ensures short { length self.now.old ≤ 20 → length self.now.new ≤ 20 → IsOk result }
     {
         Ok(Renaming {
             old: self.old.copy()?,

@@ -24,7 +24,7 @@ pub struct Template {
 }
 
 impl Template {
-    /// A copy. It allocates for the names, and for a text of more than 16 bytes.
+    /// A copy. It allocates for the names, and for a text of more than 20 bytes.
     pub fn copy(&self, alloc: Global) -> Result<Self, NoMemory>
         ensures { IfOk result (λ copy. copy ≡ self.now) }
     {

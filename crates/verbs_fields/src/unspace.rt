@@ -33,10 +33,10 @@ pub struct Unspace {
 }
 
 impl Unspace {
-    /// A copy. It allocates only for a text of more than 16 bytes.
+    /// A copy. It allocates only for a text of more than 20 bytes.
     pub fn copy(&self, alloc: Global) -> Result<Self, NoMemory>
         ensures same { IfOk result (λ copy. copy ≡ self.now) }
-        ensures short { length self.now.text ≤ 16 → IsOk result }
+        ensures short { length self.now.text ≤ 20 → IsOk result }
     {
         Ok(Unspace {
             text: Bytes::copy_of(alloc, self.text.as_slice())?,

@@ -56,7 +56,7 @@ impl Drop for Join {
 }
 
 impl Join {
-    /// A copy. It allocates for the names of fields, and for other texts of more than 16 bytes.
+    /// A copy. It allocates for the names of fields, and for other texts of more than 20 bytes.
     pub fn copy(&self, alloc: Global) -> Result<Self, NoMemory>
         ensures { IfOk result (λ copy. copy ≡ self.now) }
     {

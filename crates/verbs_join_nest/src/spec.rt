@@ -42,7 +42,7 @@ pub struct LeftInput<'a> {
 }
 
 impl Spec {
-    /// A copy, which shares the patterns. It allocates lists, and texts of more than 16 bytes.
+    /// A copy, which shares the patterns. It allocates lists, and texts of more than 20 bytes.
     pub fn copy(&self, alloc: Global) -> Result<Self, NoMemory>
         ensures meaning { IfOk result (λ copy. (left : List SpecEvent)
             → meaning_of copy left ≡ meaning_of self.now left) }

@@ -34,7 +34,7 @@ pub struct Nest {
 }
 
 impl Nest {
-    /// A copy. It allocates for texts of more than 16 bytes.
+    /// A copy. It allocates for texts of more than 20 bytes.
     pub fn copy(&self, alloc: Global) -> Result<Self, NoMemory>
         ensures { IfOk result (λ copy. copy ≡ self.now) }
     {

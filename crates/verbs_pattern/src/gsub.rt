@@ -23,7 +23,7 @@ pub struct Gsub {
 }
 
 impl Gsub {
-    /// A copy, which shares the pattern. It allocates for the names, and for a text of more than 16 bytes.
+    /// A copy, which shares the pattern. It allocates for the names, and for a text of more than 20 bytes.
     pub fn copy(&self, alloc: Global) -> Result<Self, NoMemory>
         ensures fields { IfOk result (λ copy. copy.fields ≡ self.now.fields) }
         ensures pattern { IfOk result (λ copy. regex_pattern (arc_value copy.pattern)

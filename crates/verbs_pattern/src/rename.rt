@@ -23,7 +23,7 @@ pub enum Rename {
 }
 
 impl Rename {
-    /// A copy, which shares the patterns. It allocates the list, and texts of more than 16 bytes.
+    /// A copy, which shares the patterns. It allocates the list, and texts of more than 20 bytes.
     pub fn copy(&self, alloc: Global) -> Result<Self, NoMemory>
         ensures same { IfOk result (λ copy. AreSameRename copy self.now) }
         ensures meaning { IfOk result (λ copy. rename copy ≡ rename self.now) }

@@ -62,7 +62,7 @@ impl RenamePatterns {
         Ok(fields)
     }
 
-    /// A copy, which shares the patterns. It allocates the list, and texts of more than 16 bytes.
+    /// A copy, which shares the patterns. It allocates the list, and texts of more than 20 bytes.
     pub fn copy(&self, alloc: Global) -> Result<Self, NoMemory>
         ensures rules { IfOk result (λ copy. rules_in copy ≡ rules_in self.now) }
         ensures which { IfOk result (λ copy. copy.which ≡ self.now.which) }

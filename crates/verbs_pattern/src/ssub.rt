@@ -19,11 +19,11 @@ pub struct Ssub {
 }
 
 impl Ssub {
-    /// A copy. It allocates for the names, and for texts of more than 16 bytes.
+    /// A copy. It allocates for the names, and for texts of more than 20 bytes.
     pub fn copy(&self, alloc: Global) -> Result<Self, NoMemory>
         ensures same { IfOk result (λ copy. copy ≡ self.now) }
-        ensures short { self.now.fields ≡ SubFields.All → length self.now.old ≤ 16
-            → length self.now.by ≤ 16 → IsOk result }
+        ensures short { self.now.fields ≡ SubFields.All → length self.now.old ≤ 20
+            → length self.now.by ≤ 20 → IsOk result }
     {
         Ok(Ssub {
             fields: self.fields.copy(alloc)?,

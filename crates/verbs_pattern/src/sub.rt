@@ -24,7 +24,7 @@ pub struct Sub {
 }
 
 impl Sub {
-    /// A copy, which shares the pattern. It allocates for the names, and for a text of more than 16 bytes.
+    /// A copy, which shares the pattern. It allocates for the names, and for a text of more than 20 bytes.
     pub fn copy(&self, alloc: Global) -> Result<Self, NoMemory>
         ensures fields { IfOk result (λ copy. copy.fields ≡ self.now.fields) }
         ensures pattern { IfOk result (λ copy. regex_pattern (arc_value copy.pattern)

@@ -20,7 +20,7 @@ pub enum Reshape {
 }
 
 impl Reshape {
-    /// A copy, which shares the patterns. It allocates the list of fields, and texts of more than 16 bytes.
+    /// A copy, which shares the patterns. It allocates the list of fields, and texts of more than 20 bytes.
     pub fn copy(&self, alloc: Global) -> Result<Self, NoMemory>
         ensures { IfOk result (λ copy. reshape copy ≡ reshape self.now) }
     {

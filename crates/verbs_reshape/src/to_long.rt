@@ -38,7 +38,7 @@ pub enum LongFields {
 }
 
 impl ToLong {
-    /// A copy, which shares the patterns. It allocates the list of fields, and texts of more than 16 bytes.
+    /// A copy, which shares the patterns. It allocates the list of fields, and texts of more than 20 bytes.
     pub fn copy(&self, alloc: Global) -> Result<Self, NoMemory>
         ensures fields { IfOk result (λ copy. AreSameFields copy.fields self.now.fields) }
         ensures key { IfOk result (λ copy. copy.key ≡ self.now.key) }

@@ -29,7 +29,7 @@ pub struct ToWide {
 }
 
 impl ToWide {
-    /// A copy. It allocates for a text of more than 16 bytes.
+    /// A copy. It allocates for a text of more than 20 bytes.
     pub fn copy(&self, alloc: Global) -> Result<Self, NoMemory>
         ensures { IfOk result (λ copy. copy ≡ self.now) }
     {

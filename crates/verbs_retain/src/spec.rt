@@ -73,7 +73,7 @@ impl Drop for Spec {
 }
 
 impl Spec {
-    /// A copy. It allocates lists, and texts of more than 16 bytes.
+    /// A copy. It allocates lists, and texts of more than 20 bytes.
     pub fn copy(&self, alloc: Global) -> Result<Self, NoMemory>
         ensures meaning { IfOk result (λ copy. meaning_of copy ≡ meaning_of self.now) }
         ensures short { IsShort self.now → IsOk result }

@@ -27,10 +27,10 @@ impl SeqSpec {
         self.step != 0 && (!self.begins() || self.steps() < MOST_RECORDS)
     }
 
-    /// A copy. It allocates only for a name of more than 16 bytes.
+    /// A copy. It allocates only for a name of more than 20 bytes.
     pub fn copy(&self, _: Global) -> Result<Self, NoMemory>
         ensures same { IfOk result (λ copy. copy ≡ self.now) }
-        ensures short { length self.now.field ≤ 16 → IsOk result }
+        ensures short { length self.now.field ≤ 20 → IsOk result }
     {
         Ok(SeqSpec {
             field: self.field.copy()?,

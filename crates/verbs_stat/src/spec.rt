@@ -35,7 +35,7 @@ impl Drop for Spec {
 }
 
 impl Spec {
-    /// A copy, which shares the patterns. It allocates lists, and texts of more than 16 bytes.
+    /// A copy, which shares the patterns. It allocates lists, and texts of more than 20 bytes.
     pub fn copy(&self, alloc: Global) -> Result<Self, NoMemory>
         ensures { IfOk result (λ copy. meaning_of copy ≡ meaning_of self.now) }
     {

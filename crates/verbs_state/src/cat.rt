@@ -23,10 +23,10 @@ pub struct Cat {
 }
 
 impl Cat {
-    /// A copy. It allocates for a name of more than 16 bytes, and for the names of the grouping fields.
+    /// A copy. It allocates for a name of more than 20 bytes, and for the names of the grouping fields.
     pub fn copy(&self, alloc: Global) -> Result<Self, NoMemory>
         ensures same { IfOk result (λ copy. copy ≡ self.now) }
-        ensures short { length self.now.name ≤ 16 → self.now.groups ≡ None → IsOk result }
+        ensures short { length self.now.name ≤ 20 → self.now.groups ≡ None → IsOk result }
     {
         Ok(Cat {
             number: self.number,

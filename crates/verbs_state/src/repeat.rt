@@ -21,11 +21,11 @@ pub enum Repeat {
 }
 
 impl Repeat {
-    /// A copy. It allocates for a name of more than 16 bytes.
+    /// A copy. It allocates for a name of more than 20 bytes.
     pub fn copy(&self, alloc: Global) -> Result<Self, NoMemory>
         ensures same { IfOk result (λ copy. copy ≡ self.now) }
         ensures count { (n : ℕ) → self.now ≡ Repeat.Count n → IsOk result }
-        ensures short { (name : List ℕ) → self.now ≡ Repeat.Field name → length name ≤ 16
+        ensures short { (name : List ℕ) → self.now ≡ Repeat.Field name → length name ≤ 20
             → IsOk result }
     {
         Ok(match self {

@@ -39,7 +39,7 @@ impl Track {
     }
 
     /// Takes the next value, and returns what the stepper makes of it. It allocates to copy a text of more than
-    /// 16 bytes.
+    /// 20 bytes.
     pub(crate) fn step(&mut self, alloc: Global, value: &Value) -> Result<Value, NoMemory>
         ensures made { IfOk result (λ made. tree_of made
             ≡ made_from (tree_of value.now) (kept self.old)) }

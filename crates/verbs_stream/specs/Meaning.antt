@@ -77,13 +77,13 @@ IsSound (verb.Label options) = IsSoundLabel options
 IsSound (verb.Unflatten options) = IsSoundUnflatten options
 IsSound _ = Unit {0}
 
--- options without a list, without a pattern and without a text of more than 16 bytes
+-- options without a list, without a pattern and without a text of more than 20 bytes
 abbrev pub IsShort : Spec → Type 0
 IsShort verb.Altkv = Unit {0}
-IsShort (verb.Cat cat) = (length cat.name ≤ 16) × (cat.groups ≡ None)
+IsShort (verb.Cat cat) = (length cat.name ≤ 20) × (cat.groups ≡ None)
 IsShort (verb.Decimate decimate) = decimate.groups ≡ None
-IsShort (verb.FillEmpty fill) = length fill.text ≤ 16
-IsShort (verb.Flatten flatten) = (flatten.names ≡ None) × (length flatten.separator ≤ 16)
+IsShort (verb.FillEmpty fill) = length fill.text ≤ 20
+IsShort (verb.Flatten flatten) = (flatten.names ≡ None) × (length flatten.separator ≤ 20)
 IsShort (verb.Gap (gaps.Count n)) = Unit {0}
 IsShort (verb.Head head) = head.groups ≡ None
 IsShort (verb.JsonParse parse) = parse.names ≡ None
@@ -91,10 +91,10 @@ IsShort (verb.JsonStringify stringify) = stringify.names ≡ None
 IsShort verb.Nothing = Unit {0}
 IsShort verb.Regularize = Unit {0}
 IsShort (verb.Repeat (times.Count n)) = Unit {0}
-IsShort (verb.Repeat (times.Field name)) = length name ≤ 16
+IsShort (verb.Repeat (times.Field name)) = length name ≤ 20
 IsShort (verb.SortWithinRecords sort) = Unit {0}
 IsShort (verb.Sparsify sparsify) = sparsify.names ≡ None
-IsShort (verb.Ssub ssub) = (ssub.fields ≡ fields.All) × (length ssub.old ≤ 16) × (length ssub.by ≤ 16)
-IsShort (verb.Unflatten unflatten) = (unflatten.names ≡ None) × (length unflatten.separator ≤ 16)
-IsShort (verb.Unspace unspace) = length unspace.text ≤ 16
+IsShort (verb.Ssub ssub) = (ssub.fields ≡ fields.All) × (length ssub.old ≤ 20) × (length ssub.by ≤ 20)
+IsShort (verb.Unflatten unflatten) = (unflatten.names ≡ None) × (length unflatten.separator ≤ 20)
+IsShort (verb.Unspace unspace) = length unspace.text ≤ 20
 IsShort _ = ⊥

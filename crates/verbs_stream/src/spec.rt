@@ -117,7 +117,7 @@ impl Drop for Spec {
 }
 
 impl Spec {
-    /// A copy, which shares the patterns. It allocates lists, and texts of more than 16 bytes.
+    /// A copy, which shares the patterns. It allocates lists, and texts of more than 20 bytes.
     pub fn copy(&self, alloc: Global) -> Result<Self, NoMemory>
         ensures meaning { IfOk result (λ copy. meaning_of copy ≡ meaning_of self.now) }
         ensures sound { IfOk result (λ copy. IsSound self.now → IsSound copy) }

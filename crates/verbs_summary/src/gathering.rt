@@ -76,7 +76,7 @@ fn held_place(text: &[u8], name: &[u8]) -> Option<usize>
     separator_place(text, name)
 }
 
-/// A name without the first of some texts that it holds. It allocates for a short name of more than 16 bytes.
+/// A name without the first of some texts that it holds. It allocates for a short name of more than 20 bytes.
 fn shortened(alloc: Global, texts: &Names, name: &[u8]) -> Result<Option<Bytes>, NoMemory>
     ensures { IfOk result (λ short. short ≡ shortened texts.now name.now) }
 {

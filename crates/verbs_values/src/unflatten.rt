@@ -18,10 +18,10 @@ pub struct Unflatten {
 }
 
 impl Unflatten {
-    /// A copy. It allocates for the names, and for a separator of more than 16 bytes.
+    /// A copy. It allocates for the names, and for a separator of more than 20 bytes.
     pub fn copy(&self, alloc: Global) -> Result<Self, NoMemory>
         ensures same { IfOk result (λ copy. copy ≡ self.now) }
-        ensures short { self.now.names ≡ None → length self.now.separator ≤ 16 → IsOk result }
+        ensures short { self.now.names ≡ None → length self.now.separator ≤ 20 → IsOk result }
     {
         Ok(Unflatten {
             names: self.names.as_ref().map(Names::copy).transpose()?,

@@ -25,7 +25,7 @@ pub(crate) fn are_keys(keys: &[Bytes], fields: &[Field]) -> bool
     true
 }
 
-/// Replaces the keys by those of the record. It allocates for a key of more than 16 bytes, and for more keys
+/// Replaces the keys by those of the record. It allocates for a key of more than 20 bytes, and for more keys
 /// than there ever were.
 pub(crate) fn put_keys(
     alloc: Global,

@@ -77,11 +77,11 @@ impl WriteOpts {
         })
     }
 
-    /// A copy. It takes memory for texts of more than 16 bytes.
+    /// A copy. It takes memory for texts of more than 20 bytes.
     pub fn copy(&self, alloc: Global) -> Result<WriteOpts, NoMemory>
         ensures same { IfOk result (λ copy. copy ≡ self.now) }
-        ensures short { length self.now.ofs ≤ 16 → length self.now.ops ≤ 16
-            → length self.now.flatsep ≤ 16 → IsOk result }
+        ensures short { length self.now.ofs ≤ 20 → length self.now.ops ≤ 20
+            → length self.now.flatsep ≤ 20 → IsOk result }
     {
         Ok(WriteOpts {
             format: self.format,

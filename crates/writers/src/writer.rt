@@ -56,7 +56,7 @@ impl Drop for Writer {
 }
 
 impl Writer {
-    /// Nothing came yet. It takes memory for options of more than 16 bytes.
+    /// Nothing came yet. It takes memory for options of more than 20 bytes.
     pub fn new(alloc: Global, opts: &WriteOpts) -> Result<Writer, NoMemory>
         ensures represents { IfOk result (λ writer. Represents opts.now writer []) }
         ensures open { IfOk result (λ writer. IsOpen writer) }

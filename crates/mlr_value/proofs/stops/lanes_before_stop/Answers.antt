@@ -1,9 +1,9 @@
 use Rattle.std.proofs.Common.{ap, sym, ◌∙◌, nat_lt, arith}
 use lib.Count.{count_trailing_zeros}
 use Rattle.mlr_value.proofs.Stopping.{before-stop}
-use Rattle.mlr_value.proofs.stops.cells_before_stop.Goals as goal
+use Rattle.mlr_value.proofs.stops.lanes_before_stop.Goals as goal
 
 pub returns : goal.returns
 returns c n few =
-    before-stop c.args.stops c.args.cells.now n (omega arith) few
+    before-stop c.args.stops c.args.lanes n (omega arith) few
     ∙ sym (ap (λ m. nat_lt (count_trailing_zeros 64 m) n) c.stop_bits.ensures)

@@ -1,6 +1,0 @@
-use Rattle.std.proofs.Common.{arith}
-use Rattle.mlr_value.proofs.Equal.{equal-mask}
-use Rattle.mlr_value.proofs.short.equal_cells.Goals as goal
-
-pub returns : goal.returns
-returns c n few = equal-mask c.args.one.now c.args.other.now (omega arith) (omega arith) n few
