@@ -1,11 +1,11 @@
 -- Records are replaced in their places, one event after another.
 use Rattle.std.proofs.Common.{◌≡◌, ℕ, suc, ◌+◌, ◌<◌, ◌≤◌, Bool, true, false, cond, List, [], ◌∷◌, ◌++◌, Some, None, inl, inr, map, length, take, drop, set, get_or, refl, ap, ap₂, sym, ◌∙◌, append_assoc, arith, add-one, drop-cons, drop_of_length-le, take-suc}
-use Rattle.std.specs.List.{flat_map, swap}
+use Rattle.std.specs.List.{swap}
 use Rattle.std.proofs.lemmas.Bool.{cases_eq}
 use Rattle.std.proofs.lemmas.Grind.{get_or-set_at}
 use Rattle.std.proofs.lemmas.List.{append-nil, drop-set-lt, get_or-set_other, get_or-set_same, get_or_default, length-set, take-set-le}
 use Rattle.mlr_event.specs.InPlace.{fields_in, with_fields}
-use Rattle.std.proofs.lemmas.List.Edits.{length-swap, swap_is}
+use Rattle.std.proofs.lemmas.List.Edits.{swap_is}
 use Rattle.mlr_event.specs.declared.event.Event.{Event}
 use Rattle.mlr_event.specs.declared.event.Event.TheVariants as event
 use Rattle.verbs_base.specs.Records.{Fields, Row, each, given_for, given_for_all, row_in}

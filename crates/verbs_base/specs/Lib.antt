@@ -5,4 +5,4 @@ pub mod Taking
 pub mod Replacing
 pub mod Laws
 pub mod OverEvents
-pub mod Swapping
+pub mod Placing

@@ -1,11 +1,10 @@
 //! Removes fields by name from a list, or moves them in it.
-ghost use Rattle.std.specs.Prelude.{◌≡◌, ◌++◌, true, length, take, vec_len, ◌+◌, ◌-◌, ◌<◌};
-ghost use Rattle.std.specs.List.{cons_option};
+ghost use Rattle.std.specs.Prelude.{◌≡◌, ◌++◌, true, length, take, drop, vec_len, ◌+◌, ◌-◌, ◌<◌};
 ghost use Rattle.std.specs.Option.{is_some, option_map};
 ghost use Rattle.mlr_spec.specs.Pairs.{remove_at, keys_of, are_distinct};
 ghost use Rattle.mlr_record.specs.Fields.{IsPlaceOf, pair_of, pairs_of};
 ghost use Rattle.verbs_base.specs.Choosing.{named, picked, dropped};
-ghost use Rattle.verbs_base.specs.Swapping.{IsSwapped};
+ghost use Rattle.verbs_base.specs.Placing.{IsPlaced};
 
 use mlr_record::Field;
 use mlr_value::Bytes;
@@ -41,26 +40,7 @@ pub fn move_named(names: &[Bytes], fields: &mut [Field]) -> usize
     ensures moved { pairs_of fields.new ≡ picked names.now (pairs_of fields.old)
         ++ dropped names.now (pairs_of fields.old) }
 {
-    let mut count = 0;
-    for name in names {
-        if move_first(&mut fields[count..], name) {
-            count += 1;
-        }
-    }
-    count
-}
-
-/// Moves the field of this name to the start, if there is one, and returns whether there is one.
-fn move_first(fields: &mut [Field], name: &Bytes) -> bool
-    ensures found { result ≡ is_some (named (pairs_of fields.old) name.now) }
-    ensures moved { pairs_of fields.new ≡ cons_option (named (pairs_of fields.old) name.now)
-        (remove_at name.now (pairs_of fields.old)) }
-{
-    let Some(place) = place_of(fields, name) else {
-        return false;
-    };
-    fields[..place + 1].rotate_right(1);
-    true
+    place_named(names, fields, true)
 }
 
 /// Swaps the named fields to the start, in the order of the names, and returns how many they are. The others follow in any
@@ -70,26 +50,45 @@ pub(crate) fn swap_named(names: &[Bytes], fields: &mut [Field]) -> usize
     ensures count { result ≡ length (picked names.now (pairs_of fields.old)) }
     ensures swapped { take result (pairs_of fields.new) ≡ picked names.now (pairs_of fields.old) }
 {
+    place_named(names, fields, false)
+}
+
+/// Places the named fields at the start, in the order of the names, and returns how many they are. The others keep their
+/// order, if that is asked.
+#[inline(always)]
+fn place_named(names: &[Bytes], fields: &mut [Field], keeps_order: bool) -> usize
+    requires { are_distinct (keys_of (pairs_of fields.old)) ≡ true }
+    ensures count { result ≡ length (picked names.now (pairs_of fields.old)) }
+    ensures first { take result (pairs_of fields.new) ≡ picked names.now (pairs_of fields.old) }
+    ensures kept { keeps_order ≡ true → drop result (pairs_of fields.new)
+        ≡ dropped names.now (pairs_of fields.old) }
+{
     let mut count = 0;
     for name in names {
-        if swap_first(&mut fields[count..], name) {
+        if place_first(&mut fields[count..], name, keeps_order) {
             count += 1;
         }
     }
     count
 }
 
-/// Swaps the field of this name with the first, if there is one, and returns whether there is one.
+/// Places the field of this name at the start, if there is one, and returns whether there is one. The others keep their
+/// order, if that is asked, and otherwise the first one takes its place.
 #[inline(always)]
-fn swap_first(fields: &mut [Field], name: &Bytes) -> bool
+#[tactic(auto, using(crate::proofs::Moving::found_some))]
+fn place_first(fields: &mut [Field], name: &Bytes, keeps_order: bool) -> bool
     requires { are_distinct (keys_of (pairs_of fields.old)) ≡ true }
     ensures found { result ≡ is_some (named (pairs_of fields.old) name.now) }
-    ensures swapped { IsSwapped name.now (pairs_of fields.old) (pairs_of fields.new) }
+    ensures placed { IsPlaced keeps_order name.now (pairs_of fields.old) (pairs_of fields.new) }
 {
     let Some(place) = place_of(fields, name) else {
         return false;
     };
-    fields.swap(0, place);
+    if keeps_order {
+        fields[..place + 1].rotate_right(1);
+    } else {
+        fields.swap(0, place);
+    }
     true
 }
 
