@@ -11,7 +11,7 @@ use mlr_value::Bytes;
 
 /// Whether a verb takes the field of a name: one of the names that it was given, or any where it was given none. It takes
 /// no memory.
-#[inline]
+#[inline(always)]
 pub fn is_taken(names: Option<&Names>, name: &Bytes) -> bool
     ensures { result ≡ is_taken (option_map (λ names. names.now) names.entry) name.now }
 {
@@ -22,7 +22,7 @@ pub fn is_taken(names: Option<&Names>, name: &Bytes) -> bool
 }
 
 /// Whether a name is one of the names. It takes no memory.
-#[inline]
+#[inline(always)]
 pub fn is_named(names: &Names, name: &Bytes) -> bool
     ensures { result ≡ is_among names.now name.now }
 {
