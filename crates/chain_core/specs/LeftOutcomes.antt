@@ -1,4 +1,5 @@
--- How a run ends whose left files weren't all read whole.
+-- How a run ends whose left files weren't all read whole. A turn that has more to read, and one that has read them all, end no run,
+-- so these two cases never come.
 use Rattle.left_files.specs.declared.reader.LeftTurn.{LeftTurn}
 use Rattle.left_files.specs.declared.reader.LeftTurn.TheVariants as turn
 use Rattle.serial_core.specs.declared.answer.Ended.{Ended}

@@ -15,15 +15,22 @@ pub enum OneOf<A, B, C, D> {
     Stat(D),
 }
 
+/// The same call on a verb of whatever kind.
+macro_rules! of_each {
+    ($one:expr, $verb:ident => $call:expr) => {
+        match $one {
+            OneOf::Stream($verb) => $call,
+            OneOf::Retain($verb) => $call,
+            OneOf::Shape($verb) => $call,
+            OneOf::Stat($verb) => $call,
+        }
+    };
+}
+
 // Written by hand, so that the crates above call it instead of dropping the fields themselves.
 impl<A: Drop, B: Drop, C: Drop, D: Drop> Drop for OneOf<A, B, C, D> {
     fn drop(self) {
-        match self {
-            OneOf::Stream(verb) => drop(verb),
-            OneOf::Retain(verb) => drop(verb),
-            OneOf::Shape(verb) => drop(verb),
-            OneOf::Stat(verb) => drop(verb),
-        }
+        of_each!(self, verb => drop(verb))
     }
 }
 
@@ -80,65 +87,30 @@ impl<A: Step, B: Step, C: Step, D: Step> Step for OneOf<A, B, C, D> {
     ] };
 
     fn step(&mut self, event: Event, out: &mut Events) -> Result<(), NoMemory> {
-        match self {
-            OneOf::Stream(verb) => verb.step(event, out),
-            OneOf::Retain(verb) => verb.step(event, out),
-            OneOf::Shape(verb) => verb.step(event, out),
-            OneOf::Stat(verb) => verb.step(event, out),
-        }
+        of_each!(self, verb => verb.step(event, out))
     }
 
     fn step_all(&mut self, events: &mut Events, out: &mut Events) -> Result<(), NoMemory> {
-        match self {
-            OneOf::Stream(verb) => verb.step_all(events, out),
-            OneOf::Retain(verb) => verb.step_all(events, out),
-            OneOf::Shape(verb) => verb.step_all(events, out),
-            OneOf::Stat(verb) => verb.step_all(events, out),
-        }
+        of_each!(self, verb => verb.step_all(events, out))
     }
 
     fn never_closes(&self) -> bool {
-        match self {
-            OneOf::Stream(verb) => verb.never_closes(),
-            OneOf::Retain(verb) => verb.never_closes(),
-            OneOf::Shape(verb) => verb.never_closes(),
-            OneOf::Stat(verb) => verb.never_closes(),
-        }
+        of_each!(self, verb => verb.never_closes())
     }
 
     fn closed(&self) -> bool {
-        match self {
-            OneOf::Stream(verb) => verb.closed(),
-            OneOf::Retain(verb) => verb.closed(),
-            OneOf::Shape(verb) => verb.closed(),
-            OneOf::Stat(verb) => verb.closed(),
-        }
+        of_each!(self, verb => verb.closed())
     }
 
     fn has_effects(&self) -> bool {
-        match self {
-            OneOf::Stream(verb) => verb.has_effects(),
-            OneOf::Retain(verb) => verb.has_effects(),
-            OneOf::Shape(verb) => verb.has_effects(),
-            OneOf::Stat(verb) => verb.has_effects(),
-        }
+        of_each!(self, verb => verb.has_effects())
     }
 
     fn passes_all(&self) -> bool {
-        match self {
-            OneOf::Stream(verb) => verb.passes_all(),
-            OneOf::Retain(verb) => verb.passes_all(),
-            OneOf::Shape(verb) => verb.passes_all(),
-            OneOf::Stat(verb) => verb.passes_all(),
-        }
+        of_each!(self, verb => verb.passes_all())
     }
 
     fn is_broken(&self) -> bool {
-        match self {
-            OneOf::Stream(verb) => verb.is_broken(),
-            OneOf::Retain(verb) => verb.is_broken(),
-            OneOf::Shape(verb) => verb.is_broken(),
-            OneOf::Stat(verb) => verb.is_broken(),
-        }
+        of_each!(self, verb => verb.is_broken())
     }
 }

@@ -1,12 +1,14 @@
 -- The options of the verbs, and the verbs with patterns, may be moved to another thread, and options may be shared by
 -- threads.
 use denote.Param.Send.{IsSend, IsSync, sendable}
+use denote.Param.SendFields.{as_row_send}
 use Rattle.std.proofs.Crossing.{crosses}
 use Rattle.mlr_value.proofs.bytes.Bytes.TheSendSync as bytes
 use Rattle.mlr_event.proofs.field_names.Names.TheSendSync as names
 use Rattle.mlr_pattern.proofs.Crosses.{crosses_regex}
 use Rattle.mlr_pattern.specs.contracts.patterns.Patterns
 use Rattle.verbs_fields.proofs.rename_names.Renaming.TheSendSync as renaming
+use Rattle.verbs_pattern.proofs.searching.Searching.TheSendSync as searching
 use Rattle.verbs_pattern.specs.contracts.cut.Cut
 use Rattle.verbs_pattern.specs.contracts.cut.CutFields
 use Rattle.verbs_pattern.specs.contracts.grep.Grep
@@ -54,41 +56,23 @@ pub HavingFields-send : IsSend HavingFields.the_field.row
 HavingFields-send = search (crosses_regex, names.the_send, crosses, sendable) depth 60 fits 20000
 
 -- options as arguments of `Searching`, and the verbs, moved to another thread
-Sub-row-send : IsSend Sub.the_row
-Sub-row-send = search (Sub-send, crosses, sendable) depth 60 fits 20000
-
 pub SubVerb-send : IsSend (Searching.the_field Sub.the_row).row
-SubVerb-send = search (Sub-row-send, crosses, sendable) depth 60 fits 20000
-
-Gsub-row-send : IsSend Gsub.the_row
-Gsub-row-send = search (Gsub-send, crosses, sendable) depth 60 fits 20000
+SubVerb-send = searching.the_field_send Sub.the_row (as_row_send Sub.the_field Sub-send)
 
 pub GsubVerb-send : IsSend (Searching.the_field Gsub.the_row).row
-GsubVerb-send = search (Gsub-row-send, crosses, sendable) depth 60 fits 20000
-
-Grep-row-send : IsSend Grep.the_row
-Grep-row-send = search (Grep-send, crosses, sendable) depth 60 fits 20000
+GsubVerb-send = searching.the_field_send Gsub.the_row (as_row_send Gsub.the_field Gsub-send)
 
 pub GrepVerb-send : IsSend (Searching.the_field Grep.the_row).row
-GrepVerb-send = search (Grep-row-send, crosses, sendable) depth 60 fits 20000
-
-Rename-row-send : IsSend Rename.the_row
-Rename-row-send = search (Rename-send, crosses, sendable) depth 60 fits 20000
+GrepVerb-send = searching.the_field_send Grep.the_row (as_row_send Grep.the_field Grep-send)
 
 pub RenameVerb-send : IsSend (Searching.the_field Rename.the_row).row
-RenameVerb-send = search (Rename-row-send, crosses, sendable) depth 60 fits 20000
-
-Cut-row-send : IsSend Cut.the_row
-Cut-row-send = search (Cut-send, crosses, sendable) depth 60 fits 20000
+RenameVerb-send = searching.the_field_send Rename.the_row (as_row_send Rename.the_field Rename-send)
 
 pub CutVerb-send : IsSend (Searching.the_field Cut.the_row).row
-CutVerb-send = search (Cut-row-send, crosses, sendable) depth 60 fits 20000
-
-HavingFields-row-send : IsSend HavingFields.the_row
-HavingFields-row-send = search (HavingFields-send, crosses, sendable) depth 60 fits 20000
+CutVerb-send = searching.the_field_send Cut.the_row (as_row_send Cut.the_field Cut-send)
 
 pub HavingFieldsVerb-send : IsSend (Searching.the_field HavingFields.the_row).row
-HavingFieldsVerb-send = search (HavingFields-row-send, crosses, sendable) depth 60 fits 20000
+HavingFieldsVerb-send = searching.the_field_send HavingFields.the_row (as_row_send HavingFields.the_field HavingFields-send)
 
 -- options, shared by threads
 SubFields-sync : IsSync SubFields.the_field.row

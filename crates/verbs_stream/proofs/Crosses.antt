@@ -4,10 +4,12 @@ use denote.Param.SendFields.{as_row_send, variants_send}
 use Rattle.std.proofs.Crossing.{crosses}
 use Rattle.verbs_base.proofs.over_events.OverEvents.TheSendSync as over_events
 use Rattle.verbs_base.proofs.per_record.Each.TheSendSync as each
-use Rattle.verbs_fields.proofs.Crosses.{crosses_fields}
-use Rattle.verbs_pattern.proofs.Crosses.{CutVerb-send, GrepVerb-send, GsubVerb-send, HavingFieldsVerb-send, RenameVerb-send, SubVerb-send, crosses_patterned}
-use Rattle.verbs_state.proofs.Crosses.{CatVerb-send, DecimateVerb-send, FillDownVerb-send, GapVerb-send, HeadVerb-send, RegularizeVerb-send, RepeatVerb-send, crosses_state}
-use Rattle.verbs_values.proofs.Crosses.{crosses_values}
+use Rattle.verbs_fields.proofs.Crosses as fields
+use Rattle.verbs_pattern.proofs.Crosses.{CutVerb-send, GrepVerb-send, GsubVerb-send, HavingFieldsVerb-send, RenameVerb-send, SubVerb-send}
+use Rattle.verbs_pattern.proofs.Crosses as patterned
+use Rattle.verbs_state.proofs.Crosses.{CatVerb-send, DecimateVerb-send, FillDownVerb-send, GapVerb-send, HeadVerb-send, RegularizeVerb-send, RepeatVerb-send}
+use Rattle.verbs_state.proofs.Crosses as state
+use Rattle.verbs_values.proofs.Crosses as values
 use Rattle.verbs_base.specs.contracts.over_events.OverEvents
 use Rattle.verbs_base.specs.contracts.per_record.Each
 use Rattle.verbs_fields.specs.contracts.altkv.Altkv
@@ -44,101 +46,53 @@ use Rattle.verbs_stream.specs.contracts.running.Running
 use Rattle.verbs_stream.specs.contracts.verb.StreamVerb
 
 -- the verbs that take each record by itself, as arguments of `Each`
-Altkv-row-send : IsSend Altkv.the_row
-Altkv-row-send = search (crosses_fields, crosses, sendable) depth 60 fits 20000
-
 Altkv-send : IsSend (Each.the_field Altkv.the_row).row
-Altkv-send = each.the_field_send Altkv.the_row Altkv-row-send
-
-Label-row-send : IsSend Label.the_row
-Label-row-send = search (crosses_fields, crosses, sendable) depth 60 fits 20000
+Altkv-send = each.the_field_send Altkv.the_row (as_row_send Altkv.the_field fields.Altkv-send)
 
 Label-send : IsSend (Each.the_field Label.the_row).row
-Label-send = each.the_field_send Label.the_row Label-row-send
-
-Reorder-row-send : IsSend Reorder.the_row
-Reorder-row-send = search (crosses_fields, crosses, sendable) depth 60 fits 20000
+Label-send = each.the_field_send Label.the_row (as_row_send Label.the_field fields.Label-send)
 
 Reorder-send : IsSend (Each.the_field Reorder.the_row).row
-Reorder-send = each.the_field_send Reorder.the_row Reorder-row-send
-
-SortWithinRecords-row-send : IsSend SortWithinRecords.the_row
-SortWithinRecords-row-send = search (crosses_fields, crosses, sendable) depth 60 fits 20000
+Reorder-send = each.the_field_send Reorder.the_row (as_row_send Reorder.the_field fields.Reorder-send)
 
 SortWithinRecords-send : IsSend (Each.the_field SortWithinRecords.the_row).row
-SortWithinRecords-send = each.the_field_send SortWithinRecords.the_row SortWithinRecords-row-send
-
-Sparsify-row-send : IsSend Sparsify.the_row
-Sparsify-row-send = search (crosses_fields, crosses, sendable) depth 60 fits 20000
+SortWithinRecords-send = each.the_field_send SortWithinRecords.the_row (as_row_send SortWithinRecords.the_field fields.SortWithinRecords-send)
 
 Sparsify-send : IsSend (Each.the_field Sparsify.the_row).row
-Sparsify-send = each.the_field_send Sparsify.the_row Sparsify-row-send
-
-Template-row-send : IsSend Template.the_row
-Template-row-send = search (crosses_fields, crosses, sendable) depth 60 fits 20000
+Sparsify-send = each.the_field_send Sparsify.the_row (as_row_send Sparsify.the_field fields.Sparsify-send)
 
 Template-send : IsSend (Each.the_field Template.the_row).row
-Template-send = each.the_field_send Template.the_row Template-row-send
-
-Unspace-row-send : IsSend Unspace.the_row
-Unspace-row-send = search (crosses_fields, crosses, sendable) depth 60 fits 20000
+Template-send = each.the_field_send Template.the_row (as_row_send Template.the_field fields.Template-send)
 
 Unspace-send : IsSend (Each.the_field Unspace.the_row).row
-Unspace-send = each.the_field_send Unspace.the_row Unspace-row-send
-
-Ssub-row-send : IsSend Ssub.the_row
-Ssub-row-send = search (crosses_patterned, crosses, sendable) depth 60 fits 20000
+Unspace-send = each.the_field_send Unspace.the_row (as_row_send Unspace.the_field fields.Unspace-send)
 
 Ssub-send : IsSend (Each.the_field Ssub.the_row).row
-Ssub-send = each.the_field_send Ssub.the_row Ssub-row-send
-
-Nothing-row-send : IsSend Nothing.the_row
-Nothing-row-send = search (crosses_state, crosses, sendable) depth 60 fits 20000
+Ssub-send = each.the_field_send Ssub.the_row (as_row_send Ssub.the_field patterned.Ssub-send)
 
 Nothing-send : IsSend (Each.the_field Nothing.the_row).row
-Nothing-send = each.the_field_send Nothing.the_row Nothing-row-send
-
-FillEmpty-row-send : IsSend FillEmpty.the_row
-FillEmpty-row-send = search (crosses_values, crosses, sendable) depth 60 fits 20000
+Nothing-send = each.the_field_send Nothing.the_row (as_row_send Nothing.the_field state.Nothing-send)
 
 FillEmpty-send : IsSend (Each.the_field FillEmpty.the_row).row
-FillEmpty-send = each.the_field_send FillEmpty.the_row FillEmpty-row-send
-
-Flatten-row-send : IsSend Flatten.the_row
-Flatten-row-send = search (crosses_values, crosses, sendable) depth 60 fits 20000
+FillEmpty-send = each.the_field_send FillEmpty.the_row (as_row_send FillEmpty.the_field values.FillEmpty-send)
 
 Flatten-send : IsSend (Each.the_field Flatten.the_row).row
-Flatten-send = each.the_field_send Flatten.the_row Flatten-row-send
-
-JsonParse-row-send : IsSend JsonParse.the_row
-JsonParse-row-send = search (crosses_values, crosses, sendable) depth 60 fits 20000
+Flatten-send = each.the_field_send Flatten.the_row (as_row_send Flatten.the_field values.Flatten-send)
 
 JsonParse-send : IsSend (Each.the_field JsonParse.the_row).row
-JsonParse-send = each.the_field_send JsonParse.the_row JsonParse-row-send
-
-JsonStringify-row-send : IsSend JsonStringify.the_row
-JsonStringify-row-send = search (crosses_values, crosses, sendable) depth 60 fits 20000
+JsonParse-send = each.the_field_send JsonParse.the_row (as_row_send JsonParse.the_field values.JsonParse-send)
 
 JsonStringify-send : IsSend (Each.the_field JsonStringify.the_row).row
-JsonStringify-send = each.the_field_send JsonStringify.the_row JsonStringify-row-send
-
-Sec2Gmt-row-send : IsSend Sec2Gmt.the_row
-Sec2Gmt-row-send = search (crosses_values, crosses, sendable) depth 60 fits 20000
+JsonStringify-send = each.the_field_send JsonStringify.the_row (as_row_send JsonStringify.the_field values.JsonStringify-send)
 
 Sec2Gmt-send : IsSend (Each.the_field Sec2Gmt.the_row).row
-Sec2Gmt-send = each.the_field_send Sec2Gmt.the_row Sec2Gmt-row-send
-
-Sec2GmtDate-row-send : IsSend Sec2GmtDate.the_row
-Sec2GmtDate-row-send = search (crosses_values, crosses, sendable) depth 60 fits 20000
+Sec2Gmt-send = each.the_field_send Sec2Gmt.the_row (as_row_send Sec2Gmt.the_field values.Sec2Gmt-send)
 
 Sec2GmtDate-send : IsSend (Each.the_field Sec2GmtDate.the_row).row
-Sec2GmtDate-send = each.the_field_send Sec2GmtDate.the_row Sec2GmtDate-row-send
-
-Unflatten-row-send : IsSend Unflatten.the_row
-Unflatten-row-send = search (crosses_values, crosses, sendable) depth 60 fits 20000
+Sec2GmtDate-send = each.the_field_send Sec2GmtDate.the_row (as_row_send Sec2GmtDate.the_field values.Sec2GmtDate-send)
 
 Unflatten-send : IsSend (Each.the_field Unflatten.the_row).row
-Unflatten-send = each.the_field_send Unflatten.the_row Unflatten-row-send
+Unflatten-send = each.the_field_send Unflatten.the_row (as_row_send Unflatten.the_field values.Unflatten-send)
 
 Running-row-send : IsSend Running.the_row
 Running-row-send = variants_send Running.enum ((as_row_send (Each.the_field Altkv.the_row) Altkv-send, tt), ((as_row_send CatVerb.the_field CatVerb-send, tt), ((as_row_send (Searching.the_field Cut.the_row) CutVerb-send, tt), ((as_row_send DecimateVerb.the_field DecimateVerb-send, tt), ((as_row_send FillDownVerb.the_field FillDownVerb-send, tt), ((as_row_send (Each.the_field FillEmpty.the_row) FillEmpty-send, tt), ((as_row_send (Each.the_field Flatten.the_row) Flatten-send, tt), ((as_row_send GapVerb.the_field GapVerb-send, tt), ((as_row_send (Searching.the_field Grep.the_row) GrepVerb-send, tt), ((as_row_send (Searching.the_field Gsub.the_row) GsubVerb-send, tt), ((as_row_send (Searching.the_field HavingFields.the_row) HavingFieldsVerb-send, tt), ((as_row_send HeadVerb.the_field HeadVerb-send, tt), ((as_row_send (Each.the_field JsonParse.the_row) JsonParse-send, tt), ((as_row_send (Each.the_field JsonStringify.the_row) JsonStringify-send, tt), ((as_row_send (Each.the_field Label.the_row) Label-send, tt), ((as_row_send (Each.the_field Nothing.the_row) Nothing-send, tt), ((as_row_send RegularizeVerb.the_field RegularizeVerb-send, tt), ((as_row_send (Searching.the_field Rename.the_row) RenameVerb-send, tt), ((as_row_send (Each.the_field Reorder.the_row) Reorder-send, tt), ((as_row_send RepeatVerb.the_field RepeatVerb-send, tt), ((as_row_send (Each.the_field Sec2Gmt.the_row) Sec2Gmt-send, tt), ((as_row_send (Each.the_field Sec2GmtDate.the_row) Sec2GmtDate-send, tt), ((as_row_send (Each.the_field SortWithinRecords.the_row) SortWithinRecords-send, tt), ((as_row_send (Each.the_field Sparsify.the_row) Sparsify-send, tt), ((as_row_send (Each.the_field Ssub.the_row) Ssub-send, tt), ((as_row_send (Searching.the_field Sub.the_row) SubVerb-send, tt), ((as_row_send (Each.the_field Template.the_row) Template-send, tt), ((as_row_send (Each.the_field Unflatten.the_row) Unflatten-send, tt), ((as_row_send (Each.the_field Unspace.the_row) Unspace-send, tt), tt)))))))))))))))))))))))))))))
@@ -150,4 +104,4 @@ pub StreamVerb-field-send : IsSend StreamVerb.the_field.row
 StreamVerb-field-send = search (OverEvents-send, crosses, sendable) depth 60 fits 20000
 
 pub StreamVerb-send : IsSend StreamVerb.the_row
-StreamVerb-send = search (StreamVerb-field-send, crosses, sendable) depth 60 fits 20000
+StreamVerb-send = as_row_send StreamVerb.the_field StreamVerb-field-send
