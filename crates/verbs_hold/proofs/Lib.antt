@@ -5,3 +5,4 @@ pub mod Lasts
 pub mod WholeLists
 pub mod Names
 pub mod Rows
+mod Turning

@@ -45,16 +45,17 @@ impl AtEnd for TacRows {
     }
 
     fn finish(&mut self, _: Global, _: Ctx, out: &mut Events) -> Result<(), NoMemory> {
-        push_backwards(&mut self.rows, out)
+        reverse(&mut self.rows);
+        out.append(&mut self.rows)
     }
 }
 
-/// Appends these events backwards.
-fn push_backwards(rows: &mut Events, out: &mut Events) -> Result<(), NoMemory>
-    ensures { OnOk result (out.new ≡ out.old ++ reverse rows.old) }
+/// Reverses the order of the events, in their places.
+fn reverse(rows: &mut Events)
+    ensures { rows.new ≡ reverse rows.old }
 {
-    while let Some(event) = rows.pop_last() {
-        out.push(event)?;
+    let len = rows.len();
+    for place in 0..len / 2 {
+        rows.swap(place, len - 1 - place);
     }
-    Ok(())
 }
