@@ -2,7 +2,7 @@
 use Rattle.std.proofs.Common.{◌≡◌, ℕ, zero, suc, ◌+◌, ◌<◌, Bool, true, false, cond, List, [], ◌∷◌, ◌++◌, map, length, take, drop, set, get_or, Some, None, slice_get, refl, ap, sym, ◌∙◌, arith, add-one}
 use Rattle.std.proofs.lemmas.List.{set-get_or, get_or-set_same}
 use Rattle.mlr_spec.specs.Tree.{Tree}
-use Rattle.verbs_base.specs.Changing.{changed_field, changed}
+use Rattle.verbs_base.specs.Changing.{changed_field, changed, with_image}
 
 module _ {V : Type 0} where
   pub get_or-at : (xs : List V) (i : ℕ) (x d : V) → slice_get xs i ≡ Some x → get_or xs i d ≡ x
@@ -30,18 +30,24 @@ module _ (takes : List ℕ → Bool) (change : Tree → Tree) (pairs : List (Lis
       ∙ ap (λ t. set pairs i (name, cond t (change value) value)) not_taken
       ∙ ap (set pairs i) (sym (get_or-at pairs i (name, value) d at)) ∙ set-get_or pairs i d)
 
-  -- a field that is taken is emptied, and then has its value changed
-  pub field-changed : i < length pairs → takes name ≡ true → (d : List ℕ × Tree) (gone : Tree) (mid after : List (List ℕ × Tree)) (had made : Tree)
-      → mid ≡ set pairs i ((get_or pairs i d).0, gone) → had ≡ (get_or pairs i d).1 → made ≡ change had → after ≡ set mid i ((get_or mid i d).0, made)
-      → after ≡ set pairs i (changed_field takes change (get_or pairs i d))
-  field-changed below taken d gone mid after had made emptied is_had is_made put =
+  -- a field that is taken has its value changed
+  pub field-taken : takes name ≡ true → (d : List ℕ × Tree)
+      → set pairs i (with_image change (get_or pairs i d)) ≡ set pairs i (changed_field takes change (get_or pairs i d))
+  field-taken taken d =
       let here = get_or-at pairs i (name, value) d at in
-      let named : (get_or mid i d).0 ≡ name = ap (λ xs. (get_or xs i d).0) emptied ∙ ap (λ p. p.0) (get_or-set_same pairs i ((get_or pairs i d).0, gone) d below) ∙ ap (λ p. p.0) here in
-      let valued : made ≡ change value = is_made ∙ ap change (is_had ∙ ap (λ p. p.1) here) in
-      put ∙ ap (λ n. set mid i (n, made)) named ∙ ap (λ v. set mid i (name, v)) valued
-      ∙ ap (λ xs. set xs i (name, change value)) emptied ∙ set-twice pairs i ((get_or pairs i d).0, gone) (name, change value)
+      ap (λ p. set pairs i (with_image change p)) here
       ∙ ap (λ t. set pairs i (name, cond t (change value) value)) (sym taken)
       ∙ ap (λ p. set pairs i (changed_field takes change p)) (sym here)
+
+-- a value is taken out, and its image is put in its place
+pub value-changed : (change : Tree → Tree) (pairs mid after : List (List ℕ × Tree)) (i : ℕ) (d : List ℕ × Tree) (gone had made : Tree) → i < length pairs
+    → mid ≡ set pairs i ((get_or pairs i d).0, gone) → had ≡ (get_or pairs i d).1 → made ≡ change had → after ≡ set mid i ((get_or mid i d).0, made)
+    → after ≡ set pairs i (with_image change (get_or pairs i d))
+value-changed change pairs mid after i d gone had made below emptied is_had is_made put =
+    let name = (get_or pairs i d).0 in
+    let named : (get_or mid i d).0 ≡ name = ap (λ xs. (get_or xs i d).0) emptied ∙ ap (λ p. p.0) (get_or-set_same pairs i (name, gone) d below) in
+    put ∙ ap (λ n. set mid i (n, made)) named ∙ ap (λ v. set mid i (name, v)) (is_made ∙ ap change is_had)
+    ∙ ap (λ xs. set xs i (name, change (get_or pairs i d).1)) emptied ∙ set-twice pairs i (name, gone) (name, change (get_or pairs i d).1)
 
 -- one more field, changed, before the remaining ones
 pub changed-more : (takes : List ℕ → Bool) (change : Tree → Tree) (before after : List (List ℕ × Tree)) (i : ℕ) (d : List ℕ × Tree) → i < length before

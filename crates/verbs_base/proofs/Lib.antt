@@ -6,3 +6,4 @@ pub mod Places
 mod Moving
 mod Swapping
 mod Replacing
+mod NamedChanges

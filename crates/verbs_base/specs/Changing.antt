@@ -1,5 +1,6 @@
 -- Values changed in their places.
 use Rattle.std.specs.Prelude.{ℕ, Bool, true, if◌then◌else◌, List, map, Option, Some, None}
+use Rattle.std.specs.Str.{bytes_eq}
 use Rattle.mlr_spec.specs.Tree.{Tree}
 use Rattle.mlr_event.specs.Reading.{is_among}
 
@@ -7,6 +8,14 @@ use Rattle.mlr_event.specs.Reading.{is_among}
 abbrev pub is_taken : Option (List (List ℕ)) → List ℕ → Bool
 is_taken None name = true
 is_taken (Some names) name = is_among names name
+
+-- whether it is this name
+abbrev pub has_name : List ℕ → List ℕ → Bool
+has_name name other = bytes_eq other name
+
+-- a field with another value
+abbrev pub with_image : (Tree → Tree) → List ℕ × Tree → List ℕ × Tree
+with_image change pair = (pair.0, change pair.1)
 
 -- a field whose value becomes another if the field is taken
 abbrev pub changed_field : (List ℕ → Bool) → (Tree → Tree) → List ℕ × Tree → List ℕ × Tree

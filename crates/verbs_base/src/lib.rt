@@ -12,7 +12,7 @@ mod per_record;
 mod stateful;
 mod string;
 
-pub use change::{Change, change_fields, change_record};
+pub use change::{Change, change_fields, change_named, change_record};
 pub use choosing::{drop_named, is_empty, keep_named, pick_named};
 pub use extraction::{move_named, take_field};
 pub use field_choice::{is_among, is_named, is_taken};

@@ -7,7 +7,7 @@ use mlr_spec::NoMemory;
 use mlr_time::sec2gmt;
 use mlr_value::{Bytes, Value};
 use std::alloc::Global;
-use verbs_base::{Change, PerRecord, change_record, is_named};
+use verbs_base::{Change, PerRecord, change_named, is_named};
 
 /// The options of `sec2gmt`, which replaces the seconds in the named fields by dates with times of day.
 #[derive(Drop)]
@@ -35,7 +35,12 @@ impl PerRecord for Sec2Gmt {
     ghost sound = { λ verb. Unit {0} };
 
     fn made(&mut self, alloc: Global, fields: Record) -> Result<Option<Record>, NoMemory> {
-        Ok(Some(change_record(&*self, alloc, fields)?))
+        Ok(Some(change_named(
+            &*self,
+            alloc,
+            &self.names,
+            fields,
+        )?))
     }
 }
 
