@@ -1,6 +1,6 @@
 //! `label`: new names for the first fields of a record.
-ghost use Rattle.std.specs.Prelude.{◌≡◌, ◌++◌, length, take, drop, IfOk, OnOk};
-ghost use Rattle.std.specs.List.{zip};
+ghost use Rattle.std.specs.Prelude.{◌≡◌, ◌<◌, ◌+◌, ◌++◌, length, take, drop, vec_len, IfOk, OnOk};
+ghost use Rattle.std.specs.List.{remove, zip};
 ghost use Rattle.mlr_spec.specs.Pairs.{are_distinct};
 ghost use Rattle.mlr_record.specs.Fields.{pairs_of};
 ghost use Rattle.verbs_base.specs.Choosing.{dropped};
@@ -71,9 +71,20 @@ fn drop_others(names: &[Bytes], fields: &mut Vec<Field>)
     while place > names.len() {
         place -= 1;
         if is_among(names, &fields[place].name) {
-            drop(fields.remove(place));
+            drop_at(fields, place);
         }
     }
+}
+
+/// Drops the field at a place. Few records have such a field, so this stays out of the loop.
+#[cold]
+#[inline(never)]
+fn drop_at(fields: &mut Vec<Field>, place: usize)
+    requires { place < vec_len fields.old }
+    ensures left { fields.new.items ≡ remove fields.old.items place }
+    ensures len { vec_len fields.new + 1 ≡ vec_len fields.old }
+{
+    drop(fields.remove(place));
 }
 
 /// Gives the first fields the names, one each.

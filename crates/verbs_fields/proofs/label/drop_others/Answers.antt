@@ -11,7 +11,7 @@ loop-place-preserved-then-is_among c =
       within = omega arith;
       reached = omega arith;
       items =
-          ap pairs_of c.remove.ensures.items
+          ap pairs_of c.drop_at.ensures.left
           ∙ dropped_from-step c.args.names.now c.loop-place.place (pairs_of c.args.fields.now.items) c.loop-place.fields.items c.index.result.now true
           (omega arith) before.within before.items c.index.ensures (sym c.if-is_among.true ∙ c.is_among.ensures);
     }
