@@ -52,13 +52,13 @@ module _ {X : Type 0} where
   turned-all old now count all turned =
       let n = length old in
       same_lists now (reverse old) (turned.long ∙ sym (length-reverse old)) (λ k d below.
-        let within : k < n = omega (arith, below, turned.long) in
-        let at : get_or now k d ≡ get_or old (n - 1 - k) d =
-        elim (cases_lt k count) [
-          | inl low ↦ turned.first d k low within
-          | inr high ↦ elim (cases_lt (k + count) n) [
-            | inl inside ↦ turned.between d k high inside ∙ ap (λ m. get_or old m d) (let same : k ≡ n - 1 - k = omega (arith, all, high, inside) in same)
-            | inr beyond ↦ turned.last d k beyond within
-          ]
-        ] in
-        at ∙ sym (get_or-reverse old k d within))
+      let within : k < n = omega (arith, below, turned.long) in
+      let at : get_or now k d ≡ get_or old (n - 1 - k) d =
+      elim (cases_lt k count) [
+        | inl low ↦ turned.first d k low within
+        | inr high ↦ elim (cases_lt (k + count) n) [
+          | inl inside ↦ turned.between d k high inside ∙ ap (λ m. get_or old m d) (let same : k ≡ n - 1 - k = omega (arith, all, high, inside) in same)
+          | inr beyond ↦ turned.last d k beyond within
+        ]
+      ] in
+      at ∙ sym (get_or-reverse old k d within))

@@ -35,12 +35,7 @@ impl PerRecord for Sec2Gmt {
     ghost sound = { λ verb. Unit {0} };
 
     fn made(&mut self, alloc: Global, fields: Record) -> Result<Option<Record>, NoMemory> {
-        Ok(Some(change_named(
-            &*self,
-            alloc,
-            &self.names,
-            fields,
-        )?))
+        Ok(Some(change_named(&*self, alloc, &self.names, fields)?))
     }
 }
 

@@ -26,10 +26,10 @@ returns-then-is-clause-changed g c =
     let distinct : are_distinct (keys_of fields) ≡ true = ap (λ pairs. are_distinct (keys_of pairs)) c.loop-place.invariant.fields ∙ c.len-place-end.ensures.distinct in
     on_ok_weaker c.change_value.result
     (λ put.
-      put none
-      ∙ changed-at (g.C.Change.image c.loop-place.change) key fields c.loop-place.place (c.name_at.result.now, c.name_at.ensures.0) none c.name_at.ensures.1 (sym c.if-is.ensures) distinct
-      ∙ ap (λ change. changed (has_name key) (g.C.Change.image change) fields) c.loop-place.invariant.change
-      ∙ ap (changed (has_name key) (g.C.Change.image c.args.change.now)) c.loop-place.invariant.fields)
+    put none
+    ∙ changed-at (g.C.Change.image c.loop-place.change) key fields c.loop-place.place (c.name_at.result.now, c.name_at.ensures.0) none c.name_at.ensures.1 (sym c.if-is.ensures) distinct
+    ∙ ap (λ change. changed (has_name key) (g.C.Change.image change) fields) c.loop-place.invariant.change
+    ∙ ap (changed (has_name key) (g.C.Change.image c.args.change.now)) c.loop-place.invariant.fields)
     c.change_value.ensures.changed
 
 pub returns-then-is-clause-image : goal.returns-then-is-clause-image
