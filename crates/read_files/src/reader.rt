@@ -23,9 +23,9 @@ const MANY: usize = 1 << 60;
 /// All inputs together have fewer bytes than this.
 const TOO_LONG: u64 = 1 << 60;
 
-/// One read takes at most so many bytes: fifteen pages, which is less than the 65,536 bytes that a run may take beyond what
-/// it needs.
-const ONE_READ: u64 = 61_440;
+/// One read takes at most so many bytes, of which the records are in the processor's nearer caches when they are written. It is less
+/// than the 65,536 bytes that a run may take beyond what it needs.
+const ONE_READ: u64 = 16_384;
 
 /// The result of a turn of a reader.
 #[derive(Debug, PartialEq, Eq, Drop)]

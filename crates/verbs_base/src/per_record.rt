@@ -1,5 +1,6 @@
 //! Verbs that take each record by itself.
 ghost use Rattle.std.specs.Prelude.{◌≡◌, ◌<◌, List, length, IfOk, OnOk};
+ghost use Rattle.std.specs.List.{swap};
 ghost use Rattle.std.specs.Option.{option_to_list};
 ghost use Rattle.verbs_base.specs.Records.{Fields};
 ghost use Rattle.verbs_base.specs.Replacing.{IsReplaced, given_of_all};
@@ -47,7 +48,7 @@ impl<V: PerRecord> Each<V> {
         let mut kept = 0;
         for place in 0..events.len() {
             if self.replace(events, place)? {
-                events.swap(kept, place);
+                swap_apart(events, kept, place);
                 kept += 1;
             }
         }
@@ -76,6 +77,18 @@ impl<V: PerRecord> Each<V> {
         // The record that waited in the place has no fields and holds no memory.
         forget(events.replace_fields(place, made));
         Ok(true)
+    }
+}
+
+/// Swaps the events at two places. Where no record was removed they are one place, and nothing is moved.
+#[inline(always)]
+fn swap_apart(events: &mut Events, one: usize, other: usize)
+    requires one { one < length events.old }
+    requires other { other < length events.old }
+    ensures { events.new ≡ swap events.old one other }
+{
+    if one != other {
+        events.swap(one, other);
     }
 }
 

@@ -17,7 +17,7 @@ use Rattle.mlr_spec.specs.declared.arith.Order.{Order}
 use Rattle.mlr_sort.specs.InOrder.{in_order}
 use Rattle.mlr_sort.proofs.InOrder.{in_order-moves, is-in_order}
 use Rattle.verbs_base.specs.Records.{Fields, Row}
-use Rattle.verbs_sort.specs.Kept.{compare_values, first_of, rest_of, values_in}
+use Rattle.verbs_sort.specs.Kept.{HasValues, compare_values, first_of, rest_of, values_in}
 use Rattle.verbs_sort.specs.Law.{IsSortedBy}
 use Rattle.verbs_sort.specs.Sort.{compare_by, has_keys, sorted_rows}
 
@@ -99,7 +99,15 @@ tied Equal rest equal = refl
 tied Greater rest equal = absurd (true≢false equal)
 
 -- values compare as lists do that begin and go on as theirs
-pub as-lists : (keys : Keys) (xs ys us vs : List Tree) → first_of xs ≡ first_of us → rest_of xs ≡ rest_of us → first_of ys ≡ first_of vs → rest_of ys ≡ rest_of vs
+as-lists : (keys : Keys) (xs ys us vs : List Tree) → first_of xs ≡ first_of us → rest_of xs ≡ rest_of us → first_of ys ≡ first_of vs → rest_of ys ≡ rest_of vs
     → compare_values keys xs ys ≡ compare_values keys us vs
 as-lists [] xs ys us vs a b c d = refl
 as-lists (key ∷ keys) xs ys us vs a b c d = λ i. ordering_then (order_of key.0 (a i) (c i)) (compare_values keys (b i) (d i))
+
+-- the same of values that are those of these fields
+pub as-values : (keys : Keys) (fields other : Fields) (xs ys : List Tree) → HasValues keys fields xs → HasValues keys other ys
+    → compare_values keys xs ys ≡ compare_by keys fields other
+as-values [] fields other xs ys first second = refl
+as-values (key ∷ keys) fields other xs ys first second =
+    (λ i. ordering_then (order_of key.0 (first.first i) (second.first i)) (as-lists keys (rest_of xs) (rest_of ys) (values_in keys fields) (values_in keys other) first.second first.more second.second second.more i))
+    ∙ ap (ordering_then _) (values-compare keys fields other)

@@ -6,9 +6,9 @@ use Rattle.mlr_value.proofs.Crosses.{crosses_value}
 use Rattle.mlr_event.proofs.field_names.Names.TheSendSync as names
 use Rattle.mlr_list.proofs.List.TheSendSync as list
 use Rattle.mlr_record.proofs.Crosses.{crosses_record}
+use Rattle.verbs_sort.specs.contracts.sort.Boxed
 use Rattle.verbs_sort.specs.contracts.sort.Entry
 use Rattle.verbs_sort.specs.contracts.sort.Held
-use Rattle.verbs_sort.specs.contracts.sort.KeyValues
 use Rattle.verbs_sort.specs.contracts.sort.Sort
 use Rattle.verbs_sort.specs.contracts.sort.SortFlag
 use Rattle.verbs_sort.specs.contracts.sort.SortKey
@@ -28,13 +28,13 @@ SortKey-send = search (bytes.the_send, crosses, sendable) depth 60 fits 20000
 pub Held-send : IsSend Held.the_row
 Held-send = search (crosses_record, crosses, sendable) depth 60 fits 20000
 
-pub KeyValues-send : IsSend KeyValues.the_field.row
-KeyValues-send = search (crosses_value, crosses, sendable) depth 60 fits 20000
+pub Boxed-send : IsSend Boxed.the_row
+Boxed-send = search (Held-send, crosses_value, crosses, sendable) depth 60 fits 20000
 
 pub Entry-send : IsSend Entry.the_row
-Entry-send = search (Held-send, KeyValues-send, crosses, sendable) depth 60 fits 20000
+Entry-send = search (Boxed-send, crosses_value, crosses, sendable) depth 60 fits 20000
 
 pub SortRows-send : IsSend SortRows.the_field.row
 SortRows-send = search (SortKey-send, Held-send, Entry-send, crosses, sendable) depth 60 fits 20000
 
-pub ruleset crosses_sort = (SortFlag-send, Sort-send, SortKey-send, Held-send, KeyValues-send, Entry-send, SortRows-send)
+pub ruleset crosses_sort = (SortFlag-send, Sort-send, SortKey-send, Held-send, Boxed-send, Entry-send, SortRows-send)

@@ -7,7 +7,7 @@ ghost use Rattle.mlr_value.specs.Value.{tree_of};
 ghost use Rattle.mlr_event.specs.declared.event.Ctx.{Ctx as SpecCtx};
 ghost use Rattle.mlr_sort.specs.InOrder.{in_order};
 ghost use Rattle.verbs_base.specs.Records.{Row, events_of};
-ghost use Rattle.verbs_sort.specs.Kept.{HasValues, Keyed, SortHolds, compare_values, held_row, keys_in, row_of, trees_in, trees_of, values_in};
+ghost use Rattle.verbs_sort.specs.Kept.{HasValues, Keyed, SortHolds, compare_values, held_row, keys_in, row_of, trees_in, trees_of, values_in, values_of};
 ghost use Rattle.verbs_sort.specs.Sort.{compare_by, has_keys, keys_of_flags, sorted_rows};
 
 use crate::in_order::compare_in;
@@ -74,19 +74,28 @@ struct Held {
     ctx: Ctx,
 }
 
-/// Copies of the values of a record's key fields. The first lies in the entry itself, so that a sort by one key looks nowhere
-/// else.
+/// Copies of the values of a record's key fields, in the order of the keys.
 #[derive(Drop)]
 struct KeyValues {
     first: Value,
+    second: Value,
     more: Vec<Value>,
 }
 
-/// A record that has all key fields. It stays in its box while the entries are sorted.
+/// What an entry has in its box: the values of its third key field and of those that follow, and its record.
+#[derive(Drop)]
+struct Boxed {
+    more: Vec<Value>,
+    row: Held,
+}
+
+/// A record that has all key fields. The values of the first two lie in the entry itself, so that a sort by two keys looks
+/// nowhere else. The record stays in its box while the entries are sorted.
 #[derive(Drop)]
 struct Entry {
-    values: KeyValues,
-    row: Box<Held>,
+    first: Value,
+    second: Value,
+    rest: Box<Boxed>,
 }
 
 /// What `sort` keeps: the records that have all key fields, and the others.
@@ -125,8 +134,8 @@ impl AtEnd for SortRows {
     fn add(&mut self, alloc: Global, fields: Record, ctx: Ctx) -> Result<(), NoMemory> {
         match key_values(alloc, &self.keys, &fields)? {
             Some(values) => {
-                let row = Box::new(alloc, Held { fields, ctx })?;
-                self.entries.push(Entry { values, row })?;
+                let entry = entry_of(alloc, values, Held { fields, ctx })?;
+                self.entries.push(entry)?;
             }
             None => self.others.push(Held { fields, ctx })?,
         }
@@ -165,7 +174,8 @@ fn push_keys(flag: SortFlag, keys: &mut Vec<SortKey>) -> Result<(), NoMemory>
     Ok(())
 }
 
-/// Copies of the values of all key fields, if the record has them all.
+/// Copies of the values of all key fields, if the record has them all. Where there are fewer than two keys, the values of those
+/// that aren't there are absent.
 fn key_values(
     alloc: Global,
     keys: &[SortKey],
@@ -174,24 +184,53 @@ fn key_values(
     ensures { IfOk result (λ found. MatchOption found
         (has_keys (keys_in keys.now) fields.now ≡ false)
         (λ values. (has_keys (keys_in keys.now) fields.now ≡ true)
-        × HasValues (keys_in keys.now) fields.now values)) }
+        × HasValues (keys_in keys.now) fields.now (values_of values))) }
 {
-    let Some((key, more)) = keys.split_first() else {
+    let Some((key, keys)) = keys.split_first() else {
         return Ok(Some(KeyValues {
             first: Value::Absent,
+            second: Value::Absent,
             more: Vec::new(alloc),
         }));
     };
     let Some(first) = fields.get(key.name.as_slice()) else {
         return Ok(None);
     };
-    let Some(more) = values_of(alloc, more, fields)? else {
+    let Some((key, keys)) = keys.split_first() else {
+        return Ok(Some(KeyValues {
+            first: first.copy(alloc)?,
+            second: Value::Absent,
+            more: Vec::new(alloc),
+        }));
+    };
+    let Some(second) = fields.get(key.name.as_slice()) else {
+        return Ok(None);
+    };
+    let Some(more) = values_of(alloc, keys, fields)? else {
         return Ok(None);
     };
     Ok(Some(KeyValues {
         first: first.copy(alloc)?,
+        second: second.copy(alloc)?,
         more,
     }))
+}
+
+/// The entry of a record, with the values of its key fields. It allocates a box.
+fn entry_of(alloc: Global, values: KeyValues, row: Held) -> Result<Entry, NoMemory>
+    ensures row { IfOk result (λ entry. row_of entry ≡ held_row row) }
+    ensures values { IfOk result (λ entry. trees_of entry ≡ values_of values) }
+{
+    let KeyValues {
+        first,
+        second,
+        more,
+    } = values;
+    Ok(Entry {
+        first,
+        second,
+        rest: Box::new(alloc, Boxed { more, row })?,
+    })
 }
 
 /// Copies of the values of these fields, if the record has them all.
@@ -226,24 +265,32 @@ fn sort_entries(keys: &[SortKey], entries: &mut Vec<Entry>) -> Result<(), NoMemo
         entries,
         |entry: &Entry, other: &Entry| -> Ordering
             ensures { result ≡ compare_values (keys_in keys.entry.now)
-                (trees_of entry.now.values) (trees_of other.now.values) }
-        { compare_entries(keys, &entry.values, &other.values) },
+                (trees_of entry.now) (trees_of other.now) }
+        { compare_entries(keys, entry, other) },
     )
 }
 
 /// How the values of two records compare: by the first two that an order tells apart.
-fn compare_entries(keys: &[SortKey], values: &KeyValues, others: &KeyValues) -> Ordering
-    ensures { result ≡ compare_values (keys_in keys.now) (trees_of values.now)
-        (trees_of others.now) }
+#[inline(always)]
+fn compare_entries(keys: &[SortKey], entry: &Entry, other: &Entry) -> Ordering
+    ensures { result ≡ compare_values (keys_in keys.now) (trees_of entry.now)
+        (trees_of other.now) }
 {
-    let Some((key, more)) = keys.split_first() else {
+    let Some((key, keys)) = keys.split_first() else {
         return Ordering::Equal;
     };
-    let order = compare_in(key.order, &values.first, &others.first);
+    let order = compare_in(key.order, &entry.first, &other.first);
     if order != Ordering::Equal {
         return order;
     }
-    compare_values(more, &values.more, &others.more)
+    let Some((key, keys)) = keys.split_first() else {
+        return Ordering::Equal;
+    };
+    let order = compare_in(key.order, &entry.second, &other.second);
+    if order != Ordering::Equal {
+        return order;
+    }
+    compare_values(keys, &entry.rest.more, &other.rest.more)
 }
 
 /// How two lists of values compare: by the first two that an order tells apart.
@@ -282,7 +329,8 @@ fn push_entries(entries: Vec<Entry>, out: &mut Events) -> Result<(), NoMemory>
     ensures { OnOk result (out.new ≡ out.old ++ events_of (map row_of entries.items)) }
 {
     for entry in entries {
-        let Held { fields, ctx } = Box::into_inner(entry.row);
+        let Boxed { more: _, row } = Box::into_inner(entry.rest);
+        let Held { fields, ctx } = row;
         out.push(Event::Rec(fields, ctx))?;
     }
     Ok(())

@@ -27,13 +27,13 @@ loop-place-preserved g c =
         | else-branch w ↦ omega (arith, so_far.within, w.kept-is)
       ];
       count = elim c.if-branch.branch [
-        | then-branch w ↦ ap length w.events-is ∙ ap length w.swap.ensures ∙ length-swap after kept place ∙ same
+        | then-branch w ↦ ap length w.events-is ∙ ap length w.swap_apart.ensures ∙ length-swap after kept place ∙ same
         | else-branch w ↦ ap length w.events-is ∙ same
       ];
       events = elim c.if-branch.branch [
         | then-branch w ↦
             ap₂ (λ k xs. replaced gives k (place + 1) xs) w.kept-is w.events-is
-            ∙ more-replaced gives before after kept place within so_far.within (subst (λ k. IsReplaced gives k before after place) w.if-branch.true one) w.swap.new.self w.swap.ensures
+            ∙ more-replaced gives before after kept place within so_far.within (subst (λ k. IsReplaced gives k before after place) w.if-branch.true one) w.swap_apart.new.events w.swap_apart.ensures
             ∙ so_far.events
         | else-branch w ↦
             ap₂ (λ k xs. replaced gives k (place + 1) xs) w.kept-is w.events-is
