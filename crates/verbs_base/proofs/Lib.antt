@@ -4,6 +4,7 @@ pub mod Filters
 pub mod Picking
 pub mod Places
 mod Moving
+mod MovingLast
 mod Swapping
 mod Replacing
 mod NamedChanges

@@ -29,7 +29,7 @@ rotated fields prefix i d below turned =
     ∙ ap₂ (λ x y. x ++ y) (drop_at (take i fields) last i long) (take_at (take i fields) last i long) in
     ap (λ x. x ++ drop (i + 1) fields) is ∙ ap (λ m. get_or fields i d ∷ (take i fields ++ drop m fields)) (add-one i)
 
-some-at : (fields : List Field) (i : ℕ) → i < length fields → (d : Field) × (d ≡ get_or fields i d)
+pub some-at : (fields : List Field) (i : ℕ) → i < length fields → (d : Field) × (d ≡ get_or fields i d)
 some-at [] i below = absurd (omega arith)
 some-at (f ∷ fields) i below = let d = get_or (f ∷ fields) i f in (d, get_or_default (f ∷ fields) i f d below)
 
@@ -62,7 +62,7 @@ placed-rotated keeps_order key fields prefix i distinct place turned =
     }
 
 -- a part up to the end that was written
-put-end : (a : ℕ) (xs ys : List Field) → put_mid a (length xs - a) xs ys ≡ take a xs ++ ys
+pub put-end : (a : ℕ) (xs ys : List Field) → put_mid a (length xs - a) xs ys ≡ take a xs ++ ys
 put-end a xs ys =
     ap (λ past. take a xs ++ (ys ++ past)) (drop_all (length xs - a) (drop a xs) (let l = length-drop a xs in omega arith)) ∙ ap (λ x. take a xs ++ x) (append-nil ys)
 
@@ -79,7 +79,7 @@ IsPlacing keeps_order names left all taken rest = record {
 pub part-is : (fields : List Field) (count : ℕ) → pairs_of (take (length fields - count) (drop count fields)) ≡ drop count (pairs_of fields)
 part-is fields count = ap pairs_of (take_rest fields count) ∙ sym (drop-map pair_of count fields)
 
-one-more : (o : Option (List ℕ × Tree)) (xs ys : List (List ℕ × Tree)) → (xs ++ option_to_list o) ++ ys ≡ xs ++ cons_option o ys
+pub one-more : (o : Option (List ℕ × Tree)) (xs ys : List (List ℕ × Tree)) → (xs ++ option_to_list o) ++ ys ≡ xs ++ cons_option o ys
 one-more None xs ys = ap (λ x. x ++ ys) (append-nil xs)
 one-more (Some x) xs ys = append_assoc xs (x ∷ []) ys
 

@@ -1,10 +1,10 @@
 //! Removes fields by name from a list, or moves them in it.
-ghost use Rattle.std.specs.Prelude.{◌≡◌, ◌++◌, true, length, take, drop, vec_len, ◌+◌, ◌-◌, ◌<◌};
+ghost use Rattle.std.specs.Prelude.{◌≡◌, ◌++◌, true, length, take, drop, vec_len, ◌+◌, ◌-◌, ◌<◌, ◌≤◌};
 ghost use Rattle.std.specs.Option.{is_some, option_map};
 ghost use Rattle.mlr_spec.specs.Pairs.{remove_at, keys_of, are_distinct};
 ghost use Rattle.mlr_record.specs.Fields.{IsPlaceOf, pair_of, pairs_of};
 ghost use Rattle.verbs_base.specs.Choosing.{named, picked, dropped};
-ghost use Rattle.verbs_base.specs.Placing.{IsPlaced};
+ghost use Rattle.verbs_base.specs.Placing.{IsPlaced, IsPlacedLast};
 
 use mlr_record::Field;
 use mlr_value::Bytes;
@@ -89,6 +89,35 @@ fn place_first(fields: &mut [Field], name: &Bytes, keeps_order: bool) -> bool
     } else {
         fields.swap(0, place);
     }
+    true
+}
+
+/// Moves the named fields to the end, in the order of the names. A name that repeats counts once. It doesn't allocate.
+pub fn move_named_last(names: &[Bytes], fields: &mut [Field])
+    requires { are_distinct (keys_of (pairs_of fields.old)) ≡ true }
+    ensures { pairs_of fields.new ≡ dropped names.now (pairs_of fields.old)
+        ++ picked names.now (pairs_of fields.old) }
+{
+    let mut rest = fields.len();
+    for name in names {
+        if place_last(fields, rest, name) {
+            rest -= 1;
+        }
+    }
+}
+
+/// Places the field of this name, if it is among the first `rest`, at the end, and returns whether it is among them.
+#[inline(always)]
+fn place_last(fields: &mut [Field], rest: usize, name: &Bytes) -> bool
+    requires within { rest ≤ length fields.old }
+    requires distinct { are_distinct (keys_of (take rest (pairs_of fields.old))) ≡ true }
+    ensures placed { IsPlacedLast rest name.now (pairs_of fields.old) result (pairs_of fields.new) }
+    ensures len { length fields.new ≡ length fields.old }
+{
+    let Some(place) = place_of(&fields[..rest], name) else {
+        return false;
+    };
+    fields[place..].rotate_left(1);
     true
 }
 

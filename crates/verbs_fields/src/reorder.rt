@@ -1,12 +1,12 @@
 //! `reorder`: the named fields at the start or at the end of a record.
-ghost use Rattle.std.specs.Prelude.{◌≡◌, ◌≤◌, ◌++◌, take, drop, IfOk, vec_len};
+ghost use Rattle.std.specs.Prelude.{◌≡◌, ◌++◌, IfOk};
 ghost use Rattle.verbs_base.specs.Choosing.{dropped, picked};
 
 use mlr_event::Names;
-use mlr_record::{Field, Record};
+use mlr_record::Record;
 use mlr_spec::NoMemory;
 use std::alloc::Global;
-use verbs_base::{PerRecord, move_named};
+use verbs_base::{PerRecord, move_named, move_named_last};
 
 /// The options of `reorder`.
 #[derive(Drop)]
@@ -62,17 +62,6 @@ fn named_last(names: &Names, from: Record) -> Record
 {
     let mut fields = from.into_fields();
     let alloc = *fields.allocator();
-    let count = move_named(names.as_slice(), &mut fields);
-    rotate_by_ones(&mut fields, count);
+    move_named_last(names.as_slice(), &mut fields);
     Record::of_fields(alloc, fields)
-}
-
-/// Rotates the fields to the left, one place at a time: a field or two that wait elsewhere together take far longer.
-fn rotate_by_ones(fields: &mut Vec<Field>, count: usize)
-    requires { count ≤ vec_len fields.old }
-    ensures { fields.new.items ≡ drop count fields.old.items ++ take count fields.old.items }
-{
-    for _ in 0..count {
-        fields.rotate_left(1);
-    }
 }

@@ -17,11 +17,11 @@ use Rattle.verbs_sort.proofs.Comparing.{as-values}
 
 -- entries of records compare as the records
 pub entries-compare : (keys : List (Order × List ℕ)) (x y : Entry) → Keyed keys x → Keyed keys y
-    → compare_values keys (trees_of x) (trees_of y) ≡ compare_by keys (row_of x).0 (row_of y).0
-entries-compare keys x y = as-values keys (row_of x).0 (row_of y).0 (trees_of x) (trees_of y)
+    → compare_values keys (trees_of x.values) (trees_of y.values) ≡ compare_by keys (row_of x).0 (row_of y).0
+entries-compare keys x y = as-values keys (row_of x).0 (row_of y).0 (trees_of x.values) (trees_of y.values)
 
 pub sorted-entries : (keys : List (Order × List ℕ)) (entries : List Entry) → AllByRecursion (Keyed keys) entries
-    → map row_of (in_order (λ x y. compare_values keys (trees_of x) (trees_of y)) entries)
+    → map row_of (in_order (λ x y. compare_values keys (trees_of x.values) (trees_of y.values)) entries)
     ≡ in_order (λ row other. compare_by keys row.0 other.0) (map row_of entries)
 sorted-entries keys = in_order-map row_of _ _ (Keyed keys) (entries-compare keys)
 
@@ -79,10 +79,10 @@ given-sorted keys entries sorted others rows out middle last holds ordered first
 
 -- the same where the entry is of this record, and was pushed
 pub keeps-entry : (keys : List (Order × List ℕ)) (entries pushed : List Entry) (others : List Held) (rows : List Row) (entry : Entry) (row : Row)
-    → Holds keys entries others rows → row_of entry ≡ row → has_keys keys row.0 ≡ true → HasValues keys row.0 (trees_of entry)
+    → Holds keys entries others rows → row_of entry ≡ row → has_keys keys row.0 ≡ true → HasValues keys row.0 (trees_of entry.values)
     → pushed ≡ entries ++ entry ∷ [] → Holds keys pushed others (rows ++ row ∷ [])
 keeps-entry keys entries pushed others rows entry row holds at is values end =
-    let kept = holding-entry keys entries others rows holds entry (ap (λ (r : Row). has_keys keys r.0) at ∙ is) (subst (λ (r : Row). HasValues keys r.0 (trees_of entry)) (sym at) values) in
+    let kept = holding-entry keys entries others rows holds entry (ap (λ (r : Row). has_keys keys r.0) at ∙ is) (subst (λ (r : Row). HasValues keys r.0 (trees_of entry.values)) (sym at) values) in
     subst (λ r. Holds keys pushed others (rows ++ r ∷ [])) at (subst (λ es. Holds keys es others (rows ++ row_of entry ∷ [])) (sym end) kept)
 
 -- the same of what was taken out of the state

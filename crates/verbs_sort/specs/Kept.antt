@@ -49,17 +49,13 @@ abbrev pub held_row : Held → Row
 held_row held = (held.fields, held.ctx)
 
 abbrev pub row_of : Entry → Row
-row_of entry = held_row entry.rest.value.row
+row_of entry = held_row entry.row
 
 -- the values that an entry has copies of
-abbrev pub trees_of : Entry → List Tree
-trees_of entry = tree_of entry.first ∷ tree_of entry.second ∷ trees_in entry.rest.value.more.items
+abbrev pub trees_of : KeyValues → List Tree
+trees_of values = tree_of values.first ∷ tree_of values.second ∷ trees_in values.more.items
 
--- the same of values that aren't in an entry yet
-abbrev pub values_of : KeyValues → List Tree
-values_of values = tree_of values.first ∷ tree_of values.second ∷ trees_in values.more.items
-
--- a list begins with the values of these fields of a record, and has at least two, of which those of no field are absent
+-- a list has the values of these fields of a record, and is at least two long: without a field, an absent value is there
 pub record HasValues (keys : List (Order × List ℕ)) (fields : Fields) (values : List Tree) : Type 0 where
   pub first : first_of values ≡ first_of (values_in keys fields)
   pub second : first_of (rest_of values) ≡ first_of (rest_of (values_in keys fields))
@@ -67,7 +63,7 @@ pub record HasValues (keys : List (Order × List ℕ)) (fields : Fields) (values
 
 -- an entry has the values of the key fields of its record
 abbrev pub Keyed : List (Order × List ℕ) → Entry → Type 0
-Keyed keys entry = HasValues keys (row_of entry).0 (trees_of entry)
+Keyed keys entry = HasValues keys entry.row.fields (trees_of entry.values)
 
 -- the records with all key fields are in the entries, and the others apart
 pub record Holds (keys : List (Order × List ℕ)) (entries : List Entry) (others : List Held) (rows : List Row) : Type 0 where

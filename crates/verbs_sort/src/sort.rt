@@ -7,7 +7,7 @@ ghost use Rattle.mlr_value.specs.Value.{tree_of};
 ghost use Rattle.mlr_event.specs.declared.event.Ctx.{Ctx as SpecCtx};
 ghost use Rattle.mlr_sort.specs.InOrder.{in_order};
 ghost use Rattle.verbs_base.specs.Records.{Row, events_of};
-ghost use Rattle.verbs_sort.specs.Kept.{HasValues, Keyed, SortHolds, compare_values, held_row, keys_in, row_of, trees_in, trees_of, values_in, values_of};
+ghost use Rattle.verbs_sort.specs.Kept.{HasValues, Keyed, SortHolds, compare_values, held_row, keys_in, row_of, trees_in, trees_of, values_in};
 ghost use Rattle.verbs_sort.specs.Sort.{compare_by, has_keys, keys_of_flags, sorted_rows};
 
 use crate::in_order::compare_in;
@@ -74,7 +74,8 @@ struct Held {
     ctx: Ctx,
 }
 
-/// Copies of the values of a record's key fields, in the order of the keys.
+/// Copies of the values of a record's key fields, in the order of the keys. The first two lie in the entry itself, so that a sort
+/// by two keys looks nowhere else.
 #[derive(Drop)]
 struct KeyValues {
     first: Value,
@@ -82,20 +83,11 @@ struct KeyValues {
     more: Vec<Value>,
 }
 
-/// What an entry has in its box: the values of its third key field and of those that follow, and its record.
-#[derive(Drop)]
-struct Boxed {
-    more: Vec<Value>,
-    row: Held,
-}
-
-/// A record that has all key fields. The values of the first two lie in the entry itself, so that a sort by two keys looks
-/// nowhere else. The record stays in its box while the entries are sorted.
+/// A record that has all key fields, with their values.
 #[derive(Drop)]
 struct Entry {
-    first: Value,
-    second: Value,
-    rest: Box<Boxed>,
+    values: KeyValues,
+    row: Held,
 }
 
 /// What `sort` keeps: the records that have all key fields, and the others.
@@ -108,7 +100,7 @@ pub struct SortRows {
 }
 
 impl SortRows {
-    /// No records yet. It allocates for the list of the keys, later for each record a box and its key values, and to sort.
+    /// No records yet. It allocates for the list of the keys, later for the records and their key values, and to sort.
     pub fn new(alloc: Global, options: Sort) -> Result<Self, NoMemory>
         ensures gives { IfOk result (λ made. ⟦<SortRows as AtEnd>⟧.gives made
             ≡ (λ rows ctx. sorted_rows (keys_of_flags options.flags) rows)) }
@@ -134,8 +126,8 @@ impl AtEnd for SortRows {
     fn add(&mut self, alloc: Global, fields: Record, ctx: Ctx) -> Result<(), NoMemory> {
         match key_values(alloc, &self.keys, &fields)? {
             Some(values) => {
-                let entry = entry_of(alloc, values, Held { fields, ctx })?;
-                self.entries.push(entry)?;
+                let row = Held { fields, ctx };
+                self.entries.push(Entry { values, row })?;
             }
             None => self.others.push(Held { fields, ctx })?,
         }
@@ -184,7 +176,7 @@ fn key_values(
     ensures { IfOk result (λ found. MatchOption found
         (has_keys (keys_in keys.now) fields.now ≡ false)
         (λ values. (has_keys (keys_in keys.now) fields.now ≡ true)
-        × HasValues (keys_in keys.now) fields.now (values_of values))) }
+        × HasValues (keys_in keys.now) fields.now (trees_of values))) }
 {
     let Some((key, keys)) = keys.split_first() else {
         return Ok(Some(KeyValues {
@@ -214,23 +206,6 @@ fn key_values(
         second: second.copy(alloc)?,
         more,
     }))
-}
-
-/// The entry of a record, with the values of its key fields. It allocates a box.
-fn entry_of(alloc: Global, values: KeyValues, row: Held) -> Result<Entry, NoMemory>
-    ensures row { IfOk result (λ entry. row_of entry ≡ held_row row) }
-    ensures values { IfOk result (λ entry. trees_of entry ≡ values_of values) }
-{
-    let KeyValues {
-        first,
-        second,
-        more,
-    } = values;
-    Ok(Entry {
-        first,
-        second,
-        rest: Box::new(alloc, Boxed { more, row })?,
-    })
 }
 
 /// Copies of the values of these fields, if the record has them all.
@@ -265,32 +240,32 @@ fn sort_entries(keys: &[SortKey], entries: &mut Vec<Entry>) -> Result<(), NoMemo
         entries,
         |entry: &Entry, other: &Entry| -> Ordering
             ensures { result ≡ compare_values (keys_in keys.entry.now)
-                (trees_of entry.now) (trees_of other.now) }
-        { compare_entries(keys, entry, other) },
+                (trees_of entry.now.values) (trees_of other.now.values) }
+        { compare_entries(keys, &entry.values, &other.values) },
     )
 }
 
 /// How the values of two records compare: by the first two that an order tells apart.
 #[inline(always)]
-fn compare_entries(keys: &[SortKey], entry: &Entry, other: &Entry) -> Ordering
-    ensures { result ≡ compare_values (keys_in keys.now) (trees_of entry.now)
-        (trees_of other.now) }
+fn compare_entries(keys: &[SortKey], values: &KeyValues, others: &KeyValues) -> Ordering
+    ensures { result ≡ compare_values (keys_in keys.now) (trees_of values.now)
+        (trees_of others.now) }
 {
     let Some((key, keys)) = keys.split_first() else {
         return Ordering::Equal;
     };
-    let order = compare_in(key.order, &entry.first, &other.first);
+    let order = compare_in(key.order, &values.first, &others.first);
     if order != Ordering::Equal {
         return order;
     }
     let Some((key, keys)) = keys.split_first() else {
         return Ordering::Equal;
     };
-    let order = compare_in(key.order, &entry.second, &other.second);
+    let order = compare_in(key.order, &values.second, &others.second);
     if order != Ordering::Equal {
         return order;
     }
-    compare_values(keys, &entry.rest.more, &other.rest.more)
+    compare_values(keys, &values.more, &others.more)
 }
 
 /// How two lists of values compare: by the first two that an order tells apart.
@@ -329,8 +304,7 @@ fn push_entries(entries: Vec<Entry>, out: &mut Events) -> Result<(), NoMemory>
     ensures { OnOk result (out.new ≡ out.old ++ events_of (map row_of entries.items)) }
 {
     for entry in entries {
-        let Boxed { more: _, row } = Box::into_inner(entry.rest);
-        let Held { fields, ctx } = row;
+        let Held { fields, ctx } = entry.row;
         out.push(Event::Rec(fields, ctx))?;
     }
     Ok(())
