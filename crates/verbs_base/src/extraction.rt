@@ -19,9 +19,9 @@ pub fn take_field(fields: &mut Vec<Field>, name: &Bytes) -> Option<Field>
     Some(fields.remove(place))
 }
 
-/// The place of the field with this name.
+/// The place of the field with this name, if there is one. It takes no memory.
 #[inline(always)]
-fn place_of(fields: &[Field], name: &Bytes) -> Option<usize>
+pub fn place_of(fields: &[Field], name: &Bytes) -> Option<usize>
     ensures { IsPlaceOf name.now fields.now result }
 {
     for (place, field) in fields.iter().enumerate() {

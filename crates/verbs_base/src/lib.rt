@@ -14,7 +14,7 @@ mod string;
 
 pub use change::{Change, change_fields, change_named, change_record};
 pub use choosing::{drop_named, is_empty, keep_named, pick_named};
-pub use extraction::{move_named, move_named_last, take_field};
+pub use extraction::{move_named, move_named_last, place_of, take_field};
 pub use field_choice::{is_among, is_named, is_taken};
 pub use over_events::OverEvents;
 pub use per_record::{Each, PerRecord};

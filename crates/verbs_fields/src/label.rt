@@ -1,7 +1,7 @@
 //! `label`: new names for the first fields of a record.
-ghost use Rattle.std.specs.Prelude.{◌≡◌, ◌<◌, ◌+◌, ◌++◌, length, take, drop, vec_len, IfOk, OnOk};
+ghost use Rattle.std.specs.Prelude.{◌≡◌, true, ◌<◌, ◌+◌, ◌++◌, length, take, drop, vec_len, IfOk, OnOk};
 ghost use Rattle.std.specs.List.{remove, zip};
-ghost use Rattle.mlr_spec.specs.Pairs.{are_distinct};
+ghost use Rattle.mlr_spec.specs.Pairs.{are_distinct, keys_of};
 ghost use Rattle.mlr_record.specs.Fields.{pairs_of};
 ghost use Rattle.verbs_base.specs.Choosing.{dropped};
 ghost use Rattle.verbs_fields.specs.Values.{values_of};
@@ -11,7 +11,7 @@ use mlr_record::{Field, Record};
 use mlr_spec::NoMemory;
 use mlr_value::Bytes;
 use std::alloc::Global;
-use verbs_base::{PerRecord, is_among};
+use verbs_base::{PerRecord, is_among, place_of};
 
 /// The names that `label` gives to the first fields, in order. They are distinct. Names after the last field have
 /// no effect, and a field after the last name is dropped if it has one of the names.
@@ -64,14 +64,14 @@ pub fn are_distinct(names: &Names) -> bool
 
 /// Drops the fields after the last name that have one of the names.
 fn drop_others(names: &[Bytes], fields: &mut Vec<Field>)
+    requires { are_distinct (keys_of (pairs_of fields.old.items)) ≡ true }
     ensures { pairs_of fields.new.items ≡ take (length names.now) (pairs_of fields.old.items)
         ++ dropped names.now (drop (length names.now) (pairs_of fields.old.items)) }
 {
-    let mut place = fields.len();
-    while place > names.len() {
-        place -= 1;
-        if is_among(names, &fields[place].name) {
-            drop_at(fields, place);
+    let first = names.len().min(fields.len());
+    for name in names {
+        if let Some(place) = place_of(&fields[first..], name) {
+            drop_at(fields, first + place);
         }
     }
 }
