@@ -1,5 +1,5 @@
 -- The events of a list are appended one after another.
-use Rattle.std.proofs.Common.{◌≡◌, ℕ, Bool, true, false, not, ◌&&◌, List, [], ◌∷◌, ◌++◌, Option, Some, None, refl, ap, sym, ◌∙◌, subst, append_assoc}
+use Rattle.std.proofs.Common.{◌≡◌, ℕ, true, not, List, [], ◌∷◌, ◌++◌, Option, Some, None, refl, ap, sym, ◌∙◌, subst, append_assoc}
 use Rattle.std.proofs.lemmas.Bool.{and_parts, not-true, true≢false}
 use Rattle.std.proofs.lemmas.List.{append-nil}
 use Rattle.mlr_event.specs.Adding.{Adds}
@@ -7,12 +7,11 @@ use Rattle.mlr_event.specs.declared.event.Event.{Event}
 use Rattle.mlr_event.specs.declared.event.Event.TheVariants as event
 use Rattle.mlr_event.specs.declared.fault.Fault.{Fault}
 use Rattle.mlr_event.specs.Verb.{is_last, is_list}
-use Rattle.mlr_event.proofs.Ordered.{open-before}
 use Rattle.writers.specs.declared.options.WriteOpts.{WriteOpts}
 use Rattle.outlet.specs.declared.outlet.Outlet.{Outlet}
 use Rattle.outlet.specs.Out.{out_of}
 use Rattle.outlet.specs.Represents.{LetSays}
-use Rattle.outlet.specs.PendingText.{IsAt, Appends, let_of, over_by}
+use Rattle.outlet.specs.PendingText.{IsAt, Appends, AppendsSome, let_of, over_by}
 use Rattle.outlet.proofs.Putting.{adds-nothing}
 
 adds-both : (first now later before middle after : List ℕ) → Adds first now before middle → Adds now later middle after → Adds first later before after
@@ -76,7 +75,7 @@ module _ (first : Outlet) (events : List Event) (now : Outlet) (left : List Even
     }
 
   -- this one was the last
-  pub last-passed : (fault : Option Fault) (later : Outlet) → over_by e ≡ Some fault → ((opts : WriteOpts) (before : List Event) → IsAt opts before now → Appends (Some fault) opts before (e ∷ []) now later)
+  last-passed : (fault : Option Fault) (later : Outlet) → over_by e ≡ Some fault → ((opts : WriteOpts) (before : List Event) → IsAt opts before now → Appends (Some fault) opts before (e ∷ []) now later)
       → (opts : WriteOpts) (before : List Event) → IsAt opts before first → is_list (before ++ events) ≡ true → Appends (Some fault) opts before events first later
   last-passed fault later is appends opts before at list = subst (λ t. Appends (Some fault) opts before t first later) (sym whole) (record {
     says = subst (λ t. says-of t) (one-more before) (then-appends (Some fault) later appends opts before at list).says;
@@ -94,18 +93,30 @@ module _ (first : Outlet) (events : List Event) (now : Outlet) (left : List Even
       whole = rest-is ∙ ap (λ t. so_far.passed ++ e ∷ t) nothing-left
 
   -- so nothing remains
-  pub last-left : (fault : Option Fault) → over_by e ≡ Some fault → (before : List Event) → is_list (before ++ events) ≡ true → left ≡ []
+  last-left : (fault : Option Fault) → over_by e ≡ Some fault → (before : List Event) → is_list (before ++ events) ≡ true → left ≡ []
   last-left fault is before list = last-alone (before ++ so_far.passed) e left (list-is before list) (over-last e fault is)
+
+  pub last-taken : (fault : Option Fault) (later : Outlet) → over_by e ≡ Some fault → ((opts : WriteOpts) (before : List Event) → IsAt opts before now → Appends (Some fault) opts before (e ∷ []) now later)
+      → (before : List Event) → is_list (before ++ events) ≡ true → AppendsSome (Some fault) first events later left
+  last-taken fault later is appends before list =
+      let nothing = last-left fault is before list in
+      record {
+        taken = events;
+        all = sym (append-nil events) ∙ ap (λ t. events ++ t) (sym nothing);
+        last = λ fault is. nothing;
+        appends = last-passed fault later is appends;
+      }
 
   pub is-open : (opts : WriteOpts) (before : List Event) → IsAt opts before first → is_list (before ++ events) ≡ true → (opts : WriteOpts) × (before : List Event) × IsAt opts before now
   is-open opts before at list = (opts, before ++ so_far.passed, so_far.at opts before at list)
 
--- all were passed
-pub all-passed : (first : Outlet) (events : List Event) (now : Outlet) → Passed first events now [] → (opts : WriteOpts) (before : List Event) → IsAt opts before first → is_list (before ++ events) ≡ true → Appends None opts before events first now
-all-passed first events now done opts before at list =
-    let now_at = done.at opts before at list in
-    subst (λ t. Appends None opts before t first now) (sym (done.all ∙ append-nil done.passed)) (record {
-      says = now_at.clear;
-      adds = done.adds opts before at list;
-      more = λ none. now_at;
-    })
+-- those that were passed were taken
+pub passed-taken : (first : Outlet) (events : List Event) (now : Outlet) (left : List Event) → Passed first events now left → AppendsSome None first events now left
+passed-taken first events now left done = record {
+  taken = done.passed;
+  all = done.all;
+  last = λ fault is. absurd (let e : None ≡ Some fault = is in cc);
+  appends = λ opts before at list.
+      let now_at = done.at opts before at list in
+      record { says = now_at.clear; adds = done.adds opts before at list; more = λ none. now_at };
+}

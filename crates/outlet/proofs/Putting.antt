@@ -14,7 +14,7 @@ use Rattle.mlr_event.specs.declared.event.Piece.{Piece}
 use Rattle.mlr_event.specs.declared.fault.Fault.{Fault}
 use Rattle.mlr_event.specs.declared.names.Target.{Target}
 use Rattle.mlr_event.specs.declared.names.Target.TheVariants.{Stdout, Stderr, File}
-use Rattle.mlr_event.specs.Verb.{is_end, is_last, is_open}
+use Rattle.mlr_event.specs.Verb.{is_last, is_open}
 use Rattle.writers.specs.declared.options.WriteOpts.{WriteOpts}
 use Rattle.writers.specs.Represents as writer
 use Rattle.writers.specs.Written.{written}

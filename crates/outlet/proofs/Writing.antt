@@ -3,7 +3,6 @@ use Rattle.std.proofs.Common.{◌≡◌, ℕ, List, [], ◌++◌, Option, Some, 
 use Rattle.mlr_event.specs.declared.event.Event.{Event}
 use Rattle.mlr_event.specs.declared.fault.Fault.{Fault}
 use Rattle.mlr_event.specs.declared.names.Target.TheVariants.{Stdout}
-use Rattle.mlr_event.specs.Verb.{is_open}
 use Rattle.mlr_world.specs.Outputs.{Held, ChangesAt, WriteLeaves}
 use Rattle.mlr_world.specs.declared.outputs.Done.TheVariants as done
 use Rattle.mlr_world.proofs.Changes.{ChangesAt-map, ChangesAt-none, with_bytes-none}

@@ -1,11 +1,11 @@
 -- What an outlet appends to its text before it writes it.
-use Rattle.std.specs.Prelude.{◌≡◌, true, List, ◌++◌, Option, Some, None}
+use Rattle.std.specs.Prelude.{◌≡◌, true, List, [], ◌++◌, Option, Some, None}
 use Rattle.mlr_event.specs.Adding.{Adds}
 use Rattle.mlr_event.specs.declared.event.Event.{Event}
 use Rattle.mlr_event.specs.declared.event.Event.TheVariants as event
 use Rattle.mlr_event.specs.declared.fault.Fault.{Fault}
 use Rattle.mlr_event.specs.declared.names.Target.TheVariants.{Stdout}
-use Rattle.mlr_event.specs.Verb.{is_open}
+use Rattle.mlr_event.specs.Verb.{is_list, is_open}
 use Rattle.writers.specs.declared.options.WriteOpts.{WriteOpts}
 use Rattle.writers.specs.Represents as writer
 use Rattle.outlet.specs.declared.outlet.Let.{Let}
@@ -46,3 +46,11 @@ pub record Appends (over : Option (Option Fault)) (opts : WriteOpts) (before eve
   pub says : LetSays (let_of over) (before ++ events)
   pub adds : Adds outlet.text outlet'.text (out_of opts before) (out_of opts (before ++ events))
   pub more : over ≡ None → IsAt opts (before ++ events) outlet'
+
+-- The first events of a list were taken, and what they become was appended. One that is the last leaves none.
+pub record AppendsSome (over : Option (Option Fault)) (outlet : Outlet) (events : List Event) (outlet' : Outlet) (rest : List Event) : Type 0 where
+  pub taken : List Event
+  pub all : events ≡ taken ++ rest
+  pub last : (fault : Option Fault) → over ≡ Some fault → rest ≡ []
+  pub appends : (opts : WriteOpts) (before : List Event) → IsAt opts before outlet → is_list (before ++ events) ≡ true
+      → Appends over opts before taken outlet outlet'

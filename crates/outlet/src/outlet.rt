@@ -1,5 +1,5 @@
 //! The end of a chain: what standard output gets of events.
-ghost use Rattle.std.specs.Prelude.{◌≡◌, ◌++◌, ◌∷◌, [], List, true, None, IfOk, OnOk};
+ghost use Rattle.std.specs.Prelude.{◌≡◌, ◌<◌, ◌++◌, ◌∷◌, [], List, length, true, None, IfOk, OnOk};
 ghost use Rattle.mlr_event.specs.declared.event.Event.{Event as SpecEvent};
 ghost use Rattle.mlr_event.specs.declared.event.Event.TheVariants.{Out};
 ghost use Rattle.mlr_event.specs.declared.names.Target.TheVariants.{Stdout};
@@ -10,7 +10,7 @@ ghost use Rattle.writers.specs.declared.options.WriteOpts.{WriteOpts as Options}
 ghost use Rattle.writers.specs.Represents.{IsOpen};
 ghost use Rattle.outlet.specs.Out.{event_bodies};
 ghost use Rattle.outlet.specs.Represents.{CountedIf, LetLeaves, Represents, Took, has_failed, lacks_memory};
-ghost use Rattle.outlet.specs.PendingText.{OutcomeFor, IsAt, Appends, let_of, over_by};
+ghost use Rattle.outlet.specs.PendingText.{OutcomeFor, IsAt, Appends, AppendsSome, let_of, over_by};
 
 use mlr_event::{Body, Event, Events, Fault, Piece, Target};
 use mlr_spec::NoMemory;
@@ -18,6 +18,9 @@ use mlr_value::Bytes;
 use mlr_world::{Done, Outputs};
 use std::alloc::Global;
 use writers::{WriteOpts, Writer};
+
+/// How much text is gathered before it is written, in bytes: what a verb gives at the end may be all that was read.
+const GATHERED: usize = 65_536;
 
 /// The result of a call of an outlet.
 #[derive(Debug, PartialEq, Eq, Drop)]
@@ -79,8 +82,8 @@ impl Outlet {
         }
     }
 
-    /// Takes all events of a list, writes what they become with one call, and leaves the list empty where it
-    /// returns Went. It allocates for the text.
+    /// Takes all events of a list, writes what they become, and leaves the list empty where it returns Went. It allocates
+    /// for the text, of which it holds 64 KiB and what one event more becomes.
     pub fn take_all<O: Outputs>(&mut self, events: &mut Events, outputs: &mut O) -> Let
         requires { (opts : Options) × (before : List SpecEvent) × Represents opts before self.old
             × (is_list (before ++ events.old) ≡ true) }
@@ -96,10 +99,17 @@ impl Outlet {
         ensures shortages { CountedIf (lacks_memory result) (O.shortages outputs.old)
             (O.shortages outputs.new) }
     {
-        match self.put_all(events) {
-            Ok(over) => self.write(over, outputs),
-            Err(NoMemory) => Let::NoMemory,
+        while events.len() > 0 {
+            let over = match self.put_some(events) {
+                Ok(over) => over,
+                Err(NoMemory) => return Let::NoMemory,
+            };
+            match self.write(over, outputs) {
+                Let::Went => {}
+                ended => return ended,
+            }
         }
+        Let::Went
     }
 
     /// Closes what is open, where a run ends without an end or a fault. It adds no text.
@@ -158,18 +168,22 @@ impl Outlet {
         Ok(None)
     }
 
-    /// Appends what the events of a list become to the text, and takes them out, up to one that is the last.
-    fn put_all(&mut self, events: &mut Events) -> Result<Option<Option<Fault>>, NoMemory>
-        requires { (opts : Options) × (before : List SpecEvent) × IsAt opts before self.old
+    /// Appends what the first events of a list become to the text, and takes them out, up to one that is the last or fills
+    /// the text. Returns whether one is the last, with its fault.
+    fn put_some(&mut self, events: &mut Events) -> Result<Option<Option<Fault>>, NoMemory>
+        requires open { (opts : Options) × (before : List SpecEvent) × IsAt opts before self.old
             × (is_list (before ++ events.old) ≡ true) }
-        ensures appends { IfOk result (λ over. (opts : Options) (before : List SpecEvent)
-            → IsAt opts before self.old → is_list (before ++ events.old) ≡ true
-            → Appends over opts before events.old self.old self.new) }
-        ensures emptied { OnOk result (events.new ≡ []) }
+        requires some { 0 < length events.old }
+        ensures appends { IfOk result (λ over. AppendsSome over self.old events.old self.new
+            events.new) }
+        ensures fewer { OnOk result (length events.new < length events.old) }
     {
         while let Some(event) = events.pop_first() {
             if let Some(fault) = self.put(event)? {
                 return Ok(Some(fault));
+            }
+            if self.text.len() >= GATHERED {
+                break;
             }
         }
         Ok(None)

@@ -1,17 +1,15 @@
 -- A run, from turn to turn.
-use Rattle.std.proofs.Common.{◌≡◌, ℕ, ◌<◌, ◌^◌, Bool, true, false, List, [], ◌++◌, Option, Some, None, refl, ap, sym, ◌∙◌, subst, inl, arith}
+use Rattle.std.proofs.Common.{◌≡◌, ℕ, ◌<◌, ◌^◌, List, [], ◌++◌, Option, Some, None, refl, ap, sym, ◌∙◌, subst, inl, arith}
 use Rattle.mlr_event.specs.declared.event.Event.{Event}
 use Rattle.mlr_event.specs.declared.names.InputName.{InputName}
-use Rattle.mlr_event.specs.declared.names.Target.{Target}
 use Rattle.mlr_event.specs.declared.names.Target.TheVariants.{Stdout}
 use Rattle.mlr_event.specs.Verb.{Verb}
-use Rattle.mlr_world.specs.Counts.{Counted, Rose}
+use Rattle.mlr_world.specs.Counts.{Rose}
 use Rattle.mlr_world.specs.Inputs.{Contents}
 use Rattle.mlr_world.specs.Outputs.{Held, ChangesAt, with_bytes}
 use Rattle.mlr_world.specs.Taken.{Take, OpenEntry}
 use Rattle.mlr_world.proofs.Changes.{ChangesAt-none, ChangesAt-then, with_bytes-none}
 use Rattle.outlet.specs.Out.{out_of}
-use Rattle.outlet.specs.Represents.{CountedIf}
 use Rattle.verb_chain.specs.Chain.{chain}
 use Rattle.std.specs.Prelude.{IfSome}
 use Rattle.std.specs.Option.{option_map}
@@ -29,7 +27,8 @@ use Rattle.serial_core.specs.Whole.{whole_of}
 use Rattle.serial_core.specs.Represents.{Begins, InputCause, Leaves, MayGoOn, Ran, SerialRepresents}
 use Rattle.serial_core.proofs.Stopping.{EndsEarly, MeansWhole, following-prefixes, total-on}
 use Rattle.serial_core.proofs.Wholes.{goes-whole}
-use Rattle.serial_core.proofs.Turns.{leaves-following, reader-order, whole-following}
+use Rattle.outlet.proofs.Following.{whole-following}
+use Rattle.serial_core.proofs.Turns.{leaves-following, reader-order}
 
 -- how far a run has come
 pub record Going {S : Type 0} (verb : S → Verb) (represents : S → List Event → Type 0) (command : Command) (before : Option (List Take)) (contents : Option Contents) (taken : Option (List Take)) (name : Option OpenEntry) (first held : Option Held) (serial : Serial S) : Type 0 where
@@ -109,14 +108,6 @@ cause-from (answer.Read name) f0 f1 f2 same cause = (λ other. omega (arith, sam
 cause-from (answer.Written target) f0 f1 f2 same cause = λ name. cause name ∙ same name
 cause-from answer.TooLong f0 f1 f2 same cause = λ name. cause name ∙ same name
 cause-from answer.NoMemory f0 f1 f2 same cause = λ name. cause name ∙ same name
-
-pub counted-from : (failed : Bool) (f0 f1 f2 : Target → ℕ) → ((target : Target) → f1 target ≡ f0 target) → Counted failed f1 f2 Stdout → Counted failed f0 f2 Stdout
-counted-from true f0 f1 f2 same counted = (λ other. omega (arith, same other, counted.0 other), omega (arith, same Stdout, counted.1))
-counted-from false f0 f1 f2 same counted = λ other. counted other ∙ same other
-
-pub counted_if-from : (lacks : Bool) (s0 s1 s2 : ℕ) → s1 ≡ s0 → CountedIf lacks s1 s2 → CountedIf lacks s0 s2
-counted_if-from true s0 s1 s2 same counted = omega (arith, same, counted)
-counted_if-from false s0 s1 s2 same counted = counted ∙ same
 
 -- where no input fails, and all hold few bytes, the outcome is of no input
 pub completes : (command : Command) (contents : Option Contents) (taken taken' : Option (List Take)) (name' : Option OpenEntry) (held held' : Option Held) → HoldsFew (meaning_of command) contents taken

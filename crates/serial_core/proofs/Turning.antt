@@ -17,6 +17,7 @@ use Rattle.mlr_world.proofs.Changes.{ChangesAt-map}
 use Rattle.writers.specs.declared.options.WriteOpts.{WriteOpts}
 use Rattle.outlet.specs.Out.{fault_in, out_of}
 use Rattle.outlet.specs.Represents.{AppendsPrefix, CountedIf}
+use Rattle.outlet.proofs.Following.{prefix-longer}
 use Rattle.verb_chain.specs.Chain.{chain}
 use Rattle.read_files.specs.declared.reader.ReadTurn.{ReadTurn}
 use Rattle.read_files.specs.declared.reader.ReadTurn.TheVariants as turn
@@ -111,10 +112,6 @@ fault-lasts (event.Fault found ∷ events) fault is = refl
 
 pub fault-closes : (events : List Event) (fault : Fault) → fault_in events ≡ Some fault → is_open events ≡ false
 fault-closes events fault is = ap not (fault-lasts events fault is)
-
--- a prefix of a text is one of a longer text
-pub prefix-longer : (text more : List ℕ) (before now : Option (List ℕ)) → AppendsPrefix text before now → AppendsPrefix (text ++ more) before now
-prefix-longer text more before now p = (p.0, (p.1.0 ++ more, ap (λ t. t ++ more) p.1.1 ∙ append_assoc p.0 p.1.0 more), p.2)
 
 -- What a command makes of what was taken, where these events were read of it, and more may be fixed.
 module _ (write : WriteOpts) (verbs : List Verb) (read put rest given : List Event)

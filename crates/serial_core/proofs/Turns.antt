@@ -11,9 +11,10 @@ use Rattle.mlr_event.proofs.Ordered.{open-list}
 use Rattle.mlr_world.specs.Inputs.{Contents}
 use Rattle.mlr_world.specs.Outputs.{Held, with_bytes}
 use Rattle.mlr_world.specs.Taken.{Take, OpenEntry}
-use Rattle.mlr_world.proofs.Changes.{ChangesAt-then, with_bytes-twice}
+use Rattle.mlr_world.proofs.Changes.{ChangesAt-then}
 use Rattle.outlet.specs.Out.{out_of}
-use Rattle.outlet.specs.Represents.{AppendsPrefix, Represents}
+use Rattle.outlet.specs.Represents.{Represents}
+use Rattle.outlet.proofs.Following.{prefix-following, whole-following}
 use Rattle.verb_chain.specs.Chain.{chain}
 use Rattle.verb_chain.specs.Represents as chains
 use Rattle.verb_chain.proofs.Chains.{chain-list}
@@ -58,13 +59,6 @@ reader-rest (numbers seq) given read (reader.Numbers all) represents = (rest-fro
 pub origin-list : (lists : (opts : ReadOpts) (names : List InputName) (given : List Take) → is_list (source opts names given) ≡ true) → (origin : Origin) (given : List Take) → is_list (given_by origin given) ≡ true
 origin-list lists (files opts names) given = lists opts names given
 origin-list lists (numbers seq) given = all-list seq
-
-pub whole-following : (text more : List ℕ) (a b c : Option (List ℕ)) → b ≡ with_bytes text a → c ≡ with_bytes more b → c ≡ with_bytes (text ++ more) a
-whole-following text more a b c first second = second ∙ ap (with_bytes more) first ∙ with_bytes-twice text more a
-
-prefix-following : (text more : List ℕ) (a b c : Option (List ℕ)) → b ≡ with_bytes text a → AppendsPrefix more b c → AppendsPrefix (text ++ more) a c
-prefix-following text more a b c first p =
-    (text ++ p.0, (p.1.0, ap (λ t. text ++ t) p.1.1 ∙ sym (append_assoc text p.0 p.1.0)), p.2 ∙ ap (with_bytes p.0) first ∙ with_bytes-twice text p.0 a)
 
 pub leaves-following : (ended : Ended) (command : Command) (takes : List Take) → Says ended (meaning_of command) takes → (text more : List ℕ) (a b c : Option (List ℕ)) → b ≡ with_bytes text a → Leaves ended more b c → Leaves ended (text ++ more) a c
 leaves-following answer.Done command takes says text more a b c first second = whole-following text more a b c first second

@@ -4,7 +4,8 @@ use Rattle.serial_core.specs.declared.serial.SerialTurn.TheVariants.{Went, Over}
 use Rattle.serial_core.specs.Answer.{has_failed, lacks_memory}
 use Rattle.serial_core.specs.Represents.{Ran}
 use Rattle.serial_core.proofs.Left.{less-left}
-use Rattle.serial_core.proofs.Running.{following-none, came-over, cause-from, completes, counted-from, counted_if-from, going-first, going-on}
+use Rattle.outlet.proofs.Following.{counted-from, counted_if-from}
+use Rattle.serial_core.proofs.Running.{following-none, came-over, cause-from, completes, going-first, going-on}
 use Rattle.serial_core.proofs.Stopping.{stopped-early}
 use Rattle.serial_core.proofs.Wholes.{means-whole}
 use Rattle.serial_core.proofs.Turns.{chained}
